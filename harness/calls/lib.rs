@@ -1,0 +1,15 @@
+//! The public calls of document 01 over the oracle. The published Rust refuses nothing, lets a run go on without end and
+//! knows no `full`: here its members stand behind 01's refusal table and endings, written from the paper in plain Rust,
+//! apart from the definitions that the port is proved against.
+//!
+//! A refusal is `Err(number)`; what is not refused is what the Rust gives.
+
+pub mod dense;
+pub mod dfn;
+pub mod electrode;
+pub mod electrolyte;
+pub mod particle;
+pub mod runs;
+pub mod solver;
+pub mod table;
+pub mod words;

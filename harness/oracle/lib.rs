@@ -1,0 +1,38 @@
+//! The oracle: the published Rust as make_oracle.py edits it, read from the folder that ORACLE_SOURCES names at compile time.
+//! Each file stands in a module of its own name; dfn.rs gets a child module that reaches its private members.
+#![allow(dead_code, clippy::all)]
+
+pub mod standins;
+
+pub mod electrode {
+    include!(concat!(env!("ORACLE_SOURCES"), "/electrode.rs"));
+}
+
+pub mod electrolyte {
+    include!(concat!(env!("ORACLE_SOURCES"), "/electrolyte.rs"));
+}
+
+pub mod solver {
+    include!(concat!(env!("ORACLE_SOURCES"), "/solver.rs"));
+}
+
+pub mod dfn {
+    include!(concat!(env!("ORACLE_SOURCES"), "/dfn.rs"));
+
+    /// The private members that the comparison needs.
+    pub mod access {
+        use super::*;
+
+        pub fn solver(params: DfnParams, config: DfnConfig, state: DfnState) -> DfnSolver {
+            DfnSolver { params, config, state }
+        }
+
+        pub fn state_of(solver: DfnSolver) -> DfnState {
+            solver.state
+        }
+
+        pub fn solve(a: &[f64], b: &[f64], n: usize) -> Option<Vec<f64>> {
+            solve_dense(a, b, n)
+        }
+    }
+}

@@ -1,0 +1,127 @@
+#!/usr/bin/env python3
+"""Makes the oracle's sources: the published Rust with document 01's stand-ins in place of exp, ln, powf, asinh and powi.
+
+    make_oracle.py --out FOLDER [--source FOLDER]
+
+Three textual edits, none of which moves a line:
+  1. the line that uses serde becomes one that uses the stand-ins' trait;
+  2. `Serialize, Deserialize` leave the derives;
+  3. `.exp(`, `.ln(`, `.powf(`, `.asinh(` and `.powi(` become `.oracle_exp(` and so on, methods of that trait on f64, so that
+     receiver, argument and precedence stay.
+The diff is printed. A source that is missing or changed, a count of edits other than the expected one, or a transcendental
+method that is left ends the script with one line and status 1, and nothing is written.
+"""
+import argparse
+import difflib
+import hashlib
+import os
+import re
+import shutil
+import sys
+import tempfile
+
+HERE = os.path.dirname(os.path.abspath(__file__))
+REPOSITORY = os.path.dirname(os.path.dirname(HERE))
+DEFAULT_SOURCE = os.path.join(os.path.dirname(REPOSITORY), "shared", "docs", "src")
+CHECKSUMS = os.path.join(HERE, "sources.sha256")
+LICENCE = "LICENSE.txt"
+
+SERDE = "use serde::{Deserialize, Serialize};"
+TRAIT = "use crate::standins::StandIn as _;"
+DERIVE = ", Serialize, Deserialize"
+REPLACED = re.compile(r"\.(exp|ln|powf|asinh|powi)\(")
+# what no line of code may call after the edits: sqrt alone is left, which IEEE 754 decides
+LEFT = re.compile(
+    r"\.(exp|exp2|exp_m1|ln|ln_1p|log|log2|log10|powf|powi|cbrt|hypot|sin|cos|tan|sin_cos|asin|acos|atan|atan2"
+    r"|sinh|cosh|tanh|asinh|acosh|atanh|mul_add)\(|\bf64::(exp|ln|powf|powi|mul_add)\b|serde"
+)
+EXPECTED = {"method calls": 28, "use lines": 4, "derives": 10}
+
+
+def refuse(why):
+    print(f"make_oracle: {why}", file=sys.stderr)
+    sys.exit(1)
+
+
+def read_sources(folder):
+    """Each file of the list of checksums, as bytes, by its path."""
+    if not os.path.isdir(folder):
+        refuse(f"no source folder {folder}")
+    sources = {}
+    with open(CHECKSUMS, encoding="ascii") as lines:
+        for line in lines:
+            expected, path = line.split()
+            try:
+                with open(os.path.join(folder, path), "rb") as file:
+                    content = file.read()
+            except OSError as error:
+                refuse(f"cannot read {path}: {error.strerror}")
+            if hashlib.sha256(content).hexdigest() != expected:
+                refuse(f"{path} is not the file that this oracle was made from (checksum)")
+            sources[path] = content
+    return sources
+
+
+def edited(text, counts):
+    lines = []
+    for line in text.split("\n"):
+        if line == SERDE:
+            line = TRAIT
+            counts["use lines"] += 1
+        elif line.startswith("#[derive(") and DERIVE in line:
+            line = line.replace(DERIVE, "")
+            counts["derives"] += 1
+        elif not line.lstrip().startswith("//"):
+            line, n = REPLACED.subn(r".oracle_\1(", line)
+            counts["method calls"] += n
+        lines.append(line)
+    return "\n".join(lines)
+
+
+def code_of(line):
+    return line.split("//", 1)[0]
+
+
+def main():
+    parser = argparse.ArgumentParser(description=__doc__.split("\n", 1)[0])
+    parser.add_argument("--source", default=DEFAULT_SOURCE, help="the folder with LICENSE.txt and src/battery/p2d")
+    parser.add_argument("--out", required=True, help="where the edited files go; replaced as a whole")
+    options = parser.parse_args()
+
+    sources = read_sources(options.source)
+    with open(os.path.join(REPOSITORY, "NOTICE"), "rb") as notice:
+        if notice.read() != sources.pop(LICENCE):
+            refuse("NOTICE is not the licence of the sources")
+
+    counts = dict.fromkeys(EXPECTED, 0)
+    results, diff = {}, []
+    for path, content in sources.items():
+        before = content.decode("utf-8")
+        after = edited(before, counts)
+        for number, line in enumerate(after.split("\n"), 1):
+            if LEFT.search(code_of(line)):
+                refuse(f"{path}:{number}: a method that the stand-ins do not cover is left: {line.strip()}")
+        name = os.path.basename(path)
+        results[name] = after
+        diff += difflib.unified_diff(before.split("\n"), after.split("\n"), path, f"oracle/{name}", lineterm="", n=0)
+    if counts != EXPECTED:
+        refuse(f"made {counts}, expected {EXPECTED}")
+
+    parent = os.path.dirname(os.path.abspath(options.out))
+    os.makedirs(parent, exist_ok=True)
+    fresh = tempfile.mkdtemp(dir=parent)
+    try:
+        for name, text in results.items():
+            with open(os.path.join(fresh, name), "w", encoding="utf-8") as file:
+                file.write(text)
+        shutil.rmtree(options.out, ignore_errors=True)
+        os.rename(fresh, options.out)
+    except OSError as error:
+        shutil.rmtree(fresh, ignore_errors=True)
+        refuse(f"cannot write {options.out}: {error.strerror}")
+    print("\n".join(diff))
+    print("oracle: " + ", ".join(f"{n} {what}" for what, n in counts.items()) + " edited")
+
+
+if __name__ == "__main__":
+    main()

@@ -1,0 +1,59 @@
+//! The lists, a file for each source file of the Rust.
+use crate::draw::Draw;
+use calls::words::Slot;
+
+mod dense;
+mod dfn;
+mod electrode;
+mod electrolyte;
+mod elementary;
+mod particle;
+mod solver;
+
+pub struct List {
+    pub name: &'static str,
+    pub cases: fn(&mut Draw) -> Vec<Vec<Slot>>,
+    pub answer: fn(&[Slot]) -> Vec<Slot>,
+}
+
+const fn list(name: &'static str, cases: fn(&mut Draw) -> Vec<Vec<Slot>>, answer: fn(&[Slot]) -> Vec<Slot>) -> List {
+    List { name, cases, answer }
+}
+
+/// A new list goes to the end: a list's place is its seed.
+pub const ALL: [List; 29] = [
+    list("ranges", elementary::range_cases, elementary::ranges),
+    list("elementary", elementary::function_cases, elementary::functions),
+    list("powf", elementary::powf_cases, elementary::power),
+    list("small", elementary::small_cases, elementary::small),
+    list("counts", elementary::count_cases, elementary::counts),
+    list("ready_sheets", electrode::ready_cases, electrode::ready),
+    list("d_s", electrode::d_s_cases, electrode::d_s),
+    list("specific_area", electrode::sheet_cases, electrode::specific_area),
+    list("ocp", electrode::theta_cases, electrode::ocp),
+    list("sphere_volume", electrode::radius_cases, electrode::sphere_volume),
+    list("particle_new", particle::new_cases, particle::new),
+    list("particle_step", particle::step_cases, particle::step),
+    list("particle_dt_stable", particle::dt_stable_cases, particle::dt_stable),
+    list("particle_numbers", particle::number_cases, particle::numbers),
+    list("ready_cells", solver::ready_cases, solver::ready),
+    list("cell_new", solver::new_cases, solver::new),
+    list("cell_step", solver::step_cases, solver::step),
+    list("cell_numbers", solver::number_cases, solver::numbers),
+    list("simulate_discharge", solver::run_cases, solver::run),
+    list("electrolyte_rates", electrolyte::rate_cases, electrolyte::rates),
+    list("electrolyte_new", electrolyte::new_cases, electrolyte::new),
+    list("electrolyte_numbers", electrolyte::number_cases, electrolyte::numbers),
+    list("step_concentration", electrolyte::step_cases, electrolyte::step),
+    list("electrolyte_dt_stable", electrolyte::dt_stable_cases, electrolyte::dt_stable),
+    list("ready_parameters", dfn::ready_cases, dfn::ready),
+    list("dfn_new", dfn::new_cases, dfn::new),
+    list("dfn_step", dfn::step_cases, dfn::step),
+    list("run_galvanostatic", dfn::run_cases, dfn::run),
+    list("solve_dense", dense::cases, dense::solve),
+];
+
+/// The answer of a call that gives a number.
+pub fn number(result: Result<f64, u64>) -> Vec<Slot> {
+    calls::words::answer(result.map(|x| vec![calls::words::float(x)]))
+}
