@@ -5,3 +5,6 @@ pub mod Range
 pub mod Opened
 pub mod RangeOps
 pub mod Examples
+pub mod Nearest
+pub mod Held
+pub mod Monotone

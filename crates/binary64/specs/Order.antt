@@ -2,11 +2,12 @@
 use mathlib.Core.Path.{_≡_, sym}
 use mathlib.Core.Logic.{_⊎_, inl, inr}
 use Prim.Native.Nat.{ℕ, _+_, _*_, _≤_, zero-le}
-use native.Mathlib.Nat.{le-of-eq, le-of-lt, eq-or-lt-of-le}
+use native.Mathlib.Nat.{le-of-eq, le-of-lt, lt-of-not-le, eq-or-lt-of-le}
 use native.Mathlib.Omega.{arith}
-use mathlib.Core.Bool.{Bool, true, false, not, _&&_, _||_}
+use mathlib.Core.Bool.{Bool, true, false, not, _&&_, _||_, true≢false}
 use lib.Dec.{T, ltb, eqb, eqb→eq, ltb→lt, lt→ltb, nltb→le}
-use lib.Ieee.{Float, nan, inf, fin, up, down, le, neg, below, level}
+use lib.Ieee.{Float, nan, inf, fin, up, down, le, lt, neg, below, level}
+use lib.Ieee.Exact.{HasValue}
 use lib.Ieee.Fits.{and-i, and-l, and-r, eq→eqb}
 use lib.Ieee.Positive.{num, den}
 use lib.Ieee.Scale.{finite}
@@ -53,6 +54,22 @@ below→test true a false b h = go (ltb 0 (a + b)) (nltb→le 0 (a + b))
     go true k = tt
     go false k = both-zero a b (k tt)
 
+-- ---- a float given as the fraction ±a / c
+pub value-finite : (x : Float) (s : Bool) (a c : ℕ) → HasValue x s a c → T (finite x)
+value-finite nan s a c h = absurd h
+value-finite (inf t) s a c h = absurd h
+value-finite (fin t m e) s a c h = tt
+
+pub value-sign : (x : Float) (s : Bool) (a c : ℕ) → HasValue x s a c → negative x ≡ s
+value-sign nan s a c h = absurd h
+value-sign (inf t) s a c h = absurd h
+value-sign (fin t m e) s a c h = h .0
+
+pub value-cross : (x : Float) (s : Bool) (a c : ℕ) → HasValue x s a c → num x * c ≡ a * den x
+value-cross nan s a c h = absurd h
+value-cross (inf t) s a c h = absurd h
+value-cross (fin t m e) s a c h = h .1
+
 -- ---- the order of finite floats
 pub le→below : (x y : Float) → T (finite x) → T (finite y) → T (le x y) → Below (negative x) (num x * den y) (negative y) (num y * den x)
 unfolding le
@@ -69,6 +86,35 @@ below→le (inf s) y p q h = absurd p
 below→le (fin s m e) nan p q h = absurd q
 below→le (fin s m e) (inf t) p q h = absurd q
 below→le (fin s m e) (fin t n d) p q h = below→test s (m * up e * down d) t (n * up d * down e) h
+
+-- ---- `lt` is the other way round not `le`
+test→not : (s : Bool) (a : ℕ) (t : Bool) (b : ℕ) → T (below s a t b) → Below t b s a → ⊥
+test→not false a false b h k = let l = ltb→lt a b h in omega arith
+test→not false a true b h k = absurd h
+test→not true a false b h k = let l = ltb→lt 0 (a + b) h in omega arith
+test→not true a true b h k = let l = ltb→lt b a h in omega arith
+
+not→test : (s : Bool) (a : ℕ) (t : Bool) (b : ℕ) → (Below t b s a → ⊥) → T (below s a t b)
+not→test false a false b h = lt→ltb a b (lt-of-not-le h)
+not→test false a true b h = absurd (h zero-le)
+not→test true a false b h = lt→ltb 0 (a + b) (lt-of-not-le (λ (k : a + b ≤ 0). h (omega arith)))
+not→test true a true b h = lt→ltb b a (lt-of-not-le h)
+
+pub lt→not : (x y : Float) → T (finite x) → T (finite y) → T (lt x y) → T (le y x) → ⊥
+unfolding lt le
+lt→not nan y p q h k = absurd p
+lt→not (inf s) y p q h k = absurd p
+lt→not (fin s m e) nan p q h k = absurd q
+lt→not (fin s m e) (inf t) p q h k = absurd q
+lt→not (fin s m e) (fin t n d) p q h k = test→not s (m * up e * down d) t (n * up d * down e) h (test→below t (n * up d * down e) s (m * up e * down d) k)
+
+pub not→lt : (x y : Float) → T (finite x) → T (finite y) → (T (le y x) → ⊥) → T (lt x y)
+unfolding lt le
+not→lt nan y p q h = absurd p
+not→lt (inf s) y p q h = absurd p
+not→lt (fin s m e) nan p q h = absurd q
+not→lt (fin s m e) (inf t) p q h = absurd q
+not→lt (fin s m e) (fin t n d) p q h = not→test s (m * up e * down d) t (n * up d * down e) (λ (k : Below t (n * up d * down e) s (m * up e * down d)). h (below→test t (n * up d * down e) s (m * up e * down d) k))
 
 -- what lies between two finite floats is finite
 pub between-finite : (lo x hi : Float) → T (finite lo) → T (finite hi) → T (le lo x) → T (le x hi) → T (finite x)
@@ -87,7 +133,7 @@ pub sign-finite : (x hi : Float) → negative x ≡ false → T (finite hi) → 
 unfolding le
 sign-finite (fin t n d) hi s q k = tt
 sign-finite nan hi s q k = absurd k
-sign-finite (inf true) hi s q k = absurd (mathlib.Core.Bool.true≢false s)
+sign-finite (inf true) hi s q k = absurd (true≢false s)
 sign-finite (inf false) nan s q k = absurd q
 sign-finite (inf false) (inf t) s q k = absurd q
 sign-finite (inf false) (fin t n d) s q k = absurd k

@@ -5,14 +5,14 @@ use Prim.Native.Nat.{ℕ, zero, suc, _+_, _*_, _/_, _^_, _≤_, _<_}
 use native.Mathlib.Nat.{le-of-eq}
 use mathlib.Core.Bool.{Bool, false, not, _&&_, cond}
 use lib.Dec.{T, ltb, leb, eqb, ltb→lt, leb→le, eqb→eq}
-use lib.Ieee.{Float, nan, inf, fin, binary64, round, le, neg}
+use lib.Ieee.{Float, binary64, round, le, neg}
 use lib.Ieee.Exact.{HasValue, round-exact}
 use lib.Ieee.Fits.{and-l, and-r}
 use lib.Ieee.Order.{round-mono}
 use lib.Ieee.Positive.{num, den, den-pos, through}
 use lib.Ieee.Scale.{finite}
 use Rattle.binary64.specs.Operators.{negative}
-use Rattle.binary64.specs.Order.{Below, le→below, sign-finite}
+use Rattle.binary64.specs.Order.{Below, le→below, sign-finite, value-finite, value-sign, value-cross}
 use Rattle.binary64.specs.Sign.{neg-num, neg-den, neg-finite, neg-sign, round-sign, round-num, round-den, round-finite}
 
 -- ---- A / C is a value of binary64: a test that antt computes at numerals
@@ -88,21 +88,6 @@ pub neg-least : {x : Float} {B E : ℕ} → Least x B E → Least (neg x) B E
 neg-least {x} h = record { over = h .over; least = rw (neg-num x, neg-den x) (h .least) }
 
 -- ---- from comparisons
-value-finite : (x : Float) (s : Bool) (a c : ℕ) → HasValue x s a c → T (finite x)
-value-finite nan s a c h = absurd h
-value-finite (inf t) s a c h = absurd h
-value-finite (fin t m e) s a c h = tt
-
-value-sign : (x : Float) (s : Bool) (a c : ℕ) → HasValue x s a c → negative x ≡ s
-value-sign nan s a c h = absurd h
-value-sign (inf t) s a c h = absurd h
-value-sign (fin t m e) s a c h = h .0
-
-value-cross : (x : Float) (s : Bool) (a c : ℕ) → HasValue x s a c → num x * c ≡ a * den x
-value-cross nan s a c h = absurd h
-value-cross (inf t) s a c h = absurd h
-value-cross (fin t m e) s a c h = h .1
-
 -- both of the sign +
 plain : (x y : Float) → negative x ≡ false → negative y ≡ false → T (finite x) → T (finite y) → T (le x y) → num x * den y ≤ num y * den x
 plain x y s t p q h = subst₂ (λ (a b : Bool). Below a (num x * den y) b (num y * den x)) s t (le→below x y p q h)
