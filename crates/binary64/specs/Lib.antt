@@ -1,0 +1,10 @@
+pub mod Operators
+pub mod Sign
+pub mod Order
+pub mod Range
+pub mod Opened
+pub mod RangeOps
+pub mod Examples
+pub mod Nearest
+pub mod Held
+pub mod Monotone

@@ -1,0 +1,1 @@
+// Laws of binary64 arithmetic, in specs/. No code.
