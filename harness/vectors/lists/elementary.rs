@@ -1,7 +1,7 @@
 //! The elementary functions, the tests of a range, and the count of sub-steps.
 use crate::draw::Draw;
 use calls::solver::least_count;
-use calls::table::{range, unused};
+use calls::table::{clock, interval, load, range, unused, TEMPERATURE};
 use calls::words::{bits, flag, float, word, Reader, Slot};
 use oracle::standins;
 
@@ -125,7 +125,8 @@ pub fn counts(arguments: &[Slot]) -> Vec<Slot> {
 
 pub fn range_cases(draw: &mut Draw) -> Vec<Vec<Slot>> {
     let mut all = Vec::new();
-    for (low, high) in [(1e-8, 1e-3), (0.0, 1.0), (-10.0, 10.0), (200.0, 400.0), (1e-20, 1e-8), (-1e13, 1e13), (f64::MIN, f64::MAX)] {
+    let ends = [(1e-8, 1e-3), (0.0, 1.0), (-10.0, 10.0), (200.0, 400.0), (0.0, 86_400.0), (1e-20, 1e-8), (-1e13, 1e13), (f64::MIN, f64::MAX)];
+    for (low, high) in ends {
         let (low, high): (f64, f64) = (low, high);
         for x in [
             low, high, low.next_down(), low.next_up(), high.next_down(), high.next_up(), 0.0, -0.0, f64::NAN, f64::INFINITY,
@@ -139,10 +140,19 @@ pub fn range_cases(draw: &mut Draw) -> Vec<Vec<Slot>> {
     all.into_iter().map(|case| case.map(|x| Slot::Word(bits(x))).to_vec()).collect()
 }
 
-/// Whether x lies in the range, is finite, and is +0.
+/// Whether x lies in the range, is finite, is +0; is a load of at most `high`, an interval, a temperature, a clock; whether
+/// its bits lie between the ends' bits; then the number x's bits where it does not lie in the range, else 0; and the first
+/// of the ends' bits that is not 0.
 pub fn ranges(arguments: &[Slot]) -> Vec<Slot> {
     let mut reader = Reader::new(arguments);
     let [x, low, high] = reader.floats();
     reader.end();
-    vec![flag(range(low, high).holds(x)), flag(x.is_finite()), flag(unused(x))]
+    let inside = range(low, high).holds(x);
+    let tests = [inside, x.is_finite(), unused(x), load(x, high), interval(x), TEMPERATURE.holds(x), clock(x)];
+    let [n, a, b] = [x, low, high].map(bits);
+    let mut slots: Vec<Slot> = tests.map(flag).to_vec();
+    slots.push(flag((a..=b).contains(&n)));
+    slots.push(word(if inside { 0 } else { n }));
+    slots.push(word([a, b].into_iter().find(|number| *number != 0).unwrap_or(0)));
+    slots
 }

@@ -1,0 +1,11 @@
+-- What document 01's table of refusals means.
+--
+-- Numbers: the ten numbers by name, the first of two that is met, and what a row that met nothing has passed.
+-- Ranges: the tests on numbers that the rows cite.
+--
+-- A call's refusal is written as the table has it, its rows in the order 1, 10, 2 to 9:
+--     firstMet (refusalUnless (countInRange n 3 64) grid)
+--     (firstMet (refusalUnless (sheetFits p) sheet) (refusalUnless (temperatureFits t) temperature))
+-- and a caller that finds it 0 takes it apart by `none-met` and `passed`.
+pub mod Numbers
+pub mod Ranges

@@ -1,0 +1,38 @@
+-- The tests that the rows of document 01's table cite, in the order of binary64, where no NaN compares. Definitions only.
+use Prim.Native.Nat.{ℕ}
+use mathlib.Core.Bool.{Bool, _&&_}
+use lib.Dec.{leb, eqb}
+use lib.Ieee.{Float, binary64, le, lt, neg, toBits}
+use lib.Ieee.Scale as Scale
+use Rattle.binary64.specs.Operators.{f64}
+
+-- low <= x <= high: a closed range, so -0 is in one that starts at 0
+abbrev pub inRange : Float → Float → Float → Bool
+inRange x low high = le low x && le x high
+
+abbrev pub countInRange : ℕ → ℕ → ℕ → Bool
+countInRange n low high = leb low n && leb n high
+
+-- no NaN and no infinity
+abbrev pub finite : Float → Bool
+finite x = Scale.finite x
+
+-- all of x's bits are 0
+unfoldable pub plusZero : Float → Bool
+plusZero x = eqb (toBits binary64 x) 0
+
+-- at most so much in size
+abbrev pub loadFits : Float → Float → Bool
+loadFits x most = inRange x (neg most) most
+
+-- above 0, at most 86,400 s
+abbrev pub intervalFits : Float → Bool
+intervalFits dt = lt (f64 0) dt && le dt (f64 0x40f5_1800_0000_0000)
+
+-- 200 to 400 K
+abbrev pub temperatureFits : Float → Bool
+temperatureFits t = inRange t (f64 0x4069_0000_0000_0000) (f64 0x4079_0000_0000_0000)
+
+-- finite and not below 0
+abbrev pub clockFits : Float → Bool
+clockFits t = finite t && le (f64 0) t
