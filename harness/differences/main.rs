@@ -1,0 +1,124 @@
+//! Prints, for each entry of docs/DIFFERENCES.md, what the oracle gives for the input that shows it, beside what the source
+//! of the model or the plain formula would give.
+use calls::dfn;
+use calls::electrode::Sheet;
+use calls::electrolyte::{Electrolyte, Params, Regions};
+use calls::particle::Particle;
+use calls::solver::{Cell, Config};
+
+const T: f64 = 298.15;
+
+fn spm(n_nodes: u64) -> Cell {
+    let config = Config { n_nodes, numbers: [2.5, 4.2, 96_485.0, 8.314, 2e-4] };
+    Cell::graphite_lfp(config).expect("the ready cell")
+}
+
+fn dfn_cell(counts: [u64; 3]) -> dfn::Cell {
+    let config = dfn::Config { counts, voltages: [2.5, 4.3] };
+    dfn::Cell::new(dfn::Params::nmc_graphite(), config).expect("the ready cell")
+}
+
+fn anode_curve() {
+    let x: f64 = 0.01;
+    let rust = Sheet::graphite_anode().ocp(x).unwrap();
+    let published = 0.7222 + 0.1387 * x + 0.029 * x.sqrt() - 0.0172 / x + 0.0019 / x.powf(1.5) + 0.2808 * (0.90 - 15.0 * x).exp()
+        - 0.7984 * (0.4465 * x - 0.4108).exp();
+    println!("anode curve: graphite at theta 0.01: {rust:.4} V, with exp(0.90 - 15 theta) {published:.4} V");
+}
+
+fn ohmic_sign() {
+    let cell = spm(11);
+    let (_, charge) = cell.step(-3.0, 1.0, T).unwrap();
+    let v_ohm = -3.0 / 0.0626 * 2e-4;
+    let (got, plain) = (charge.state.voltage, charge.state.voltage - 2.0 * v_ohm);
+    println!("ohmic sign: graphite_lfp, 11 nodes, -3 A, 1 s: {got:.6} V, with a drop that keeps its sign {plain:.6} V");
+}
+
+fn even_nodes() {
+    for n in [4, 5] {
+        let mut sheet = Sheet::graphite_anode();
+        sheet.numbers[3] = 0.8;
+        let p = Particle::new(sheet, n).unwrap();
+        println!("even count of nodes: theta_avg of a uniform 0.8 at n = {n}: {:.4}", p.theta_avg().unwrap());
+    }
+}
+
+fn stability() {
+    let cell = spm(11);
+    for dt in [1.0, 60.0] {
+        let (_, report) = cell.step(3.0, dt, T).unwrap();
+        let h = cell.cathode.sheet.numbers[0] / 10.0;
+        let t = dt / report.sub_steps as f64;
+        let d = cell.cathode.sheet.d_s(T).unwrap();
+        println!("stability: graphite_lfp, 11 nodes, {dt} s: {} sub-steps, 6 D t / h^2 at the cathode {:.3}", report.sub_steps, 6.0 * d * t / (h * h));
+    }
+}
+
+fn soc_window() {
+    let mut cell = spm(11);
+    cell.anode.c_s[..11].fill(0.9 * cell.anode.sheet.c_s_max());
+    println!("state of charge: an anode at 0.9 gives {:.4}, one at 0.8 {:.4}", cell.soc_estimate().unwrap(), spm(11).soc_estimate().unwrap());
+}
+
+fn dfn_signs() {
+    let cell = dfn_cell([5, 5, 6]);
+    let (next, report) = cell.step(20.0, 10.0).unwrap();
+    println!("DFN flux sign: nmc_graphite, 5/5/6, 20 A, 10 s: theta_neg from 0.8 to {:.6}, theta_pos from 0.5 to {:.6}", report.theta_neg, report.theta_pos);
+    let (rest, at_rest) = cell.step(0.0, 10.0).unwrap();
+    let mut slow = dfn_cell([2, 2, 6]);
+    slow.params.numbers[9] = 1e-11;
+    slow.params.numbers[15] = 1e-11;
+    let voltage = |current: f64| slow.step(current, 1e-6).unwrap().1.voltage;
+    println!("DFN voltage sign: 2/2/6, k_neg = k_pos = 1e-11, 1e-6 s: {:.6} V at rest, {:.6} V at 1 A of discharge", voltage(0.0), voltage(1.0));
+    println!("DFN frozen nodes: c_e after 10 s at 20 A: {:?}", next.c_e[..11].iter().map(|c| format!("{c:.2}")).collect::<Vec<_>>());
+    println!("DFN newton_iter: {} in both", report.newton_iter.max(at_rest.newton_iter));
+    let mut uneven = rest;
+    uneven.c_s_neg[5] = 20_000.0;
+    let (moved, _) = uneven.step(0.0, 10.0).unwrap();
+    println!("DFN surface: nodes 4 and 5 of the first anode particle, from {:.2} and 20000 at no current: {:.2} and {:.2}", uneven.c_s_neg[4], moved.c_s_neg[4], moved.c_s_neg[5]);
+    println!("DFN centre: nodes 0 and 1 of a particle (10, 20) at n_r = 2: {:?}", two_nodes());
+    let mut salt = dfn_cell([2, 2, 2]);
+    salt.c_e[..5].fill(50.0);
+    let (kept, _) = salt.step(0.0, 1.0).unwrap();
+    println!("DFN clamp: an electrolyte at 50 everywhere, no current: {:?}", &kept.c_e[..5]);
+}
+
+fn two_nodes() -> [f64; 2] {
+    let mut cell = dfn_cell([1, 1, 2]);
+    cell.c_s_neg[..2].copy_from_slice(&[10.0, 20.0]);
+    let (next, _) = cell.step(0.0, 1.0).unwrap();
+    [next.c_s_neg[0], next.c_s_neg[1]]
+}
+
+fn electrolyte() {
+    let regions = Regions { params: Params::lipf6_ec_dmc(), lengths: [1e-4, 2.5e-5, 1e-4], porosities: [0.9, 0.4, 0.9], counts: [10, 5, 10] };
+    let e = Electrolyte::new(regions).unwrap();
+    let d = |porosity: f64| regions.params.d_e_eff(porosity, T).unwrap();
+    let dx: f64 = 5e-6;
+    println!("electrolyte limit: porosities 0.9, 0.4, 0.9: {:.4} s by the least porosity, {:.4} s by the largest", e.dt_stable(T).unwrap(), 0.5 * dx * dx / d(0.9));
+    let mut step = e.clone();
+    step.c_e[..10].fill(1100.0);
+    let total = |e: &Electrolyte| e.c_e[..10].iter().sum::<f64>() * 0.9 * 1e-5 + e.c_e[10..15].iter().sum::<f64>() * 0.4 * 5e-6 + e.c_e[15..25].iter().sum::<f64>() * 0.9 * 1e-5;
+    let next = step.step_concentration(0.0, 0.0, 0.01, T).unwrap();
+    println!("electrolyte interfaces: salt per area with no source: {:.9} before, {:.9} after a step of 0.01 s", total(&step), total(&next));
+    let mut low = e;
+    low.c_e[0] = 1e-10;
+    let floored = low.step_concentration(-1e9, 0.0, 1.0, T).unwrap();
+    println!("electrolyte floor: a source of -1e9 for 1 s leaves {:e}", floored.c_e[0]);
+}
+
+fn stand_ins() {
+    let t: f64 = -7.25;
+    println!("stand-ins: exp({t}) is {:016X}", oracle::standins::exp(t).to_bits());
+}
+
+fn main() {
+    anode_curve();
+    ohmic_sign();
+    even_nodes();
+    stability();
+    soc_window();
+    dfn_signs();
+    electrolyte();
+    stand_ins();
+}
