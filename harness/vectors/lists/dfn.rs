@@ -121,7 +121,7 @@ fn breaking() -> Cell {
 
 pub fn step_cases(draw: &mut Draw) -> Vec<Vec<Slot>> {
     let mut all = Vec::new();
-    let cell = random_cell(draw, Params::nmc_graphite(), config([3, 2, 3]));
+    let cell = random_cell(draw, Params::nmc_graphite(), config([2, 1, 3]));
     let base = step_base(&cell, 20.0, 1.0);
     all.extend([singles(&base), pairs(&base)].concat());
     // the first step, then 8, alone and with a fault of a lower number
@@ -175,7 +175,7 @@ fn run_base(cell: &Cell, numbers: [f64; 3], length: u64) -> Vec<Argument> {
 }
 
 pub fn run_cases(draw: &mut Draw) -> Vec<Vec<Slot>> {
-    let nmc = Cell::new(Params::nmc_graphite(), config([2, 1, 2])).expect("parameters in range");
+    let nmc = Cell::new(Params::nmc_graphite(), config([1, 1, 2])).expect("parameters in range");
     let lfp = Cell::new(Params::lfp_graphite(), config([2, 3, 3])).expect("parameters in range");
     let base = run_base(&nmc, [10.0, 1.0, 3.0], 24);
     let mut all = [singles(&base), pairs(&base)].concat();

@@ -73,7 +73,7 @@ pub fn step_cases(draw: &mut Draw) -> Vec<Vec<Slot>> {
     all.push(stepping(&zeros, -1e-300, f64::from_bits(1), 298.15));
     all.push(stepping(&zeros, -0.0, 1.0, 298.15));
     for n in 3..=PLACES as u64 {
-        for _ in 0..3 {
+        for _ in 0..if n <= 12 { 90 } else { 3 } {
             let p = random_particle(draw, n);
             let temp_k = draw.within(TEMPERATURE);
             let (stable, most) = (p.dt_stable(temp_k).expect("a particle in range"), p.sheet.c_s_max());

@@ -5,7 +5,7 @@ use crate::cover::{arguments, one_fault, pairs, singles, Argument, Kind};
 use crate::draw::Draw;
 use calls::electrode::Sheet;
 use calls::runs::ROW;
-use calls::solver::{Cell, Config, RANGES};
+use calls::solver::{Cell, Config, DIFFUSIVITY, RANGES};
 use calls::table::{MOST_CURRENT, TEMPERATURE};
 use calls::words::{answer, float, word, Reader, Slot};
 
@@ -129,11 +129,15 @@ pub fn step_cases(draw: &mut Draw) -> Vec<Vec<Slot>> {
             all.push(stepping(&cell, draw.uniform(-20.0, 20.0), draw.pick(&[0.1, 1.0, 10.0]), draw.uniform(270.0, 330.0)));
         }
     }
-    for _ in 0..300 {
-        let n = draw.count(3, 9);
+    for _ in 0..1400 {
+        let n = draw.count(3, 8);
         let (sheets, config) = ((random_sheet(draw), random_sheet(draw)), random_config(draw, n));
         let cell = random_cell(draw, config, sheets);
         let temp_k = draw.within(TEMPERATURE);
+        let refused = [&cell.anode, &cell.cathode].iter().any(|p| !DIFFUSIVITY.holds(p.sheet.d_s(temp_k).expect("a sheet in range")));
+        if refused && draw.below(8) != 0 {
+            continue;
+        }
         let dt = (one_sub_step(&cell, temp_k) * draw.pick(&[0.5, 1.0, 2.5, 30.0])).clamp(f64::MIN_POSITIVE, 86_400.0);
         let current = cell.anode.sheet.numbers[6] * draw.pick(&[0.0, -0.0, 1.0, -1.0, 30.0, 1e3]) * draw.unit();
         all.push(stepping(&cell, current.clamp(-MOST_CURRENT, MOST_CURRENT), dt, temp_k));
