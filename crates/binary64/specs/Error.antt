@@ -20,6 +20,7 @@ use Rattle.fraction.specs.Field.{≈F-sym, ≈F-trans, +F-cong, negF-cong, ≤F
 use Rattle.fraction.specs.Certificate.{quote, le-by, within-by, up, hi, lo, num, eqn, _⊞_, _⊠_, _·_}
 use Rattle.fraction.specs.Inverse.{mul-cancel}
 use Rattle.fraction.specs.Order.{pow2-pos}
+use Rattle.fraction.specs.Size.{Size}
 use Rattle.fraction.specs.Within.{within-resp}
 use Rattle.binary64.specs.Nearest.{unit, unit-cases, grid-half}
 use Rattle.binary64.specs.Range.{round-most}
@@ -83,16 +84,16 @@ unit-le a c C A h l = elim (unit-cases a c C) [
   | inr k ↦ ≤F-trans (large (unit a c) a c (2 ^ 1074) C (pow-pos 1074) k) h
 ]
 
-module _ (s : Bool) (a c : ℕ) (C : 0 < c) (A : Fraction) (h : ratio a c C ≤F A) (l : nat 1 ≤F A *F pow2 1022) (m : A ≤F pow2 1023) where
-  round-fine : T (finite (round binary64 s a c))
+module _ (s : Bool) (a c : ℕ) (C : 0 < c) (A : Fraction) (h : ratio a c C ≤F A) where
+  round-fine : A ≤F pow2 1023 → T (finite (round binary64 s a c))
   unfolding whole
-  round-fine = round-most s a c C (2 ^ 1023) 1 tt (≤F-trans h m .cross) .fine
+  round-fine m = round-most s a c C (2 ^ 1023) 1 tt (≤F-trans h m .cross) .fine
 
   abbrev L : 0 < 2 ^ 1074
   L = pow-pos 1074
 
-  round-near : ratio (grid binary64 a c) (2 ^ 1074) L -F ratio a c C within A *F u
-  round-near =
+  round-near : nat 1 ≤F A *F pow2 1022 → ratio (grid binary64 a c) (2 ^ 1074) L -F ratio a c C within A *F u
+  round-near l =
       let g = grid-half a c C in
       let q = ratio a c C in
       let w = ratio (unit a c) (2 ^ 1074) L in
@@ -102,18 +103,18 @@ module _ (s : Bool) (a c : ℕ) (C : 0 < c) (A : Fraction) (h : ratio a c C ≤F
       (up (twice-ge (grid binary64 a c) (2 ^ 1074) a c (unit a c) L C (g .1)) ⊞ num 2 ⊠ u-nn ⊠ up v ⊞ eqn (negF w · u-is)) (search quote depth 24) tt tt
 
 -- ---- the law, for whatever is rounded once
-pub rounding-error : {Q A : Fraction} {r : Float} → Rounds Q r → Q within A → nat 1 ≤F A *F pow2 1022 → A ≤F pow2 1023 → Close r Q (A *F u)
-rounding-error {Q} {A} {r} h w l m =
+pub rounding-error : {Q A : Fraction} {r : Float} → Rounds Q r → Q within A → Size A 1022 1023 → Close r Q (A *F u)
+rounding-error {Q} {A} {r} h w z =
     let s = h .sign in
     let a = h .top in
     let c = h .bottom in
     let q = ratio a c (h .above) in
     let g = ratio (grid binary64 a c) (2 ^ 1074) (pow-pos 1074) in
     let k = size-of s q A (within-resp (≈F-sym (h .same)) w) in
-    let f = round-fine s a c (h .above) A k l m in
+    let f = round-fine s a c (h .above) A k (z .high) in
     subst (λ (z : Float). Close z Q (A *F u)) (sym (h .is))
     (record {
       fine = f;
       near = within-resp (≈F-trans (≈F-sym (signed-sub s g q)) (+F-cong (≈F-sym (value-is (round binary64 s a c) s (grid binary64 a c) (2 ^ 1074) (pow-pos 1074) (round-value s a c f))) (negF-cong (h .same))))
-          (signed-within s (round-near s a c (h .above) A k l m));
+          (signed-within s (round-near s a c (h .above) A k (z .low)));
     })
