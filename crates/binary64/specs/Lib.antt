@@ -1,1 +1,14 @@
 pub mod Operators
+pub mod Sign
+pub mod Order
+pub mod Range
+pub mod Opened
+pub mod RangeOps
+pub mod Examples
+pub mod Nearest
+pub mod Held
+pub mod Monotone
+pub mod Value
+pub mod Rounds
+pub mod Error
+pub mod Laws

@@ -1,0 +1,97 @@
+-- One line for an identity or an inequality of fractions; specs/Lib.antt says how it is written.
+use mathlib.Core.Path.{_≡_, refl, ap, ap₂}
+use mathlib.Core.List.{List, [], _∷_}
+use mathlib.Core.Logic.{_⊎_, inl, inr}
+use Prim.Native.Nat.{ℕ, suc}
+use lib.IntN.{ℤ, pos, negsuc}
+use Rattle.fraction.specs.Ring.{Ex, con, _⊕_, _⊖_, _⊗_, ⊝, len, Vanish, norm}
+use Rattle.fraction.specs.Quote.{At, Quoted, Quoted₂, Quoted₃, Quoted₄, variable, variables, solved, Fits, fits, certified, Balances, balanced, multiple, both}
+use Rattle.fraction.specs.Fraction.{Fraction, whole, nat, _+F_, negF, _-F_, _*F_, _≈F_, _≤F_, _<F_, _within_}
+use Rattle.fraction.specs.Field.{Fring, Ford, ≤F-of-≈F, to-gap, nn-addF, nn-mulF, nn-natF, lt-not-le, le-or-lt, lt-of-not-le, le-of-lt}
+
+-- ---- reading a fraction's expression back
+-- (a whole number takes as many rules as a variable does, which stands before it: `nat n` with n open can be a variable)
+pub data Number (z : ℤ) : Type 0 where
+  number : Number z
+
+module _ {ρ : List Fraction} where
+  abbrev pub q-var : {x : Fraction} → At ρ x → Quoted Fring ρ x
+  q-var a = variable {A = Fring} a
+
+  abbrev pub q-add : {x y : Fraction} → Quoted Fring ρ x → Quoted Fring ρ y → Quoted Fring ρ (x +F y)
+  q-add p q = record { ex = p .ex ⊕ q .ex; is = ap₂ _+F_ (p .is) (q .is) }
+
+  abbrev pub q-mul : {x y : Fraction} → Quoted Fring ρ x → Quoted Fring ρ y → Quoted Fring ρ (x *F y)
+  q-mul p q = record { ex = p .ex ⊗ q .ex; is = ap₂ _*F_ (p .is) (q .is) }
+
+  abbrev pub q-neg : {x : Fraction} → Quoted Fring ρ x → Quoted Fring ρ (negF x)
+  q-neg p = record { ex = ⊝ (p .ex); is = ap negF (p .is) }
+
+  abbrev pub q-whole : {z : ℤ} → Number z → Quoted Fring ρ (whole z)
+  q-whole {z} n = record { ex = con z; is = refl }
+
+pub ruleset quote = (q-var, variables, q-add, q-mul, q-neg, q-whole, number)
+
+-- ---- an identity
+pub ring : (ρ : List Fraction) {x y : Fraction} (s : Quoted₂ Fring ρ x y) → Vanish (len ρ) (norm (len ρ) (s .one .ex ⊖ s .two .ex)) → x ≈F y
+ring ρ s t = solved Fring ρ s t
+
+-- ---- what a certificate is made of: each is shown to be at least 0
+infixl 6 _⊞_
+infixl 7 _⊠_
+pub up : {x y : Fraction} → x ≤F y → nat 0 ≤F y -F x
+up h = to-gap h
+
+pub hi : {x b : Fraction} → x within b → nat 0 ≤F b -F x
+hi h = to-gap (h .hi)
+
+pub lo : {x b : Fraction} → x within b → nat 0 ≤F x -F negF b
+lo h = to-gap (h .lo)
+
+pub num : (n : ℕ) → nat 0 ≤F nat n
+num n = nn-natF n
+
+pub _⊞_ : {x y : Fraction} → nat 0 ≤F x → nat 0 ≤F y → nat 0 ≤F x +F y
+p ⊞ q = nn-addF p q
+
+pub _⊠_ : {x y : Fraction} → nat 0 ≤F x → nat 0 ≤F y → nat 0 ≤F x *F y
+p ⊠ q = nn-mulF p q
+
+-- ---- x ≤ y: (k + 1) · (y − x) is the certificate
+pub le-by : (ρ : List Fraction) (k : ℕ) {c x y : Fraction} → nat 0 ≤F c → (s : Quoted₃ Fring ρ c x y) → Fits Fring (len ρ) k (s .one .ex) (s .two .ex) (s .three .ex) → x ≤F y
+le-by ρ k h s t = certified Fring Ford ρ k h s t
+
+-- a square
+pub sq : (x : Fraction) → nat 0 ≤F x *F x
+sq x = elim (le-or-lt (nat 0) x) [
+  | inl h ↦ h ⊠ h
+  | inr h ↦ le-by (x ∷ []) 0 (up (le-of-lt h) ⊠ up (le-of-lt h)) (search quote depth 24) tt
+]
+
+-- ---- ∣x∣ ≤ b: by two certificates, of b − x and of x + b
+pub within-by : (ρ : List Fraction) (k : ℕ) {c d x b : Fraction} → nat 0 ≤F c → nat 0 ≤F d → (s : Quoted₄ Fring ρ c d x b)
+    → Fits Fring (len ρ) k (s .one .ex) (s .three .ex) (s .four .ex) → Fits Fring (len ρ) k (s .two .ex) (⊝ (s .four .ex)) (s .three .ex) → x within b
+within-by ρ k h l s t u = record {
+  lo = le-by ρ k l (record { one = s .two; two = record { ex = ⊝ (s .four .ex); is = ap negF (s .four .is) }; three = s .three }) u;
+  hi = le-by ρ k h (record { one = s .one; two = s .three; three = s .four }) t;
+}
+
+-- ---- x ≈ y from equations: y − x is a sum of multiples e · (b − a) of them; `eqn` puts such a sum into a certificate
+infixl 6 _&_
+infixl 7 _·_
+pub _·_ : (e : Fraction) {a b : Fraction} → a ≈F b → nat 0 ≈F e *F (b -F a)
+e · h = multiple Fring e h
+
+pub _&_ : {x y : Fraction} → nat 0 ≈F x → nat 0 ≈F y → nat 0 ≈F x +F y
+p & q = both Fring p q
+
+pub eq-by : (ρ : List Fraction) {c x y : Fraction} → nat 0 ≈F c → (s : Quoted₃ Fring ρ c x y) → Balances Fring (len ρ) (s .one .ex) (s .two .ex) (s .three .ex) → x ≈F y
+eq-by ρ h s t = balanced Fring ρ h s t
+
+pub eqn : {c : Fraction} → nat 0 ≈F c → nat 0 ≤F c
+eqn h = ≤F-of-≈F h
+
+-- ---- x < y: (k + 1) · (y − x) is above 0
+pub lt-by : (ρ : List Fraction) (k : ℕ) {c x y : Fraction} → nat 0 <F c → (s : Quoted₃ Fring ρ c x y) → Fits Fring (len ρ) k (s .one .ex) (s .two .ex) (s .three .ex) → x <F y
+lt-by ρ k {c} {x} {y} h s t = lt-of-not-le (λ (l : y ≤F x). lt-not-le h
+    (le-by (c ∷ x ∷ y ∷ nat (suc k) ∷ []) 0 (num (suc k) ⊠ up l ⊞ eqn (nat 1 · fits Fring ρ k s t)) (search quote depth 24) tt))

@@ -1,0 +1,216 @@
+-- Whole numbers of either sign: their order, and the ring laws that `lib.IntN` lacks. Each is `diff a b`, a − b for two naturals; sums and
+-- products of differences are differences, so that each law is one of naturals, which `omega` proves.
+use mathlib.Core.Path.{_≡_, refl, sym, _∙_, ap, subst}
+use mathlib.Core.Bool.{Bool, true, false, not, cond}
+use mathlib.Core.Logic.{_⊎_, inl, inr}
+use Prim.Native.Nat.{ℕ, zero, suc, _+_, _*_, _-_, _<_, _≤_}
+use native.Mathlib.Nat.{le-refl, mul-pos, zero-lt-suc, le-of-mul-le-mul-right}
+use native.Mathlib.Omega.{arith}
+use lib.Dec.{T, ltb, leb, ltb→lt, nltb→le, leb→le, nleb→lt}
+use lib.IntN.{ℤ, pos, negsuc, subℕ, _+ℤ_, _*ℤ_, negℤ}
+
+-- ---- the order: as a statement, as a test, and strict
+infix 4 _≤ℤ_ _<ℤ_
+abbrev pub _≤ℤ_ : ℤ → ℤ → Type 0
+pos a ≤ℤ pos b = a ≤ b
+pos a ≤ℤ negsuc b = ⊥
+negsuc a ≤ℤ pos b = Unit {0}
+negsuc a ≤ℤ negsuc b = b ≤ a
+
+abbrev pub _<ℤ_ : ℤ → ℤ → Type 0
+pos a <ℤ pos b = a < b
+pos a <ℤ negsuc b = ⊥
+negsuc a <ℤ pos b = Unit {0}
+negsuc a <ℤ negsuc b = b < a
+
+abbrev pub leℤ : ℤ → ℤ → Bool
+leℤ (pos a) (pos b) = leb a b
+leℤ (pos a) (negsuc b) = false
+leℤ (negsuc a) (pos b) = true
+leℤ (negsuc a) (negsuc b) = leb b a
+
+pub leℤ-true : (x y : ℤ) → T (leℤ x y) → x ≤ℤ y
+leℤ-true (pos a) (pos b) t = leb→le a b t
+leℤ-true (pos a) (negsuc b) t = t
+leℤ-true (negsuc a) (pos b) t = tt
+leℤ-true (negsuc a) (negsuc b) t = leb→le b a t
+
+pub leℤ-false : (x y : ℤ) → T (not (leℤ x y)) → y <ℤ x
+leℤ-false (pos a) (pos b) t = nleb→lt a b t
+leℤ-false (pos a) (negsuc b) t = tt
+leℤ-false (negsuc a) (pos b) t = absurd t
+leℤ-false (negsuc a) (negsuc b) t = nleb→lt b a t
+
+pub <ℤ-not : (x y : ℤ) → x <ℤ y → y ≤ℤ x → ⊥
+<ℤ-not (pos a) (pos b) h k = omega arith
+<ℤ-not (pos a) (negsuc b) h k = h
+<ℤ-not (negsuc a) (pos b) h k = k
+<ℤ-not (negsuc a) (negsuc b) h k = omega arith
+
+pub ≤ℤ-or : (x y : ℤ) → (x ≤ℤ y) ⊎ (y <ℤ x)
+≤ℤ-or x y = go (leℤ x y) (leℤ-true x y) (leℤ-false x y)
+  where
+    go : (b : Bool) → (T b → x ≤ℤ y) → (T (not b) → y <ℤ x) → (x ≤ℤ y) ⊎ (y <ℤ x)
+    go true f g = inl (f tt)
+    go false f g = inr (g tt)
+
+pub <ℤ-≤ℤ : (x y : ℤ) → x <ℤ y → x ≤ℤ y
+<ℤ-≤ℤ (pos a) (pos b) h = omega arith
+<ℤ-≤ℤ (pos a) (negsuc b) h = h
+<ℤ-≤ℤ (negsuc a) (pos b) h = tt
+<ℤ-≤ℤ (negsuc a) (negsuc b) h = omega arith
+
+-- ---- differences
+cond-ind : (c : Bool) (x y : ℤ) (P : ℤ → Type 0) → (T c → P x) → (T (not c) → P y) → P (cond c x y)
+cond-ind true x y P f g = f tt
+cond-ind false x y P f g = g tt
+
+-- a − b by cases
+sub-ind : (a b : ℕ) (P : ℤ → Type 0) → ((k : ℕ) → b ≡ a + suc k → P (negsuc k)) → ((k : ℕ) → a ≡ b + k → P (pos k)) → P (subℕ a b)
+sub-ind a b P f g = cond-ind (ltb a b) (negsuc (b - suc a)) (pos (a - b)) P
+    (λ t. let h : a < b = ltb→lt a b t in f (b - suc a) (omega arith))
+    (λ t. let h : b ≤ a = nltb→le a b t in g (a - b) (omega arith))
+
+-- a − b, shut
+pub diff : ℕ → ℕ → ℤ
+diff a b = subℕ a b
+
+-- both numbers vary with the case
+pub diff-view : (Q : ℕ → ℕ → ℤ → Type 0) → ((b k : ℕ) → Q (b + k) b (pos k)) → ((a k : ℕ) → Q a (a + suc k) (negsuc k)) → (a b : ℕ) → Q a b (diff a b)
+unfolding diff
+diff-view Q f g a b = sub-ind a b (Q a b)
+    (λ k e. subst (λ (n : ℕ). Q a n (negsuc k)) (sym e) (g a k))
+    (λ k e. subst (λ (n : ℕ). Q n b (pos k)) (sym e) (f b k))
+
+pub pos-is : (k a b : ℕ) → a ≡ b + k → pos k ≡ diff a b
+unfolding diff
+pos-is k a b h = sub-ind a b (λ z. pos k ≡ z) (λ l e. absurd (omega arith)) (λ l e. ap pos (omega arith))
+
+pub negsuc-is : (k a b : ℕ) → b ≡ a + suc k → negsuc k ≡ diff a b
+unfolding diff
+negsuc-is k a b h = sub-ind a b (λ z. negsuc k ≡ z) (λ l e. ap negsuc (omega arith)) (λ l e. absurd (omega arith))
+
+pub negpos-is : (m a b : ℕ) → b ≡ a + m → negℤ (pos m) ≡ diff a b
+negpos-is zero a b h = pos-is 0 a b (omega arith)
+negpos-is (suc m) a b h = negsuc-is m a b h
+
+-- two differences are equal where the cross sums are
+pub diff-eq : (a b c d : ℕ) → a + d ≡ c + b → diff a b ≡ diff c d
+diff-eq = diff-view (λ a b z. (c d : ℕ) → a + d ≡ c + b → z ≡ diff c d)
+    (λ b k c d h. pos-is k c d (omega arith)) (λ a k c d h. negsuc-is k c d (omega arith))
+
+pub neg-diff : (a b : ℕ) → negℤ (diff a b) ≡ diff b a
+neg-diff = diff-view (λ a b z. negℤ z ≡ diff b a) (λ b k. negpos-is k b (b + k) refl) (λ a k. pos-is (suc k) (a + suc k) a refl)
+
+pub add-diff : (a b c d : ℕ) → diff a b +ℤ diff c d ≡ diff (a + c) (b + d)
+unfolding diff
+add-diff = diff-view (λ a b z. (c d : ℕ) → z +ℤ diff c d ≡ diff (a + c) (b + d))
+    (λ b k. diff-view (λ c d w. pos k +ℤ w ≡ diff ((b + k) + c) (b + d))
+    (λ d l. pos-is (k + l) ((b + k) + (d + l)) (b + d) (omega arith))
+    (λ c l. diff-eq k (suc l) ((b + k) + c) (b + (c + suc l)) (omega arith)))
+    (λ a k. diff-view (λ c d w. negsuc k +ℤ w ≡ diff (a + c) ((a + suc k) + d))
+    (λ d l. diff-eq l (suc k) (a + (d + l)) ((a + suc k) + d) (omega arith))
+    (λ c l. negsuc-is (suc (k + l)) (a + c) ((a + suc k) + (c + suc l)) (omega arith)))
+
+pub mul-diff : (a b c d : ℕ) → diff a b *ℤ diff c d ≡ diff (a * c + b * d) (a * d + b * c)
+mul-diff = diff-view (λ a b z. (c d : ℕ) → z *ℤ diff c d ≡ diff (a * c + b * d) (a * d + b * c))
+    (λ b k. diff-view (λ c d w. pos k *ℤ w ≡ diff ((b + k) * c + b * d) ((b + k) * d + b * c))
+    (λ d l. pos-is (k * l) ((b + k) * (d + l) + b * d) ((b + k) * d + b * (d + l)) (omega arith))
+    (λ c l. negpos-is (k * suc l) ((b + k) * c + b * (c + suc l)) ((b + k) * (c + suc l) + b * c) (omega arith)))
+    (λ a k. diff-view (λ c d w. negsuc k *ℤ w ≡ diff (a * c + (a + suc k) * d) (a * d + (a + suc k) * c))
+    (λ d l. negpos-is (suc k * l) (a * (d + l) + (a + suc k) * d) (a * d + (a + suc k) * (d + l)) (omega arith))
+    (λ c l. pos-is (suc k * suc l) (a * c + (a + suc k) * (c + suc l)) (a * (c + suc l) + (a + suc k) * c) (omega arith)))
+
+-- every integer is a difference
+pub by-diff : (P : ℤ → Type 0) → ((a b : ℕ) → P (diff a b)) → (z : ℤ) → P z
+by-diff P f (pos n) = subst P (sym (pos-is n n 0 (omega arith))) (f n 0)
+by-diff P f (negsuc n) = subst P (sym (negsuc-is n 0 (suc n) (omega arith))) (f 0 (suc n))
+
+pub *ℤ-assoc : (x y z : ℤ) → (x *ℤ y) *ℤ z ≡ x *ℤ (y *ℤ z)
+*ℤ-assoc x y z = by-diff (λ x. (x *ℤ y) *ℤ z ≡ x *ℤ (y *ℤ z))
+    (λ a b. by-diff (λ y. (diff a b *ℤ y) *ℤ z ≡ diff a b *ℤ (y *ℤ z))
+    (λ c d. by-diff (λ z. (diff a b *ℤ diff c d) *ℤ z ≡ diff a b *ℤ (diff c d *ℤ z))
+    (λ e f. simp mul-diff (diff-eq _ _ _ _ (omega arith))) z) y) x
+
+pub *ℤ-+ℤ : (x y z : ℤ) → x *ℤ (y +ℤ z) ≡ x *ℤ y +ℤ x *ℤ z
+*ℤ-+ℤ x y z = by-diff (λ x. x *ℤ (y +ℤ z) ≡ x *ℤ y +ℤ x *ℤ z)
+    (λ a b. by-diff (λ y. diff a b *ℤ (y +ℤ z) ≡ diff a b *ℤ y +ℤ diff a b *ℤ z)
+    (λ c d. by-diff (λ z. diff a b *ℤ (diff c d +ℤ z) ≡ diff a b *ℤ diff c d +ℤ diff a b *ℤ z)
+    (λ e f. simp (mul-diff, add-diff) (diff-eq _ _ _ _ (omega arith))) z) y) x
+
+-- ---- laws of the order
+pub ≤-diff : (a b c d : ℕ) → a + d ≤ c + b → diff a b ≤ℤ diff c d
+≤-diff = diff-view (λ a b z. (c d : ℕ) → a + d ≤ c + b → z ≤ℤ diff c d)
+    (λ b k. diff-view (λ c d w. (b + k) + d ≤ c + b → pos k ≤ℤ w)
+    (λ d l h. omega arith)
+    (λ c l h. omega arith))
+    (λ a k. diff-view (λ c d w. a + d ≤ c + (a + suc k) → negsuc k ≤ℤ w)
+    (λ d l h. tt)
+    (λ c l h. omega arith))
+
+pub diff-≤ : (a b c d : ℕ) → diff a b ≤ℤ diff c d → a + d ≤ c + b
+diff-≤ = diff-view (λ a b z. (c d : ℕ) → z ≤ℤ diff c d → a + d ≤ c + b)
+    (λ b k. diff-view (λ c d w. pos k ≤ℤ w → (b + k) + d ≤ c + b)
+    (λ d l h. omega arith)
+    (λ c l h. absurd h))
+    (λ a k. diff-view (λ c d w. negsuc k ≤ℤ w → a + d ≤ c + (a + suc k))
+    (λ d l h. omega arith)
+    (λ c l h. omega arith))
+
+pub by-diff₂ : (P : ℤ → ℤ → Type 0) → ((a b c d : ℕ) → P (diff a b) (diff c d)) → (x y : ℤ) → P x y
+by-diff₂ P f x y = by-diff (λ x. P x y) (λ a b. by-diff (λ y. P (diff a b) y) (λ c d. f a b c d) y) x
+
+pub by-diff₃ : (P : ℤ → ℤ → ℤ → Type 0) → ((a b c d e f : ℕ) → P (diff a b) (diff c d) (diff e f)) → (x y z : ℤ) → P x y z
+by-diff₃ P f x y z = by-diff₂ (λ x y. P x y z) (λ a b c d. by-diff (λ z. P (diff a b) (diff c d) z) (λ e g. f a b c d e g) z) x y
+
+pub ≤ℤ-refl : (x : ℤ) → x ≤ℤ x
+≤ℤ-refl (pos n) = le-refl n
+≤ℤ-refl (negsuc n) = le-refl n
+
+pub ≤ℤ-trans : (x y z : ℤ) → x ≤ℤ y → y ≤ℤ z → x ≤ℤ z
+≤ℤ-trans = by-diff₃ (λ x y z. x ≤ℤ y → y ≤ℤ z → x ≤ℤ z) (λ a b c d e f h k. ≤-diff a b e f (omega (arith, diff-≤ a b c d h, diff-≤ c d e f k)))
+
+pub ≤ℤ-antisym : (x y : ℤ) → x ≤ℤ y → y ≤ℤ x → x ≡ y
+≤ℤ-antisym = by-diff₂ (λ x y. x ≤ℤ y → y ≤ℤ x → x ≡ y) (λ a b c d h k. diff-eq a b c d (omega (arith, diff-≤ a b c d h, diff-≤ c d a b k)))
+
+nn-diff : (a b : ℕ) → b ≤ a → pos 0 ≤ℤ diff a b
+nn-diff = diff-view (λ a b z. b ≤ a → pos 0 ≤ℤ z) (λ b k h. omega arith) (λ a k h. omega arith)
+
+diff-nn : (a b : ℕ) → pos 0 ≤ℤ diff a b → b ≤ a
+diff-nn = diff-view (λ a b z. pos 0 ≤ℤ z → b ≤ a) (λ b k h. omega arith) (λ a k h. absurd h)
+
+pub nn-sub : (x y : ℤ) → x ≤ℤ y → pos 0 ≤ℤ y +ℤ negℤ x
+nn-sub = by-diff₂ (λ x y. x ≤ℤ y → pos 0 ≤ℤ y +ℤ negℤ x) (λ a b c d h. simp (neg-diff, add-diff) (nn-diff (c + b) (d + a) (omega (arith, diff-≤ a b c d h))))
+
+pub sub-nn : (x y : ℤ) → pos 0 ≤ℤ y +ℤ negℤ x → x ≤ℤ y
+sub-nn = by-diff₂ (λ x y. pos 0 ≤ℤ y +ℤ negℤ x → x ≤ℤ y) (λ a b c d h. ≤-diff a b c d (omega (arith, diff-nn (c + b) (d + a) (simp (neg-diff, add-diff) at h))))
+
+pub nn-add : (x y : ℤ) → pos 0 ≤ℤ x → pos 0 ≤ℤ y → pos 0 ≤ℤ x +ℤ y
+nn-add (pos a) (pos b) h k = omega arith
+nn-add (pos a) (negsuc b) h k = absurd k
+nn-add (negsuc a) (pos b) h k = absurd h
+nn-add (negsuc a) (negsuc b) h k = absurd h
+
+pub nn-mul : (x y : ℤ) → pos 0 ≤ℤ x → pos 0 ≤ℤ y → pos 0 ≤ℤ x *ℤ y
+nn-mul (pos a) (pos b) h k = omega arith
+nn-mul (pos a) (negsuc b) h k = absurd k
+nn-mul (negsuc a) (pos b) h k = absurd h
+nn-mul (negsuc a) (negsuc b) h k = absurd h
+
+below-zero : (m : ℕ) → 0 < m → pos 0 ≤ℤ negℤ (pos m) → ⊥
+below-zero zero h k = omega arith
+below-zero (suc m) h k = k
+
+pub nn-div : (k : ℕ) (x : ℤ) → 0 < k → pos 0 ≤ℤ pos k *ℤ x → pos 0 ≤ℤ x
+nn-div k (pos n) p h = omega arith
+nn-div k (negsuc n) p h = absurd (below-zero (k * suc n) (mul-pos p (zero-lt-suc n)) h)
+
+mul-pos-diff : (a b d : ℕ) → diff a b *ℤ pos d ≡ diff (a * d) (b * d)
+mul-pos-diff a b d = ap (λ z. diff a b *ℤ z) (pos-is d d 0 (omega arith)) ∙ mul-diff a b d 0 ∙ diff-eq _ _ _ _ (omega arith)
+
+-- a positive factor cancels
+pub ≤ℤ-cancel : (d : ℕ) → 0 < d → (x y : ℤ) → x *ℤ pos d ≤ℤ y *ℤ pos d → x ≤ℤ y
+≤ℤ-cancel d p = by-diff₂ (λ x y. x *ℤ pos d ≤ℤ y *ℤ pos d → x ≤ℤ y) (λ a b c e h.
+    let u : a * d + e * d ≤ c * d + b * d = diff-≤ (a * d) (b * d) (c * d) (e * d) (simp mul-pos-diff at h) in
+    let v : (a + e) * d ≤ (c + b) * d = omega arith in
+    ≤-diff a b c e (le-of-mul-le-mul-right v p))
