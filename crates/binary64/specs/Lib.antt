@@ -8,3 +8,7 @@ pub mod Examples
 pub mod Nearest
 pub mod Held
 pub mod Monotone
+pub mod Value
+pub mod Rounds
+pub mod Error
+pub mod Laws

@@ -1,9 +1,9 @@
 -- How near `round` comes, on naturals: with a unit of 2 ^ k of the smallest values, the result is within half a unit; and the unit is the smallest value, or 2 ^ 52 units are at most the fraction itself.
 -- Assumes nothing.
 use mathlib.Core.Path.{_≡_, sym, ap, subst}
-use mathlib.Core.Logic.{inl, inr}
+use mathlib.Core.Logic.{_⊎_, inl, inr}
 use Prim.Native.Nat.{ℕ, zero, suc, _+_, _-_, _*_, _/_, _%_, _^_, _≤_, _<_, compare, Ordering, Ordering·lt, Ordering·eq, Ordering·gt}
-use native.Mathlib.Nat.{le-trans, le-of-eq, mul-comm, mul-assoc, mul-left-comm, one-mul, add-mul, suc-mul, zero-mul, mul-le-mul-right, mul-pos, div-add-mod', mod-lt, le-div-iff-mul-le, eq-zero-or-pos}
+use native.Mathlib.Nat.{le-trans, le-of-eq, mul-comm, mul-assoc, mul-left-comm, one-mul, add-mul, suc-mul, zero-mul, mul-pos, div-add-mod', mod-lt, le-div-iff-mul-le, eq-zero-or-pos}
 use native.Mathlib.Omega.{arith}
 use mathlib.Core.Bool.{not}
 use lib.Dec.{T, isLe, isEq, eqb, leb→le, nleb→lt, eqb→eq, eqb-refl}
@@ -61,19 +61,9 @@ normal n c C K =
 abbrev pub unit : ℕ → ℕ → ℕ
 unit a c = 2 ^ drop 53 (a * 2 ^ 1074) c
 
--- where a / c ≤ P / b and 2 ^ 52 smallest values are at most P / b, 2 ^ 52 units are
-pub unit-le : (a c P b : ℕ) → 0 < c → a * b ≤ P * c → 2 ^ 52 * b ≤ P * 2 ^ 1074 → unit a c * 2 ^ 52 * b ≤ P * 2 ^ 1074
-unit-le a c P b C h l = elim (eq-zero-or-pos (drop 53 (a * 2 ^ 1074) c)) [
-  | inl e ↦ rw e (simp one-mul l)
-  | inr k ↦ large (unit a c) (2 ^ 52) (2 ^ 1074) (normal (a * 2 ^ 1074) c C k)
-]
-  where
-    large : (u H L : ℕ) → u * H * c ≤ a * L → u * H * b ≤ P * L
-    large u H L g =
-        let x = simp (mul-assoc, mul-comm, mul-left-comm) at (mul-le-mul-right b g) in
-        let y = simp (mul-assoc, mul-comm, mul-left-comm) at (mul-le-mul-right L h) in
-        let z : u * H * b * c ≤ P * L * c = simp (mul-assoc, mul-comm, mul-left-comm) (omega arith) in
-        native.Mathlib.Nat.le-of-mul-le-mul-right z C
+-- it is the smallest value, or 2 ^ 52 units are at most a / c
+pub unit-cases : (a c : ℕ) → 0 < c → (unit a c ≡ 1) ⊎ (unit a c * 2 ^ 52 * c ≤ a * 2 ^ 1074)
+unit-cases a c C = elim (eq-zero-or-pos (drop 53 (a * 2 ^ 1074) c)) [ inl e ↦ inl (ap (λ (k : ℕ). 2 ^ k) e) | inr k ↦ inr (normal (a * 2 ^ 1074) c C k) ]
 
 -- the rounded fraction, `grid` smallest values, is within half a unit
 pub grid-half : (a c : ℕ) → 0 < c

@@ -79,6 +79,12 @@ pub record _within_ (x b : Fraction) : Type 0 where
   pub lo : negF b ≤F x
   pub hi : x ≤F b
 
+-- ---- low ≤ x ≤ high
+infix 4 _from_to_
+pub record _from_to_ (x low high : Fraction) : Type 0 where
+  pub lower : low ≤F x
+  pub upper : x ≤F high
+
 -- ---- the lesser, the greater and the clamp: what is below low becomes low, then what is above high becomes high
 infix 4 _≤?_
 unfoldable pub _≤?_ : Fraction → Fraction → Bool

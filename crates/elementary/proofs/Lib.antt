@@ -1,0 +1,5 @@
+pub mod ExpLaws
+pub mod LnLaws
+pub mod LnSplits
+pub mod SignLaws
+pub mod CountLaws

@@ -1,0 +1,27 @@
+-- E, the exponential: the series for t / 1024 to its 18th term, squared ten times. Definitions only.
+use Prim.Native.Nat.{ℕ, zero, suc}
+use mathlib.Core.Bool.{false, cond}
+use lib.Ieee.{Float, inf, neg, lt}
+use Rattle.binary64.specs.Operators.{_⊕_, _⊗_, _⊘_, f64, count}
+
+-- 1
+abbrev pub one : Float
+one = f64 0x3ff0_0000_0000_0000
+
+-- a = 1 + (a * y) / k, for k down to 1
+unfoldable pub series : ℕ → Float → Float → Float
+series zero y a = a
+series (suc k) y a = series k y (one ⊕ ((a ⊗ y) ⊘ count (suc k)))
+
+-- a squared n times
+unfoldable pub squarings : ℕ → Float → Float
+squarings zero a = a
+squarings (suc n) a = squarings n (a ⊗ a)
+
+-- the exponential of a t that is between the limits: t / 1024
+unfoldable pub powered : Float → Float
+powered t = squarings 10 (series 18 (t ⊘ f64 0x4090_0000_0000_0000) one)
+
+-- above 709 it is +infinity, below -708 it is +0
+unfoldable pub expOf : Float → Float
+expOf t = cond (lt (f64 0x4086_2800_0000_0000) t) (inf false) (cond (lt t (neg (f64 0x4086_2000_0000_0000))) (f64 0) (powered t))

@@ -1,0 +1,6 @@
+pub mod Exp
+pub mod Ln
+pub mod Choice
+pub mod Asinh
+pub mod Power
+pub mod Count

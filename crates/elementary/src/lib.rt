@@ -1,0 +1,234 @@
+// The elementary functions of the cell models, each with a result for every f64. They stand in for the library's, to
+// the last bit: each operation rounds once, in the order of the definitions in specs/.
+ghost use mathlib.Core.Path.{_≡_};
+ghost use Prim.Native.Nat.{_≤_};
+ghost use lib.Ieee.{binary64, ofInt, minus};
+ghost use Rattle.binary64.specs.Operators.{negative};
+ghost use Rattle.elementary.specs.Exp.{one, series, squarings, expOf};
+ghost use Rattle.elementary.specs.Ln.{lnParts, lnOf};
+ghost use Rattle.elementary.specs.Choice.{absOf, signumOf, clampOf, maxOf, minOf};
+ghost use Rattle.elementary.specs.Asinh.{asinhOf};
+ghost use Rattle.elementary.specs.Power.{powfOf, squareOf, cubeOf, fourthOf};
+ghost use Rattle.elementary.specs.Count.{ceilOf};
+
+// The series of the exponential of y, to the term of y ^ 18.
+fn exp_series(y: f64) -> f64
+    ensures { λ r. ⌜ r ≡ series 18 y one ⌝ }
+{
+    let mut a: f64 = 1.0;
+    let mut k: u32 = 18;
+    while k > 0 {
+        a = 1.0 + (a * y) / (k as f64);
+        k -= 1;
+    }
+    a
+}
+
+// a to the power 1024.
+fn exp_squarings(a: f64) -> f64
+    ensures { λ r. ⌜ r ≡ squarings 10 a ⌝ }
+{
+    let mut p = a;
+    let mut n: u32 = 10;
+    while n > 0 {
+        p = p * p;
+        n -= 1;
+    }
+    p
+}
+
+// E, the exponential of t.
+pub fn exp(t: f64) -> f64
+    ensures { λ r. ⌜ r ≡ expOf t ⌝ }
+{
+    if t > 709.0 {
+        return f64::from_bits(0x7ff0_0000_0000_0000);
+    }
+    if t < -708.0 {
+        return 0.0;
+    }
+    exp_squarings(exp_series(t / 1024.0))
+}
+
+// w - 1074 as a float.
+fn exponent(w: u64) -> f64
+    requires { ⌜ w ≤ 2098 ⌝ }
+    ensures { λ r. ⌜ r ≡ ofInt binary64 (minus w 1074) ⌝ }
+{
+    if w >= 1074 {
+        return (w - 1074) as f64;
+    }
+    -((1074 - w) as f64)
+}
+
+// The logarithm of m * 2 ^ k, for an m near 1.
+fn ln_parts(m: f64, k: f64) -> f64
+    ensures { λ r. ⌜ r ≡ lnParts m k ⌝ }
+{
+    let s = (m - 1.0) / (m + 1.0);
+    let q = s * s;
+    let mut a = 1.0 / 23.0;
+    let mut j: u32 = 11;
+    while j > 0 {
+        a = 1.0 / ((2 * (j - 1) + 1) as f64) + q * a;
+        j -= 1;
+    }
+    k * f64::from_bits(0x3FE6_2E42_FEFA_39EF) + (2.0 * s) * a
+}
+
+// L, the natural logarithm of x: of a zero -infinity, below zero a NaN.
+pub fn ln(x: f64) -> f64
+    ensures { λ r. ⌜ r ≡ lnOf x ⌝ }
+{
+    if x != x {
+        return x;
+    }
+    let b = f64::to_bits(x);
+    if b >= 0x8000_0000_0000_0000 {
+        if b == 0x8000_0000_0000_0000 {
+            return f64::from_bits(0xfff0_0000_0000_0000);
+        }
+        let z: f64 = 0.0;
+        return z / z;
+    }
+    if b == 0 {
+        return f64::from_bits(0xfff0_0000_0000_0000);
+    }
+    if b >= 0x7ff0_0000_0000_0000 {
+        return x;
+    }
+    let p = square_root::parts_of(b);
+    let w = p.w;
+    let m = f64::from_bits(0x3fe0_0000_0000_0000 + p.c);
+    if m >= 1.5 {
+        return ln_parts(m / 2.0, exponent(w + 1));
+    }
+    ln_parts(m, exponent(w))
+}
+
+// Whether the sign is negative, as it is for -0.
+fn is_negative(x: f64) -> bool
+    ensures { λ r. ⌜ r ≡ negative x ⌝ }
+{
+    if x != x {
+        return false;
+    }
+    f64::to_bits(x) >= 0x8000_0000_0000_0000
+}
+
+// The absolute value of x.
+pub fn abs(x: f64) -> f64
+    ensures { λ r. ⌜ r ≡ absOf x ⌝ }
+{
+    if is_negative(x) {
+        return -x;
+    }
+    x
+}
+
+// 1 with the sign of x.
+pub fn signum(x: f64) -> f64
+    ensures { λ r. ⌜ r ≡ signumOf x ⌝ }
+{
+    if x != x {
+        return x;
+    }
+    if is_negative(x) {
+        return -1.0;
+    }
+    1.0
+}
+
+// H, the inverse hyperbolic sine of x.
+pub fn asinh(x: f64) -> f64
+    ensures { λ r. ⌜ r ≡ asinhOf x ⌝ }
+{
+    let a = abs(x);
+    let r = ln(a + square_root::sqrt(a * a + 1.0));
+    if is_negative(x) {
+        return -r;
+    }
+    r
+}
+
+// x to the power b.
+pub fn powf(x: f64, b: f64) -> f64
+    ensures { λ r. ⌜ r ≡ powfOf x b ⌝ }
+{
+    exp(b * ln(x))
+}
+
+pub fn square(x: f64) -> f64
+    ensures { λ r. ⌜ r ≡ squareOf x ⌝ }
+{
+    x * x
+}
+
+pub fn cube(x: f64) -> f64
+    ensures { λ r. ⌜ r ≡ cubeOf x ⌝ }
+{
+    x * (x * x)
+}
+
+pub fn fourth(x: f64) -> f64
+    ensures { λ r. ⌜ r ≡ fourthOf x ⌝ }
+{
+    (x * x) * (x * x)
+}
+
+// x, but lo where it is below lo, and then hi where that is above hi.
+pub fn clamp(x: f64, lo: f64, hi: f64) -> f64
+    ensures { λ r. ⌜ r ≡ clampOf x lo hi ⌝ }
+{
+    let mut y = x;
+    if y < lo {
+        y = lo;
+    }
+    if y > hi {
+        y = hi;
+    }
+    y
+}
+
+// The larger of a and b; of a NaN and a number, the number.
+pub fn max(a: f64, b: f64) -> f64
+    ensures { λ r. ⌜ r ≡ maxOf a b ⌝ }
+{
+    if a != a {
+        return b;
+    }
+    if a < b {
+        return b;
+    }
+    a
+}
+
+// The smaller of a and b; of a NaN and a number, the number.
+pub fn min(a: f64, b: f64) -> f64
+    ensures { λ r. ⌜ r ≡ minOf a b ⌝ }
+{
+    if a != a {
+        return b;
+    }
+    if b < a {
+        return b;
+    }
+    a
+}
+
+// The least whole number not below q.
+pub fn ceil_count(q: f64) -> u64
+    ensures { λ r. ⌜ r ≡ ceilOf q ⌝ }
+{
+    if !(q > 0.0) {
+        return 0;
+    }
+    if q >= 18446744073709551616.0 {
+        return 0xffff_ffff_ffff_ffff;
+    }
+    let whole = std::num::truncating_f64_to_u64(q);
+    if std::num::nearest_u64_to_f64(whole) < q {
+        return whole + 1;
+    }
+    whole
+}

@@ -1,0 +1,39 @@
+-- `sqrt_bits` meets its contract. Assumes nothing.
+use mathlib.Core.Path.{sym}
+use Prim.Native.Nat.{_/_, _%_, _^_}
+use native.Mathlib.Omega.{arith}
+use borrow.Author.Needs.{needs}
+use lib.Ieee.{binary64, ofBits}
+use Rattle.square_root.specs.Parts.{unitsOf}
+use Rattle.square_root.proofs.Patterns.{positive-value, positive-units}
+use Rattle.square_root.proofs.Units.{root-bits}
+use Rattle.square_root.proofs.sqrt_bits.Statement.{statement}
+use Rattle.square_root.proofs.sqrt_bits.Tie as tie
+
+parts-of-requires : tie.Need-parts-of-requires
+parts-of-requires c κs = search needs
+
+add-result : tie.Need-add-result
+add-result c = search needs
+
+mul-result : tie.Need-mul-result
+mul-result c = search needs
+
+nearest-root-requires : tie.Need-nearest-root-requires
+nearest-root-requires c κs = search needs
+
+add-result-2 : tie.Need-add-result-2
+add-result-2 c = search needs
+
+returns : tie.Need-returns
+returns c =
+    let p = c .before .parts-of in
+    let start = c .before .before in
+    let b = start .args .b in
+    let n = c .nearest-root in (
+      sym (root-bits (ofBits binary64 b) (unitsOf (b / 2 ^ 52) (b % 2 ^ 52)) (p .result .c) (p .result .w) (n .result) (positive-value b (start .pre .1)) (positive-units b (start .pre .0)) (p .ensures) (n .ensures .0) (n .ensures .1)),
+      omega arith,
+    )
+
+pub sqrt-bits-spec : {M : Type 1} → statement M
+sqrt-bits-spec = tie.close (tie.spec parts-of-requires add-result mul-result nearest-root-requires add-result-2 returns)

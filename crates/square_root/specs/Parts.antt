@@ -1,0 +1,15 @@
+-- A binary64 that is finite and above zero, by its bits. Definitions only.
+use Prim.Native.Nat.{ℕ, zero, suc, _+_, _*_, _^_, _≤_, _<_}
+use mathlib.Core.Path.{_≡_}
+
+-- The magnitude, in smallest values 2 ^ -1074, that an exponent's field x and the digits t stand for.
+abbrev pub unitsOf : ℕ → ℕ → ℕ
+unitsOf zero t = t
+unitsOf (suc x) t = (2 ^ 52 + t) * 2 ^ x
+
+-- N smallest values are c * 2 ^ (w - 52) of them, c having 53 digits
+pub record Normal (N c w : ℕ) : Type 0 where
+  pub same : N * 2 ^ 52 ≡ c * 2 ^ w
+  pub from : 2 ^ 52 ≤ c
+  pub below : c < 2 ^ 53
+  pub top : w ≤ 2097

@@ -1,0 +1,75 @@
+-- After k turns: the definitions, and what each place then holds. Assumes nothing.
+use Prim.Native.Nat.{ℕ, zero, suc, _≤_, _<_, _+_}
+use mathlib.Core.Path.{_≡_, refl, ap}
+use mathlib.Core.Bool.{Bool, true, false, _&&_}
+use mathlib.Core.Logic.{⊎-elim}
+use mathlib.Core.List.{List}
+use native.Mathlib.Omega.{arith}
+use native.Mathlib.Nat.{not-suc-le-zero, eq-or-lt-of-le, le-of-suc-le-suc, ne-of-lt, ne-of-gt, zero-add, suc-add}
+use lib.Dec.{T}
+use lib.Ieee.Fits.{and-l, and-r}
+use lib.ListN.{length, getD, set, length-set}
+use lib.Seq.{getD-set-same, getD-set-other}
+
+module _ {A : Type 0} where
+  -- the first k places by f, the others as in l
+  unfoldable pub firstBy : ℕ → (ℕ → A) → List A → List A
+  firstBy zero f l = l
+  firstBy (suc k) f l = set (firstBy k f l) k (f k)
+
+  -- f made k times
+  unfoldable pub times : ℕ → (A → A) → A → A
+  times zero f x = x
+  times (suc k) f x = f (times k f x)
+
+  pub times-add : (k l : ℕ) (f : A → A) (x : A) → times (k + l) f x ≡ times k f (times l f x)
+  unfolding times
+  times-add zero l f x = rw zero-add
+  times-add (suc k) l f x = rw (suc-add k l) (ap f (times-add k l f x))
+
+-- f holds of each number below k
+unfoldable pub allBelow : ℕ → (ℕ → Bool) → Bool
+allBelow zero f = true
+allBelow (suc k) f = allBelow k f && f k
+
+module _ {A : Type 0} (f : ℕ → A) (l : List A) where
+  pub first-length : (k : ℕ) → length (firstBy k f l) ≡ length l
+  unfolding firstBy
+  first-length zero = refl
+  first-length (suc k) = rw (length-set, first-length k)
+
+  -- a place among the first k
+  pub first-below : (k i : ℕ) (d : A) → i < k → k ≤ length l → getD (firstBy k f l) i d ≡ f i
+  unfolding firstBy
+  first-below zero i d h n = absurd (not-suc-le-zero h)
+  first-below (suc k) i d h n =
+      let m : k < length (firstBy k f l) = rw first-length n in
+      ⊎-elim
+      (λ q. rw q (getD-set-same (firstBy k f l) k (f k) d m))
+      (λ q. rw (getD-set-other (firstBy k f l) k i (f k) d (ne-of-lt q)) (first-below k i d q (omega arith)))
+      (eq-or-lt-of-le (le-of-suc-le-suc h))
+
+  -- any other place
+  pub first-above : (k i : ℕ) (d : A) → k ≤ i → getD (firstBy k f l) i d ≡ getD l i d
+  unfolding firstBy
+  first-above zero i d h = refl
+  first-above (suc k) i d h = rw (getD-set-other (firstBy k f l) k i (f k) d (ne-of-gt h)) (first-above k i d (omega arith))
+
+module _ (f : ℕ → Bool) where
+  -- what holds below k holds of each such number
+  pub all-at : (k i : ℕ) → i < k → T (allBelow k f) → T (f i)
+  unfolding allBelow
+  all-at zero i h t = absurd (not-suc-le-zero h)
+  all-at (suc k) i h t =
+      ⊎-elim (λ (q : i ≡ k). rw q (and-r (allBelow k f) (f k) t)) (λ q. all-at k i q (and-l (allBelow k f) (f k) t)) (eq-or-lt-of-le (le-of-suc-le-suc h))
+
+  -- and the other way
+  pub all-of : (k : ℕ) → ((i : ℕ) → i < k → T (f i)) → T (allBelow k f)
+  unfolding allBelow
+  all-of zero h = tt
+  all-of (suc k) h = both (allBelow k f) (f k) (all-of k (λ i q. h i (omega arith))) (h k (omega arith))
+    where
+      both : (a b : Bool) → T a → T b → T (a && b)
+      both true true p q = tt
+      both true false p q = q
+      both false b p q = p

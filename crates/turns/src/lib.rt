@@ -1,0 +1,1 @@
+// What a loop leaves after so many turns, in specs/. No code.
