@@ -3,3 +3,5 @@ pub mod LnLaws
 pub mod LnSplits
 pub mod SignLaws
 pub mod CountLaws
+pub mod BenchCells
+pub mod Literals

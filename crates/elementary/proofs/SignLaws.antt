@@ -25,6 +25,9 @@ nan-test x true h = ap isNan (is-nan x h) ∙ nan-is
     nan-is = unfold isNan in refl
 nan-test x false h = is-false (isNan x) (not-nan x h)
 
+pub nan-ne : (x : Float) → isNan x ≡ ne x x
+nan-ne x = nan-test x (ne x x) refl
+
 -- ---- the sign, by the bits
 fields-sign : (s : Bool) (x t : ℕ) → x ≤ 2047 → isNan (ofFields binary64 s x t) ≡ false → negative (ofFields binary64 s x t) ≡ s
 unfolding isNan

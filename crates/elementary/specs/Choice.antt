@@ -1,5 +1,5 @@
 -- Absolute value, sign, clamp, max and min: no operation here rounds. Definitions only.
-use mathlib.Core.Bool.{Bool, true, false, cond}
+use mathlib.Core.Bool.{false, _||_, cond}
 use lib.Ieee.{Float, nan, inf, fin, neg, lt, isNan}
 use Rattle.binary64.specs.Operators.{negative}
 use Rattle.elementary.specs.Exp.{one}
@@ -19,7 +19,7 @@ clampOf x lo hi = let y = cond (lt x lo) lo x in cond (lt hi y) hi y
 
 -- one NaN gives the other; of two equal numbers, the first
 abbrev pub maxOf : Float → Float → Float
-maxOf a b = cond (isNan a) b (cond (lt a b) b a)
+maxOf a b = cond (isNan a || lt a b) b a
 
 abbrev pub minOf : Float → Float → Float
-minOf a b = cond (isNan a) b (cond (lt b a) b a)
+minOf a b = cond (isNan a || lt b a) b a

@@ -194,10 +194,7 @@ pub fn clamp(x: f64, lo: f64, hi: f64) -> f64
 pub fn max(a: f64, b: f64) -> f64
     ensures { λ r. ⌜ r ≡ maxOf a b ⌝ }
 {
-    if a != a {
-        return b;
-    }
-    if a < b {
+    if (a != a) | (a < b) {
         return b;
     }
     a
@@ -207,10 +204,7 @@ pub fn max(a: f64, b: f64) -> f64
 pub fn min(a: f64, b: f64) -> f64
     ensures { λ r. ⌜ r ≡ minOf a b ⌝ }
 {
-    if a != a {
-        return b;
-    }
-    if b < a {
+    if (a != a) | (b < a) {
         return b;
     }
     a

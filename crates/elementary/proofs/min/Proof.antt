@@ -1,18 +1,20 @@
 -- `min` meets its contract. Assumes nothing.
-use mathlib.Core.Path.{_≡_, refl}
-use mathlib.Core.Bool.{true, false}
-use Rattle.elementary.proofs.SignLaws.{nan-test}
+use mathlib.Core.Path.{_≡_, sym, ap, _∙_}
+use mathlib.Core.Bool.{Bool, _||_, cond}
+use lib.Ieee.{Float, lt, ne}
+use Rattle.elementary.specs.Choice.{minOf}
+use Rattle.elementary.proofs.SignLaws.{nan-ne}
 use Rattle.elementary.proofs.min.Statement.{statement}
 use Rattle.elementary.proofs.min.Tie as tie
 
+by-test : (a b : Float) (t : Bool) → (ne a a || lt b a) ≡ t → cond t b a ≡ minOf a b
+by-test a b t h = ap (λ (z : Bool). cond z b a) (sym (ap (λ (z : Bool). z || lt b a) (nan-ne a) ∙ h))
+
 returns : tie.Need-returns
-returns c = rw (nan-test (c .before .args .a) true (c .if1 .taken))
+returns c = by-test (c .before .args .a) (c .before .args .b) _ (c .if1 .taken)
 
 returns-2 : tie.Need-returns-2
-returns-2 c = rw (nan-test (c .before .before .args .a) false (c .before .if1 .left), c .if2 .taken)
-
-returns-3 : tie.Need-returns-3
-returns-3 c = rw (nan-test (c .before .before .args .a) false (c .before .if1 .left), c .if2 .left)
+returns-2 c = by-test (c .before .args .a) (c .before .args .b) _ (c .if1 .left)
 
 pub min-spec : {M : Type 1} → statement M
-min-spec = tie.close (tie.spec returns returns-2 returns-3)
+min-spec = tie.close (tie.spec returns returns-2)
