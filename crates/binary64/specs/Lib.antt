@@ -12,3 +12,4 @@ pub mod Value
 pub mod Rounds
 pub mod Error
 pub mod Laws
+pub mod Near
