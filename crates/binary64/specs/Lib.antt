@@ -11,5 +11,6 @@ pub mod Monotone
 pub mod Value
 pub mod Rounds
 pub mod Error
-pub mod Laws
+pub mod OrderLaws
 pub mod Near
+pub mod Bounds

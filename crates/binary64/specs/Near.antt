@@ -18,7 +18,7 @@ use Rattle.fraction.specs.Size.{Size, size-pos, size-mul, size-wider}
 use Rattle.fraction.specs.Within.{within-nn, within-self, within-weaken, within-resp, within-neg, within-add, within-mul, product-error}
 use Rattle.binary64.specs.Operators as Op
 use Rattle.binary64.specs.Error.{u, u-nn, rounding-error}
-use Rattle.binary64.specs.Laws.{positive-num}
+use Rattle.binary64.specs.OrderLaws.{positive-num}
 use Rattle.binary64.specs.Rounds.{Rounds, add-rounds, sub-rounds, mul-rounds, div-rounds}
 use Rattle.binary64.specs.Value.{val}
 
@@ -134,17 +134,17 @@ module _ (κ : Fraction) (k l : ℕ) (f : Fair κ) where
   sum-error : nat 2 *F (κ *F (nat k *F u) +F κ *F (nat l *F u)) ≤F κ *F ((nat 2 *F nat (k + l) +F nat 1) *F u)
   sum-error = le-by (κ ∷ nat k ∷ nat l ∷ nat (k + l) ∷ u ∷ []) 0 (fair-nn f ⊠ u-nn ⊞ eqn (negF (nat 2 *F κ *F u) · nat-+ k l)) (search quote depth 24) tt
 
+  -- what is rounded is s, with the errors of both operands
+  sum-near : {z : Float} {Q s : Fraction} → Q -F s within κ *F (nat k *F u) +F κ *F (nat l *F u) → Rounds Q z → (a : ℕ) → s within κ *F nat a → T (leb (k + l + a + 1 + a) (2 ^ 20)) → Near z s κ (k + l + a + 1) a
+  sum-near {z} {Q} {s} e h a w t = rounds-near Q s κ (κ *F (nat k *F u) +F κ *F (nat l *F u)) (k + l) a f e sum-error w (leb→le (k + l + a + 1 + a) (2 ^ 20) t) z h
+
 pub near-add : {x y : Float} {q r κ : Fraction} {k b l c : ℕ} → Near x q κ k b → Near y r κ l c → (a : ℕ) → q +F r within κ *F nat a → T (leb (k + l + a + 1 + a) (2 ^ 20)) → Near (Op._⊕_ x y) (q +F r) κ (k + l + a + 1) a
-near-add {x} {y} {q} {r} {κ} {k} {b} {l} {c} h g a s t =
-    rounds-near (val x +F val y) (q +F r) κ (κ *F (nat k *F u) +F κ *F (nat l *F u)) (k + l) a (h .scale)
-    (within-resp (ring (val x ∷ val y ∷ q ∷ r ∷ []) (search quote depth 24) tt) (within-add (h .error) (g .error)))
-    (sum-error κ k l (h .scale)) s (leb→le (k + l + a + 1 + a) (2 ^ 20) t) (Op._⊕_ x y) (add-rounds x y (h .fine) (g .fine))
+near-add {x} {y} {q} {r} {κ} {k} {b} {l} {c} h g =
+    sum-near κ k l (h .scale) (within-resp (ring (val x ∷ val y ∷ q ∷ r ∷ []) (search quote depth 24) tt) (within-add (h .error) (g .error))) (add-rounds x y (h .fine) (g .fine))
 
 pub near-sub : {x y : Float} {q r κ : Fraction} {k b l c : ℕ} → Near x q κ k b → Near y r κ l c → (a : ℕ) → q -F r within κ *F nat a → T (leb (k + l + a + 1 + a) (2 ^ 20)) → Near (Op._⊖_ x y) (q -F r) κ (k + l + a + 1) a
-near-sub {x} {y} {q} {r} {κ} {k} {b} {l} {c} h g a s t =
-    rounds-near (val x -F val y) (q -F r) κ (κ *F (nat k *F u) +F κ *F (nat l *F u)) (k + l) a (h .scale)
-    (within-resp (ring (val x ∷ val y ∷ q ∷ r ∷ []) (search quote depth 24) tt) (within-add (h .error) (within-neg (g .error))))
-    (sum-error κ k l (h .scale)) s (leb→le (k + l + a + 1 + a) (2 ^ 20) t) (Op._⊖_ x y) (sub-rounds x y (h .fine) (g .fine))
+near-sub {x} {y} {q} {r} {κ} {k} {b} {l} {c} h g =
+    sum-near κ k l (h .scale) (within-resp (ring (val x ∷ val y ∷ q ∷ r ∷ []) (search quote depth 24) tt) (within-add (h .error) (within-neg (g .error)))) (sub-rounds x y (h .fine) (g .fine))
 
 -- ---- products
 crosses : (k l b c : ℕ) → nat (k * c + l * b) ≈F nat k *F nat c +F nat l *F nat b

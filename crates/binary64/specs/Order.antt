@@ -1,12 +1,14 @@
 -- `le` and `lt` of finite floats, by the sizes ±a / c as natural numbers: ±a ≤ ±b is an inequality of naturals for each pair of signs. Assumes nothing.
 use mathlib.Core.Path.{_≡_, sym}
 use mathlib.Core.Logic.{_⊎_, inl, inr}
-use Prim.Native.Nat.{ℕ, _+_, _*_, _≤_, zero-le}
+use Prim.Native.Nat.{ℕ, suc, _^_, _+_, _*_, _≤_, zero-le}
 use native.Mathlib.Nat.{le-of-eq, le-of-lt, lt-of-not-le, eq-or-lt-of-le}
 use native.Mathlib.Omega.{arith}
 use mathlib.Core.Bool.{Bool, true, false, not, _&&_, _||_, true≢false}
 use lib.Dec.{T, ltb, eqb, eqb→eq, ltb→lt, lt→ltb, nltb→le}
-use lib.Ieee.{Float, nan, inf, fin, up, down, le, lt, neg, below, level}
+use lib.IntN.{ℤ, pos, negsuc, natAbs}
+use lib.Ieee.{Float, nan, inf, fin, up, down, binary64, le, lt, neg, ofInt, below, level}
+use lib.Ieee.Back.{round-whole}
 use lib.Ieee.Exact.{HasValue}
 use lib.Ieee.Fits.{and-i, and-l, and-r, eq→eqb}
 use lib.Ieee.Positive.{num, den}
@@ -69,6 +71,16 @@ pub value-cross : (x : Float) (s : Bool) (a c : ℕ) → HasValue x s a c → nu
 value-cross nan s a c h = absurd h
 value-cross (inf t) s a c h = absurd h
 value-cross (fin t m e) s a c h = h .1
+
+-- a whole number up to 2 ^ 53 in size is held
+abbrev pub below-zero : ℤ → Bool
+below-zero (pos n) = false
+below-zero (negsuc n) = true
+
+pub int-value : (z : ℤ) → natAbs z ≤ 2 ^ 53 → HasValue (ofInt binary64 z) (below-zero z) (natAbs z) 1
+unfolding ofInt
+int-value (pos n) h = round-whole binary64 false n h
+int-value (negsuc n) h = round-whole binary64 true (suc n) h
 
 -- ---- the order of finite floats
 pub le→below : (x y : Float) → T (finite x) → T (finite y) → T (le x y) → Below (negative x) (num x * den y) (negative y) (num y * den x)

@@ -7,13 +7,13 @@ use native.Mathlib.Omega.{arith}
 use mathlib.Core.Bool.{Bool, true, false, not, _||_}
 use lib.Dec.{T, ltb, leb, ltb→lt, leb→le}
 use lib.Ieee.{Float, nan, inf, fin, binary64, down, unlike, round, ofInt, le, neg}
-use lib.Ieee.Back.{round-whole}
+use lib.IntN.{ℤ, pos, natAbs}
 use lib.Ieee.Exact.{HasValue}
 use lib.Ieee.Positive.{num, den, den-pos, first-pos, positive, positive-finite, own-value, between}
 use lib.Ieee.Scale.{finite}
 use Rattle.binary64.specs.Operators.{_⊕_, _⊖_, _⊗_, _⊘_, count, negative}
 use Rattle.binary64.specs.Opened.{mul-is, div-is, sub-is, plus, minus, Summed, add-summed}
-use Rattle.binary64.specs.Order.{Below, le→below, between-finite}
+use Rattle.binary64.specs.Order.{Below, le→below, between-finite, below-zero, int-value}
 use Rattle.binary64.specs.Range.{exact, exact-over, Most, Least, Between, Within, Sized, sized, neg-most, neg-least, most-of-le, least-of-le, round-most, round-between}
 use Rattle.binary64.specs.Sign.{neg-num, neg-den, neg-finite, neg-sign}
 
@@ -99,13 +99,11 @@ module _ {x y : Float} {s t : Bool} {A C A' C' B' E' : ℕ} (h : Most x s A C) (
       subst (λ (z : ℕ). num x * den y * H ≤ G * z) (mul-comm (den x) (num y))
       (times-le (num x) (den x) A C (den y) (num y) E' B' G H (h .over) p (h .most) (le-trans (le-of-eq (mul-comm (den y) B')) (le-trans (k .1 .least) (le-of-eq (mul-comm (num y) E')))) (leb→le (A * E' * H) (G * (C * B')) l))
 
-div-most-at : {x y : Float} {s t : Bool} {A C A' C' B' E' : ℕ} → Most x s A C → Between y t A' C' B' E' → 0 < B' → (G H : ℕ) → T (exact G H) → T (leb (A * E' * H) (G * (C * B'))) → Most (x ⊘ y) (unlike s t) G H
-div-most-at {x} {y} {s} {t} h k p G H e l =
+pub div-most : {x y : Float} {s t : Bool} {A C A' C' B' E' : ℕ} → Most x s A C → Between y t A' C' B' E' → (G H : ℕ) → T (ltb 0 B') → T (exact G H) → T (leb (A * E' * H) (G * (C * B'))) → Most (x ⊘ y) (unlike s t) G H
+div-most {x} {y} {s} {t} {B' = B'} h k G H z e l =
+    let p : 0 < B' = ltb→lt 0 B' z in
     subst (λ (z : Float). Most z (unlike s t) G H) (sym (quotient h k p))
     (round-most (unlike s t) (num x * den y) (num y * den x) (mul-pos (divisor-pos h k p) (den-pos x)) G H e (quotient-le h k p G H l))
-
-pub div-most : {x y : Float} {s t : Bool} {A C A' C' B' E' : ℕ} → Most x s A C → Between y t A' C' B' E' → (G H : ℕ) → T (ltb 0 B') → T (exact G H) → T (leb (A * E' * H) (G * (C * B'))) → Most (x ⊘ y) (unlike s t) G H
-div-most {B' = B'} h k G H p e l = div-most-at h k (ltb→lt 0 B' p) G H e l
 
 pub div-between : {x y : Float} {s t : Bool} {A C B E A' C' B' E' : ℕ} → Between x s A C B E → Between y t A' C' B' E' → (G H K J : ℕ) → T (ltb 0 B') → T (exact G H) → T (exact K J)
     → T (leb (A * E' * H) (G * (C * B'))) → T (leb (K * (E * A')) (B * C' * J)) → Between (x ⊘ y) (unlike s t) G H K J
@@ -118,25 +116,15 @@ div-between {x} {y} {s} {t} {A} {C} {B} {E} {A'} {C'} {B'} {E'} h k G H K J z e 
 
 -- ---- ⊕
 -- the size of the sum is at most that of both together; and at least that of the first less that of the second, of the first's sign, where the second is no larger
-size-le : (s t σ : Bool) (p q n : ℕ) → plus s p + plus t q + minus σ n ≡ minus s p + minus t q + plus σ n → n ≤ p + q
-size-le false false false p q n e = omega arith
-size-le false false true p q n e = omega arith
-size-le false true false p q n e = omega arith
-size-le false true true p q n e = omega arith
-size-le true false false p q n e = omega arith
-size-le true false true p q n e = omega arith
-size-le true true false p q n e = omega arith
-size-le true true true p q n e = omega arith
-
-size-ge : (s t σ : Bool) (p q n : ℕ) → plus s p + plus t q + minus σ n ≡ minus s p + minus t q + plus σ n → p ≤ n + q
-size-ge false false false p q n e = omega arith
-size-ge false false true p q n e = omega arith
-size-ge false true false p q n e = omega arith
-size-ge false true true p q n e = omega arith
-size-ge true false false p q n e = omega arith
-size-ge true false true p q n e = omega arith
-size-ge true true false p q n e = omega arith
-size-ge true true true p q n e = omega arith
+sizes : (s t σ : Bool) (p q n : ℕ) → plus s p + plus t q + minus σ n ≡ minus s p + minus t q + plus σ n → (n ≤ p + q) × (p ≤ n + q)
+sizes false false false p q n e = (omega arith, omega arith)
+sizes false false true p q n e = (omega arith, omega arith)
+sizes false true false p q n e = (omega arith, omega arith)
+sizes false true true p q n e = (omega arith, omega arith)
+sizes true false false p q n e = (omega arith, omega arith)
+sizes true false true p q n e = (omega arith, omega arith)
+sizes true true false p q n e = (omega arith, omega arith)
+sizes true true true p q n e = (omega arith, omega arith)
 
 size-alike : (s : Bool) (p q n : ℕ) → plus s p + plus s q + minus s n ≡ minus s p + minus s q + plus s n → p + q ≤ n
 size-alike false p q n e = omega arith
@@ -176,7 +164,7 @@ module _ {x y : Float} {s t : Bool} {A C A' C' : ℕ} (h : Most x s A C) (k : Mo
 
   total-le : (G H : ℕ) → T (leb ((A * C' + A' * C) * H) (G * (C * C'))) → summed .size * H ≤ G * (den x * den y)
   total-le G H l =
-      le-trans (mul-le-mul-right H (size-le s t (summed .sign) (num x * den y) (num y * den x) (summed .size) (summed .adds)))
+      le-trans (mul-le-mul-right H (sizes s t (summed .sign) (num x * den y) (num y * den x) (summed .size) (summed .adds) .0))
       (sum-le (num x) (den x) A C (num y) (den y) A' C' G H (h .over) (k .over) (h .most) (k .most) (leb→le ((A * C' + A' * C) * H) (G * (C * C')) l))
 
   -- of any signs
@@ -202,7 +190,7 @@ add-over {x} {y} {s} {t} {A} {C} {B} {E} {A'} {C'} h k G H K J z e e' l m =
     let o = first-over s K J (den x * den y) (num x * den y) (num y * den x) (dens (h .0) k) (exact-over K J e') z r in
     subst₂ (λ (z : Float) (σ : Bool). Between z σ G H K J) (sym (w .is)) (over-sign s t (w .sign) (num x * den y) (num y * den x) (w .size) (w .adds) (w .alike) (w .zero-sign) (o .0) (o .1))
     (round-between (w .sign) (w .size) (den x * den y) (dens (h .0) k) G H K J e e' (total-le (h .0) k G H l)
-    (left K J (den x * den y) (num x * den y) (num y * den x) (w .size) r (size-ge s t (w .sign) (num x * den y) (num y * den x) (w .size) (w .adds))))
+    (left K J (den x * den y) (num x * den y) (num y * den x) (w .size) r (sizes s t (w .sign) (num x * den y) (num y * den x) (w .size) (w .adds) .1)))
 
 -- ---- ⊖ is ⊕ of the negative
 pub sub-most : {x y : Float} {s t : Bool} {A C A' C' : ℕ} → Most x s A C → Most y t A' C' → (G H : ℕ) → T (exact G H) → T (leb ((A * C' + A' * C) * H) (G * (C * C'))) → Sized (x ⊖ y) G H
@@ -223,18 +211,20 @@ sub-unlike {x} {y} {s} {A' = A'} {C'} {B'} {E'} h k G H K J e e' l m =
     twice true = refl
     twice false = refl
 
--- ---- whole numbers up to 2 ^ 53, and quotients by them
-whole-within : (x : Float) (k A B : ℕ) → HasValue x false k 1 → k ≤ A → B ≤ k → Within x A 1 B 1
-whole-within nan k A B v h l = absurd v
-whole-within (inf s) k A B v h l = absurd v
-whole-within (fin s m e) k A B v h l = (
+-- ---- whole numbers up to 2 ^ 53 in size, and quotients by them
+whole-between : (x : Float) (s : Bool) (k A B : ℕ) → HasValue x s k 1 → k ≤ A → B ≤ k → Between x s A 1 B 1
+whole-between nan s k A B v h l = absurd v
+whole-between (inf t) s k A B v h l = absurd v
+whole-between (fin t m e) s k A B v h l = (
   record { over = zero-lt-suc 0; fine = tt; sign = v .0; most = le-trans (le-of-eq (v .1)) (mul-le-mul-right (down e) h) },
   record { over = zero-lt-suc 0; least = le-trans (mul-le-mul-right (down e) l) (le-of-eq (sym (v .1))) },
 )
 
+pub int-between : (z : ℤ) (A B : ℕ) → natAbs z ≤ A → B ≤ natAbs z → natAbs z ≤ 2 ^ 53 → Between (ofInt binary64 z) (below-zero z) A 1 B 1
+int-between z A B h l m = whole-between (ofInt binary64 z) (below-zero z) (natAbs z) A B (int-value z m) h l
+
 pub count-within : (k A B : ℕ) → k ≤ A → B ≤ k → k ≤ 2 ^ 53 → Within (count k) A 1 B 1
-unfolding ofInt
-count-within k A B h l m = whole-within (round binary64 false k 1) k A B (round-whole binary64 false k m) h l
+count-within k A B h l m = int-between (pos k) A B h l m
 
 unlike-plus : (s : Bool) → unlike s false ≡ s
 unlike-plus true = refl
