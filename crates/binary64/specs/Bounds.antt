@@ -1,30 +1,30 @@
 -- Bounds on values that rounding keeps: a power of 2 on either side, and a float that binary64 holds. And the ranges of `Range` as bounds on the value. Assumes nothing.
-use mathlib.Core.Path.{_≡_, refl, sym, ap, _∙_, subst}
+use mathlib.Core.Path.{_≡_, refl, sym, ap, subst}
 use mathlib.Core.List.{[], _∷_}
 use Prim.Native.Nat.{ℕ, zero, suc, _+_, _*_, _^_, _≤_, _<_}
-use native.Mathlib.Nat.{le-trans, le-of-eq, mul-one, one-mul, mul-pos, lt-of-lt-of-le, mul-le-mul-left, mul-le-mul-right}
+use native.Mathlib.Nat.{le-trans, le-of-eq, mul-one, one-mul, lt-of-lt-of-le, mul-le-mul-left}
 use native.Mathlib.Omega.{arith}
-use mathlib.Core.Bool.{Bool, true, false}
-use lib.Dec.{T, leb, ltb, lit<, leb→le, le→leb, lt→ltb, lit≤}
-use lib.IntN.{ℤ, pos, negsuc}
+use mathlib.Core.Bool.{Bool, false}
+use lib.Dec.{T, leb, ltb, lit<, leb→le, le→leb, lt→ltb}
+use lib.IntN.{pos, negsuc}
 use lib.Pow.{pow-pos, pow-mono, pow-lt}
 use lib.Ieee.{Float, fin, binary64, neg, fits}
 use lib.Ieee.Fits.{and-i, neg-fits}
 use lib.Ieee.Positive.{num, den, den-pos, through}
 use lib.Ieee.Scale.{finite}
-use Rattle.fraction.specs.Fraction.{Fraction, whole, nat, pow2, _+F_, negF, _-F_, _*F_, _≈F_, _≤F_, _within_}
-use Rattle.fraction.specs.Field.{nn-natF, ≈F-refl, ≈F-sym, ≤F-of-≈F, ≤F-trans, negF-cong}
-use Rattle.fraction.specs.Certificate.{quote, ring, le-by, within-by, up as gap, hi, lo, eqn, _⊞_, _⊠_, _·_}
+use Rattle.fraction.specs.Fraction.{Fraction, whole, nat, pow2, negF, _*F_, _≈F_, _within_}
+use Rattle.fraction.specs.Field.{nn-natF, ≈F-sym, ≤F-of-≈F, ≤F-trans}
+use Rattle.fraction.specs.Certificate.{quote, le-by, up as gap, hi, lo, eqn, _⊞_, _⊠_, _·_}
 use Rattle.fraction.specs.Inverse.{inv-nn, mul-cancel}
-use Rattle.fraction.specs.Order.{≤F-resp, pow2-pos, pow2-add, mul-mono, ≤F-refl}
+use Rattle.fraction.specs.Order.{pow2-pos, pow2-add}
 use Rattle.fraction.specs.Size.{Size, size-pos, size-mul, size-inv}
 use Rattle.fraction.specs.Within.{within-weaken, within-self, within-mul}
 use Rattle.binary64.specs.Operators.{_⊗_, _⊘_, negative}
-use Rattle.binary64.specs.OrderLaws.{Kept, stays, positive-num}
-use Rattle.binary64.specs.Range.{Most, Least, Within, Sized}
+use Rattle.binary64.specs.OrderLaws.{stays, positive-num}
+use Rattle.binary64.specs.Range.{Most, Within, Sized}
 use Rattle.binary64.specs.Rounds.{Rounds, mul-rounds, div-rounds}
 use Rattle.binary64.specs.Sign.{neg-finite}
-use Rattle.binary64.specs.Value.{ratio, signed, val, val-is, val-neg, ratio-le, ratio-nn, ratio-same, signed-within, signed-size}
+use Rattle.binary64.specs.Value.{ratio, val, val-is, val-neg, ratio-le, ratio-nn, ratio-same, signed-within, signed-size}
 
 -- r is finite, and |r| ≤ B
 pub record Bounded (r : Float) (B : Fraction) : Type 0 where

@@ -6,7 +6,7 @@ use mathlib.Core.Logic.{inl, inr}
 use Prim.Native.Nat.{ℕ, _+_, _*_, _^_, _≤_, _<_}
 use native.Mathlib.Nat.{le-trans, le-of-eq, mul-one, one-mul, mul-comm, mul-assoc, mul-left-comm, add-mul, mul-le-mul-right}
 use native.Mathlib.Omega.{arith}
-use mathlib.Core.Bool.{Bool, true, false}
+use mathlib.Core.Bool.{Bool}
 use lib.Dec.{T}
 use lib.IntN.{pos}
 use lib.Pow.{pow-pos}
@@ -17,7 +17,7 @@ use lib.Ieee.Order.{drop, kept}
 use lib.Ieee.Scale.{finite, grid, round-under}
 use Rattle.fraction.specs.Fraction.{Fraction, whole, nat, pow2, frac, _+F_, negF, _-F_, _*F_, _≈F_, _≤F_, _within_}
 use Rattle.fraction.specs.Field.{≈F-sym, ≈F-trans, +F-cong, negF-cong, ≤F-of-≈F, ≤F-trans}
-use Rattle.fraction.specs.Certificate.{quote, le-by, within-by, up, hi, lo, num, eqn, _⊞_, _⊠_, _·_}
+use Rattle.fraction.specs.Certificate.{quote, within-by, up, num, eqn, _⊞_, _⊠_, _·_}
 use Rattle.fraction.specs.Inverse.{mul-cancel}
 use Rattle.fraction.specs.Order.{pow2-pos}
 use Rattle.fraction.specs.Size.{Size}
@@ -26,7 +26,7 @@ use Rattle.binary64.specs.Nearest.{unit, unit-cases, grid-half}
 use Rattle.binary64.specs.Range.{round-most}
 use Rattle.binary64.specs.Rounds.{Rounds}
 use Rattle.binary64.specs.Sign.{round-finite}
-use Rattle.binary64.specs.Value.{ratio, signed, val, value-is, signed-within, signed-size, signed-sub}
+use Rattle.binary64.specs.Value.{ratio, val, value-is, signed-within, signed-size, signed-sub}
 
 -- 2 ^ -53
 unfoldable pub u : Fraction
