@@ -17,8 +17,8 @@ use Rattle.binary64.specs.Operators.{_⊕_, _⊖_, _⊗_, _⊘_, f64}
 use Rattle.binary64.specs.Error.{u, Close, rounding-error}
 use Rattle.binary64.specs.Near.{Fair, Near, exact, near-mul, near-div}
 use Rattle.binary64.specs.OrderLaws.{Kept, stays, mul-le}
-use Rattle.binary64.specs.Range.{Within}
-use Rattle.binary64.specs.RangeOps.{mul-between, sub-over, literal, tested-within}
+use Rattle.binary64.specs.Range.{Within, literal, tested-within}
+use Rattle.binary64.specs.RangeOps.{mul-between, sub-over}
 use Rattle.binary64.specs.Rounds.{add-rounds, div-rounds}
 use Rattle.binary64.specs.Value.{val}
 

@@ -3,7 +3,8 @@
 -- What is defined
 --   Operators   x ⊕ y, x ⊖ y, x ⊗ y, x ⊘ y, each one operation, so one rounding; `f64 bits` a literal, `count n` a whole number, `negative x` the sign
 --   Range       `Most x s A C`: finite, of the sign s, |x| ≤ A / C.  `Least x B E`: |x| ≥ B / E.  `Between x s A C B E` both, `Within` of the sign +, `Sized` of any sign.
---               `exact A C`: A / C is a value of binary64, a test that computes
+--               `exact A C`: A / C is a value of binary64, a test that computes. Ranges start from int-between and count-within for whole numbers, tested-within and tested-sized
+--               from a program's comparisons, literal for closed floats; most-wider and least-wider widen them
 --   Value       `val x`: the value of a finite float as a fraction (0 for a NaN and an infinity)
 --   Rounds      `Rounds Q r`: r is the fraction Q rounded
 --   Error       `Close r Q E`: r is finite and |val r − Q| ≤ E;  `u` = 2 ^ -53
@@ -11,8 +12,8 @@
 --   Near        `Near x q κ k b`: finite, |val x − q| ≤ k · κ · u and |q| ≤ b · κ, for a scale κ that is `Fair` (from 2 ^ -1000 to 2 ^ 900)
 --
 -- What is proved
---   RangeOps    the range of each operation's result from those of its operands: mul-, div-, add-, sub- with -most (|x| ≤), -between, -alike (one sign), -over (the first operand is the larger);
---               div-count, int-between and count-within for whole numbers; tested-within and tested-sized from a program's comparisons; literal for closed floats
+--   RangeOps    the range of each operation's result from those of its operands: mul-, div-, add-, sub- with -between, -most (|x| ≤ only), -alike (one sign),
+--               -over (the first operand is the larger), and div-count by a whole number
 --   Value       le-val, val-le, lt-val, val-lt: the order of finite floats is that of their values;  val-neg;  int-val: whole numbers up to 2 ^ 53 are held
 --   Rounds      add-, sub-, mul-, div-rounds: each operation rounds its exact result;  held: a float that binary64 holds is its own value rounded
 --   Error       rounding-error: for any A from 2 ^ -1022 to 2 ^ 1023 with |Q| ≤ A, Q rounded is finite and within A · u of Q, subnormal results included
