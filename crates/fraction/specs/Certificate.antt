@@ -30,7 +30,16 @@ module _ {ρ : List Fraction} where
   abbrev pub q-whole : {z : ℤ} → Number z → Quoted Fring ρ (whole z)
   q-whole {z} n = record { ex = con z; is = refl }
 
-pub ruleset quote = (q-var, variables, q-add, q-mul, q-neg, q-whole, number)
+  abbrev pub q₂ : {x y : Fraction} → Quoted Fring ρ x → Quoted Fring ρ y → Quoted₂ Fring ρ x y
+  q₂ p q = record { one = p; two = q }
+
+  abbrev pub q₃ : {x y z : Fraction} → Quoted Fring ρ x → Quoted Fring ρ y → Quoted Fring ρ z → Quoted₃ Fring ρ x y z
+  q₃ p q r = record { one = p; two = q; three = r }
+
+  abbrev pub q₄ : {x y z w : Fraction} → Quoted Fring ρ x → Quoted Fring ρ y → Quoted Fring ρ z → Quoted Fring ρ w → Quoted₄ Fring ρ x y z w
+  q₄ p q r s = record { one = p; two = q; three = r; four = s }
+
+pub ruleset quote = (q₂, q₃, q₄, q-var, variables, q-add, q-mul, q-neg, q-whole, number)
 
 -- ---- an identity
 pub ring : (ρ : List Fraction) {x y : Fraction} (s : Quoted₂ Fring ρ x y) → Vanish (len ρ) (norm (len ρ) (s .one .ex ⊖ s .two .ex)) → x ≈F y
