@@ -1,13 +1,13 @@
 -- One line for an identity or an inequality of fractions; specs/Lib.antt says how it is written.
-use mathlib.Core.Path.{_≡_, refl, ap, ap₂}
+use mathlib.Core.Path.{refl, ap, ap₂}
 use mathlib.Core.List.{List, [], _∷_}
-use mathlib.Core.Logic.{_⊎_, inl, inr}
-use Prim.Native.Nat.{ℕ, suc}
-use lib.IntN.{ℤ, pos, negsuc}
-use Rattle.fraction.specs.Ring.{Ex, con, _⊕_, _⊖_, _⊗_, ⊝, len, Vanish, norm}
-use Rattle.fraction.specs.Quote.{At, Quoted, Quoted₂, Quoted₃, Quoted₄, variable, variables, solved, Fits, fits, certified, Balances, balanced, multiple, both}
-use Rattle.fraction.specs.Fraction.{Fraction, whole, nat, _+F_, negF, _-F_, _*F_, _≈F_, _≤F_, _<F_, _within_}
-use Rattle.fraction.specs.Field.{Fring, Ford, ≤F-of-≈F, to-gap, nn-addF, nn-mulF, nn-natF, lt-not-le, le-or-lt, lt-of-not-le, le-of-lt}
+use mathlib.Core.Logic.{inl, inr}
+use Prim.Native.Nat.{ℕ}
+use lib.IntN.{ℤ}
+use Rattle.fraction.specs.Ring.{con, _⊕_, _⊖_, _⊗_, ⊝, len, Vanish, norm}
+use Rattle.fraction.specs.Quote.{At, Quoted, Quoted₂, Quoted₃, Quoted₄, variable, variables, solved, Fits, certified, Balances, balanced, multiple, both}
+use Rattle.fraction.specs.Fraction.{Fraction, whole, nat, _+F_, negF, _-F_, _*F_, _≈F_, _≤F_, _within_}
+use Rattle.fraction.specs.Field.{Fring, Ford, ≤F-of-≈F, to-gap, nn-addF, nn-mulF, nn-natF, le-or-lt, le-of-lt}
 
 -- ---- reading a fraction's expression back
 -- (a whole number takes as many rules as a variable does, which stands before it: `nat n` with n open can be a variable)
@@ -99,8 +99,3 @@ eq-by ρ h s t = balanced Fring ρ h s t
 
 pub eqn : {c : Fraction} → nat 0 ≈F c → nat 0 ≤F c
 eqn h = ≤F-of-≈F h
-
--- ---- x < y: (k + 1) · (y − x) is above 0
-pub lt-by : (ρ : List Fraction) (k : ℕ) {c x y : Fraction} → nat 0 <F c → (s : Quoted₃ Fring ρ c x y) → Fits Fring (len ρ) k (s .one .ex) (s .two .ex) (s .three .ex) → x <F y
-lt-by ρ k {c} {x} {y} h s t = lt-of-not-le (λ (l : y ≤F x). lt-not-le h
-    (le-by (c ∷ x ∷ y ∷ nat (suc k) ∷ []) 0 (num (suc k) ⊠ up l ⊞ eqn (nat 1 · fits Fring ρ k s t)) (search quote depth 24) tt))

@@ -1,11 +1,10 @@
 -- The automation at work: an identity, an inequality, a bound, an equation from equations, and closed fractions.
-use mathlib.Core.List.{List, [], _∷_}
-use Prim.Native.Nat.{_^_}
+use mathlib.Core.List.{[], _∷_}
 use lib.IntN.{pos, negsuc}
-use Rattle.fraction.specs.Fraction.{Fraction, whole, nat, pow2, frac, _+F_, negF, _-F_, _*F_, _/F_, inv, turned, _≈F_, _≤F_, _<F_, _within_}
-use Rattle.fraction.specs.Certificate.{quote, ring, le-by, within-by, eq-by, up, hi, lo, num, sq, eqn, _⊞_, _⊠_, _·_, _&_}
-use Rattle.fraction.specs.Order.{lit≤F, lit<F}
-use Rattle.fraction.specs.Inverse.{mul-inv, inv-nn}
+use Rattle.fraction.specs.Fraction.{Fraction, whole, nat, frac, _+F_, _-F_, _*F_, _/F_, inv, turned, _≈F_, _≤F_, _<F_, _within_}
+use Rattle.fraction.specs.Certificate.{quote, ring, le-by, within-by, eq-by, up, hi, lo, num, _⊞_, _⊠_, _·_}
+use Rattle.fraction.specs.Order.{lit≤F}
+use Rattle.fraction.specs.Inverse.{mul-inv}
 
 cubes : (x y : Fraction) → (x +F y) *F (x *F x -F x *F y +F y *F y) ≈F x *F x *F x +F y *F y *F y
 cubes x y = ring (x ∷ y ∷ []) (search quote depth 24) tt

@@ -1,10 +1,10 @@
 -- Reading a term of a ring back as a polynomial in named terms ("variables"): `search` finds the polynomial, so that a proof does not write it.
 -- Then an equation is shown by the solver, and x ≤ y by a certificate: a term c, shown to be at least 0, that is a multiple of y − x.
-use mathlib.Core.Path.{_≡_, refl, ap, ap₂, subst₂}
+use mathlib.Core.Path.{_≡_, refl, ap₂, subst₂}
 use mathlib.Core.List.{List, [], _∷_}
 use Prim.Native.Nat.{ℕ, suc}
-use lib.IntN.{ℤ, pos}
-use Rattle.fraction.specs.Ring.{CRing, Ex, var, con, _⊕_, _⊖_, _⊗_, ⊝, len, nth, den, Vanish, norm, solve}
+use lib.IntN.{pos}
+use Rattle.fraction.specs.Ring.{CRing, Ex, var, con, _⊕_, _⊖_, _⊗_, len, nth, den, Vanish, norm, solve}
 
 pub record Ordered (A : CRing) : Type 1 where
   pub le : A .R → A .R → Type 0
@@ -104,7 +104,7 @@ module _ (A : CRing) where
   abbrev pub Fits : ℕ → ℕ → Ex → Ex → Ex → Type 0
   Fits n k C P Q = Vanish n (norm n (C ⊖ con (pos (suc k)) ⊗ (Q ⊖ P)))
 
-  pub fits : (ρ : List R) (k : ℕ) {c x y : R} (s : Quoted₃ A ρ c x y) → Fits (len ρ) k (s .one .ex) (s .two .ex) (s .three .ex) → eq c (mul (of (pos (suc k))) (add y (neg x)))
+  fits : (ρ : List R) (k : ℕ) {c x y : R} (s : Quoted₃ A ρ c x y) → Fits (len ρ) k (s .one .ex) (s .two .ex) (s .three .ex) → eq c (mul (of (pos (suc k))) (add y (neg x)))
   fits ρ k s t = subst₂ eq (s .one .is) (ap₂ (λ (a b : R). mul (of (pos (suc k))) (add a (neg b))) (s .three .is) (s .two .is)) (solve A ρ (s .one .ex) (con (pos (suc k)) ⊗ (s .three .ex ⊖ s .two .ex)) t)
 
   -- x ≤ y by a certificate
