@@ -21,7 +21,8 @@
 --   Examples           the lines below, closed numbers, and instances that meet the laws' premises
 --
 -- USED (Certificate): each identity or inequality is one line. It lists the terms that count as variables (at most 16; any terms, such as
--- `inv y` or `nat n`), and `search quote depth 24` reads the rest back as polynomials in them.
+-- `inv y` or `nat n`), and `search quote depth 24` reads the rest back as polynomials in them. Numbers that are written out need no listing,
+-- and `nat (a + b)`, `nat (a * b)` are taken apart.
 --   an identity
 --     ring (x ∷ y ∷ []) (search quote depth 24) tt
 --   x ≤F y: a certificate, which is a term shown to be at least 0 that equals (k + 1) · (y − x); here k is 0
