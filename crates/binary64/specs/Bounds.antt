@@ -18,7 +18,7 @@ use Rattle.fraction.specs.Certificate.{quote, le-by, up as gap, hi, lo, eqn, _�
 use Rattle.fraction.specs.Inverse.{inv-nn, mul-cancel}
 use Rattle.fraction.specs.Order.{pow2-pos, pow2-add}
 use Rattle.fraction.specs.Size.{Size, size-pos, size-mul, size-inv}
-use Rattle.fraction.specs.Within.{within-weaken, within-self, within-mul}
+use Rattle.fraction.specs.Within.{within-resp, within-weaken, within-neg, within-self, within-mul}
 use Rattle.binary64.specs.Operators.{_⊗_, _⊘_, negative}
 use Rattle.binary64.specs.OrderLaws.{stays, positive-num}
 use Rattle.binary64.specs.Range.{Most, Within, Sized}
@@ -30,6 +30,9 @@ use Rattle.binary64.specs.Value.{ratio, val, val-is, val-neg, ratio-le, 
 pub record Bounded (r : Float) (B : Fraction) : Type 0 where
   pub fine : T (finite r)
   pub size : val r within B
+
+pub neg-bounded : {x : Float} {B : Fraction} → Bounded x B → Bounded (neg x) B
+neg-bounded {x} h = record { fine = rw (neg-finite x) (h .fine); size = within-resp (≈F-sym (val-neg x)) (within-neg (h .size)) }
 
 -- ---- by a float
 pub rounds-bounded : {Q : Fraction} {r : Float} (h : Float) → Rounds Q r → T (finite h) → T (fits binary64 h) → Q within val h → Bounded r (val h)

@@ -95,6 +95,11 @@ not-lower : val (smallest ⊗ f64 0x3fe8_0000_0000_0000) -F val smallest *F val 
 unfolding ofBits mul val _+F_ _*F_ negF u
 not-lower h = lt-not-le (lit<F tt) (h .hi)
 
+-- nor is a sum free of an error of its own
+not-free : Near (one ⊕ speck) (val one +F val speck) (nat 1) 0 2 → ⊥
+unfolding ofBits add val whole _+F_ _*F_ negF u
+not-free h = lt-not-le (lit<F tt) (h .error .lo)
+
 -- ---- ranges: 2 ^ -600 · 2 ^ -470 is subnormal; 1 - x for x tested from 1e-3 to 1 is from 0 to 1
 product-range : Within (fin false 1 (negsuc 599) ⊗ fin false 1 (negsuc 469)) 1 (2 ^ 1070) 1 (2 ^ 1070)
 product-range = mul-between (literal (fin false 1 (negsuc 599)) 1 (2 ^ 600) 1 (2 ^ 600) tt tt tt tt tt) (literal (fin false 1 (negsuc 469)) 1 (2 ^ 470) 1 (2 ^ 470) tt tt tt tt tt) 1 (2 ^ 1070) 1 (2 ^ 1070) tt tt tt tt

@@ -7,7 +7,7 @@ use native.Mathlib.Nat.{le-refl, mul-le-mul}
 use native.Mathlib.Omega.{arith}
 use lib.Dec.{T, leb, ltb, leb→le, ltb→lt, lit≤}
 use lib.IntN.{pos}
-use lib.Ieee.{Float}
+use lib.Ieee.{Float, neg}
 use lib.Ieee.Scale.{finite}
 use Rattle.fraction.specs.Fraction.{Fraction, whole, nat, frac, _+F_, negF, _-F_, _*F_, _/F_, inv, _≈F_, _≤F_, _<F_, _within_}
 use Rattle.fraction.specs.Field.{≤F-of-≈F, nn-natF, lt-not-le, lt-of-not-le, le-of-lt}
@@ -20,7 +20,8 @@ use Rattle.binary64.specs.Operators as Op
 use Rattle.binary64.specs.Error.{u, u-nn, rounding-error}
 use Rattle.binary64.specs.OrderLaws.{positive-num}
 use Rattle.binary64.specs.Rounds.{Rounds, add-rounds, sub-rounds, mul-rounds, div-rounds}
-use Rattle.binary64.specs.Value.{val}
+use Rattle.binary64.specs.Sign.{neg-finite}
+use Rattle.binary64.specs.Value.{val, val-neg}
 
 -- scales from 2 ^ -1000 to 2 ^ 900
 abbrev pub Fair : Fraction → Type 0
@@ -104,6 +105,15 @@ near-resp {x} {q} {r} {κ} {k} {b} e h = record {
   fine = h .fine;
   error = within-by (val x ∷ q ∷ r ∷ (κ *F (nat k *F u)) ∷ []) 0 (hi (h .error) ⊞ eqn (nat 1 · e)) (lo (h .error) ⊞ eqn (negF (nat 1) · e)) (search quote depth 24) tt tt;
   size = within-resp e (h .size);
+  scale = h .scale;
+  few = h .few;
+}
+
+pub near-neg : {x : Float} {q κ : Fraction} {k b : ℕ} → Near x q κ k b → Near (neg x) (negF q) κ k b
+near-neg {x} {q} {κ} {k} {b} h = record {
+  fine = rw (neg-finite x) (h .fine);
+  error = within-by (val x ∷ val (neg x) ∷ q ∷ (κ *F (nat k *F u)) ∷ []) 0 (lo (h .error) ⊞ eqn (nat 1 · val-neg x)) (hi (h .error) ⊞ eqn (negF (nat 1) · val-neg x)) (search quote depth 24) tt tt;
+  size = within-neg (h .size);
   scale = h .scale;
   few = h .few;
 }

@@ -2,7 +2,7 @@
 -- `Most x s A C`: x is finite, has the sign s, and is at most A / C in size. `Least x B E`: it is at least B / E in size. Assumes nothing.
 use mathlib.Core.Path.{_≡_, refl, sym, ap, _∙_, subst, subst₂}
 use Prim.Native.Nat.{ℕ, zero, suc, _+_, _*_, _/_, _^_, _≤_, _<_, zero-le}
-use native.Mathlib.Nat.{le-trans, le-of-eq, le-refl, zero-mul, zero-lt-suc, mul-le-mul-right}
+use native.Mathlib.Nat.{le-trans, le-of-eq, zero-mul, zero-lt-suc, mul-le-mul-right}
 use mathlib.Core.Bool.{Bool, true, false, not, _&&_, cond}
 use lib.Dec.{T, ltb, leb, eqb, ltb→lt, leb→le, eqb→eq}
 use lib.IntN.{ℤ, pos, natAbs}

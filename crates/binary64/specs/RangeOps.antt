@@ -2,20 +2,15 @@
 -- `tt` proves them. Of `Between x s A C B E` the size of x is from B / E to A / C, and its sign is s. Assumes nothing.
 use mathlib.Core.Path.{_≡_, refl, sym, ap₂, subst, subst₂}
 use Prim.Native.Nat.{ℕ, _+_, _*_, _^_, _≤_, _<_, zero-le}
-use native.Mathlib.Nat.{le-trans, le-of-eq, le-refl, lt-of-lt-of-le, lt-of-mul-lt-mul-right, mul-pos, mul-comm, mul-assoc, mul-left-comm, mul-right-comm, mul-mul-mul-comm, add-mul, mul-add, zero-mul, mul-le-mul, mul-le-mul-right, le-of-mul-le-mul-right, zero-lt-suc}
+use native.Mathlib.Nat.{le-trans, le-of-eq, le-refl, lt-of-lt-of-le, lt-of-mul-lt-mul-right, mul-pos, mul-comm, mul-assoc, mul-left-comm, add-mul, mul-add, zero-mul, mul-le-mul, mul-le-mul-right, le-of-mul-le-mul-right}
 use native.Mathlib.Omega.{arith}
 use mathlib.Core.Bool.{Bool, true, false, not, _||_}
 use lib.Dec.{T, ltb, leb, ltb→lt, leb→le, le→leb}
-use lib.Ieee.{Float, nan, inf, fin, binary64, down, unlike, round, ofInt, le, neg}
-use lib.IntN.{ℤ, pos, natAbs}
-use lib.Ieee.Exact.{HasValue}
-use lib.Ieee.Positive.{num, den, den-pos, first-pos, positive, positive-finite, own-value, between}
-use lib.Ieee.Scale.{finite}
+use lib.Ieee.{Float, binary64, unlike, neg}
+use lib.Ieee.Positive.{num, den, den-pos, first-pos}
 use Rattle.binary64.specs.Operators.{_⊕_, _⊖_, _⊗_, _⊘_, count, negative}
 use Rattle.binary64.specs.Opened.{mul-is, div-is, sub-is, plus, minus, Summed, add-summed}
-use Rattle.binary64.specs.Order.{Below, le→below, between-finite, below-zero, int-value}
-use Rattle.binary64.specs.Range.{exact, exact-over, least-zero, count-within, Most, Least, Between, Within, Sized, sized, neg-most, neg-least, most-of-le, least-of-le, round-most, round-between}
-use Rattle.binary64.specs.Sign.{neg-num, neg-den, neg-finite, neg-sign}
+use Rattle.binary64.specs.Range.{exact, exact-over, least-zero, count-within, Most, Between, Sized, sized, neg-most, neg-least, round-most, round-between}
 
 -- ---- products and sums of fractions of naturals: with x / p ≤ A / C and y / q ≤ B / D
 ruleset ac = (add-mul, mul-add, mul-assoc, mul-comm, mul-left-comm)
