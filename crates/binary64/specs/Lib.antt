@@ -12,7 +12,7 @@
 --   Near        `Near x q κ k b`: finite, |val x − q| ≤ k · κ · u and |q| ≤ b · κ, for a scale κ that is `Fair` (from 2 ^ -1000 to 2 ^ 900)
 --
 -- What is proved
---   RangeOps    the range of each operation's result from those of its operands: mul-, div-, add-, sub- with -between, -most (|x| ≤ only), -alike (one sign),
+--   RangeOps    the range of each operation's result from those of its operands: mul-, div-, add-, sub- with -between, -most (|x| ≤ only), -alike and -unlike (one sign, or opposite ones),
 --               -over (the first operand is the larger), and div-count by a whole number
 --   Value       le-val, val-le, lt-val, val-lt: the order of finite floats is that of their values;  val-neg;  int-val: whole numbers up to 2 ^ 53 are held
 --   Rounds      add-, sub-, mul-, div-rounds: each operation rounds its exact result;  held: a float that binary64 holds is its own value rounded

@@ -3,6 +3,7 @@
 use mathlib.Core.Path.{_≡_, refl, sym, ap, _∙_, subst, subst₂}
 use Prim.Native.Nat.{ℕ, zero, suc, _+_, _*_, _/_, _^_, _≤_, _<_, zero-le}
 use native.Mathlib.Nat.{le-trans, le-of-eq, zero-mul, zero-lt-suc, mul-le-mul-right}
+use native.Mathlib.Omega.{arith}
 use mathlib.Core.Bool.{Bool, true, false, not, _&&_, cond}
 use lib.Dec.{T, ltb, leb, eqb, ltb→lt, leb→le, eqb→eq}
 use lib.IntN.{ℤ, pos, natAbs}
@@ -163,19 +164,18 @@ tested-within lo x hi p q h k =
     let s = positive-sign x r in
     (most-of-le x hi (num hi) (den hi) s (den-pos hi) (own-value hi q) k, least-of-le lo x (num lo) (den lo) s (positive-finite x r) (den-pos lo) (own-value lo p) h)
 
-pub tested-sized : (x hi : Float) → T (positive hi) → T (le (neg hi) x) → T (le x hi) → Sized x (num hi) (den hi)
-tested-sized x hi q h k =
-    let p = positive-finite hi q in
-    let n : T (finite (neg hi)) = rw (neg-finite hi) p in
-    let r = between-finite (neg hi) x hi n p h k in
-    let lo : Below true (num hi * den x) (negative x) (num x * den hi) =
-    rw (neg-num hi, neg-den hi) at (rw (neg-sign hi p, positive-sign hi q) at (le→below (neg hi) x n r h)) in
-    let up : Below (negative x) (num x * den hi) false (num hi * den x) = rw (positive-sign hi q) at (le→below x hi r p k) in
-    record { over = den-pos hi; fine = r; sign = refl; most = both (negative x) (num x * den hi) (num hi * den x) lo up }
+-- lo is no larger in size than hi: -hi, or a zero
+pub tested-sized : (lo x hi : Float) → T (finite lo) → T (positive hi) → T (leb (num lo * den hi) (num hi * den lo)) → T (le lo x) → T (le x hi) → Sized x (num hi) (den hi)
+tested-sized lo x hi p q l h k =
+    let f = positive-finite hi q in
+    let r = between-finite lo x hi p f h k in
+    let up : Below (negative x) (num x * den hi) false (num hi * den x) = rw (positive-sign hi q) at (le→below x hi r f k) in
+    record { over = den-pos hi; fine = r; sign = refl; most = both (negative lo) (negative x) (le→below lo x p r h) up }
   where
-    both : (s : Bool) (a b : ℕ) → Below true b s a → Below s a false b → a ≤ b
-    both true a b h k = h
-    both false a b h k = k
+    both : (t s : Bool) → Below t (num lo * den x) s (num x * den lo) → Below s (num x * den hi) false (num hi * den x) → num x * den hi ≤ num hi * den x
+    both t false h k = k
+    both false true h k = through (num x) (num lo) (num hi) (den x) (den lo) (den hi) (den-pos lo) (omega arith) (leb→le (num lo * den hi) (num hi * den lo) l)
+    both true true h k = through (num x) (num lo) (num hi) (den x) (den lo) (den hi) (den-pos lo) h (leb→le (num lo * den hi) (num hi * den lo) l)
 
 pub literal : (x : Float) (A C B E : ℕ) → T (finite x) → T (ltb 0 C) → T (ltb 0 E) → T (leb (num x * C) (A * den x)) → T (leb (B * den x) (num x * E)) → Between x (negative x) A C B E
 literal x A C B E p c e h k = (
