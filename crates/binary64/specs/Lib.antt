@@ -19,7 +19,7 @@
 --   Error       rounding-error: for any A from 2 ^ -1022 to 2 ^ 1023 with |Q| ≤ A, Q rounded is finite and within A · u of Q, subnormal results included
 --   OrderLaws   (and neg-le of Order) rounds-le: rounding keeps the order;  stays: it never crosses a float that binary64 holds;  rounds-nonneg, rounds-nonpos;  add-, sub-, mul-, div-le and mul-, div-ge
 --   Bounds      rounds-bounded, bounded-pow, rounds-scaled: rounding keeps bounds that are floats or powers of 2;  scaled- and bounded-mul, -div;  most-bounded, bounded-most, within-scaled join Range and Value
---   Near        exact, rescale, near-neg, near-add, near-sub, near-mul, near-div, near-factor (an exact factor that may be tiny): an error bound carried through each operation, one rounding more each time
+--   Near        exact, near-own, near-count (where chains start), fair, rescale, near-neg, near-add, near-sub, near-mul, near-div, near-factor (an exact factor that may be tiny): an error bound carried through each operation, one rounding more each time
 --
 -- How to use it (Examples has these lines in full, Instances closed floats at which the premises hold)
 --   a range     add-over (literal one 1 1 1 1 tt tt tt tt tt) (div-count (mul-most a y 1 32 tt tt) k 1 1 32 l m tt tt tt) 33 32 31 32 tt tt tt tt tt

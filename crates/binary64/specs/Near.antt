@@ -10,18 +10,19 @@ use lib.IntN.{pos}
 use lib.Ieee.{Float, neg}
 use lib.Ieee.Scale.{finite}
 use Rattle.fraction.specs.Fraction.{Fraction, whole, nat, frac, _+F_, negF, _-F_, _*F_, _/F_, inv, _≈F_, _≤F_, _<F_, _within_}
-use Rattle.fraction.specs.Field.{≤F-of-≈F, nn-natF, lt-not-le, lt-of-not-le, le-of-lt}
+use Rattle.fraction.specs.Field.{≈F-refl, ≤F-of-≈F, nn-natF, lt-not-le, lt-of-not-le, le-of-lt}
 use Rattle.fraction.specs.Certificate.{quote, ring, le-by, within-by, eq-by, up, hi, lo, num, eqn, _⊞_, _⊠_, _·_, _&_}
 use Rattle.fraction.specs.Inverse.{mul-inv, inv-nn, mul-cancel, quotient-error}
 use Rattle.fraction.specs.Order.{nat-lt, nat-+, nat-*}
-use Rattle.fraction.specs.Size.{Size, size-pos, size-mul, size-wider}
+use Rattle.fraction.specs.Size.{Size, size-pos, size-nat, size-mul, size-wider}
 use Rattle.fraction.specs.Within.{within-nn, within-self, within-weaken, within-resp, within-neg, within-add, within-mul, product-error}
 use Rattle.binary64.specs.Operators as Op
+use Rattle.binary64.specs.Bounds.{Scaled}
 use Rattle.binary64.specs.Error.{u, u-nn, rounding-error}
 use Rattle.binary64.specs.OrderLaws.{positive-num}
 use Rattle.binary64.specs.Rounds.{Rounds, add-rounds, sub-rounds, mul-rounds, div-rounds}
 use Rattle.binary64.specs.Sign.{neg-finite}
-use Rattle.binary64.specs.Value.{val, val-neg}
+use Rattle.binary64.specs.Value.{val, val-neg, int-finite, int-val}
 
 -- scales from 2 ^ -1000 to 2 ^ 900
 abbrev pub Fair : Fraction → Type 0
@@ -99,6 +100,19 @@ exact {x} {q} {κ} p e f b s t = record {
   scale = f;
   few = let l = leb→le b (2 ^ 20) t in omega arith;
 }
+
+pub fair : {κ : Fraction} {e f : ℕ} → Size κ e f → T (leb e 1000) → T (leb f 900) → Fair κ
+fair {κ} {e} {f} h s t = size-wider 1000 900 h (leb→le e 1000 s) (leb→le f 900 t)
+
+-- a float above 0 and a whole number, each at its own scale
+own : {x : Float} {q : Fraction} → T (finite x) → val x ≈F q → Fair q → Near x q q 0 1
+own {x} {q} p e f = exact p e f 1 (within-weaken (within-self (fair-nn f)) (≤F-of-≈F (ring (q ∷ []) (search quote depth 24) tt))) tt
+
+pub near-own : {x : Float} {e f : ℕ} → Scaled x e f → T (leb e 1000) → T (leb f 900) → Near x (val x) (val x) 0 1
+near-own h s t = own (h .fine) ≈F-refl (fair (h .size) s t)
+
+pub near-count : (n : ℕ) → 1 ≤ n → n ≤ 2 ^ 53 → Near (Op.count n) (nat n) (nat n) 0 1
+near-count n h l = own (int-finite (pos n) l) (int-val (pos n) l) (fair (size-nat n 53 h l) tt tt)
 
 pub near-resp : {x : Float} {q r κ : Fraction} {k b : ℕ} → q ≈F r → Near x q κ k b → Near x r κ k b
 near-resp {x} {q} {r} {κ} {k} {b} e h = record {
