@@ -1,6 +1,6 @@
 -- Closed floats at which the laws' premises hold, by computing: at a subnormal result, at the edge of overflow, and in between; and two bounds that do not hold. Assumes nothing.
 use mathlib.Core.Path.{refl}
-use Prim.Native.Nat.{_^_}
+use Prim.Native.Nat.{_+_, _-_, _*_, _^_}
 use mathlib.Core.Bool.{false}
 use lib.Dec.{T, lit<, lit≤}
 use lib.IntN.{pos, negsuc}
@@ -15,7 +15,7 @@ use Rattle.binary64.specs.Bounds.{Scaled}
 use Rattle.binary64.specs.Error.{u, Close, rounding-error}
 use Rattle.binary64.specs.Near.{Near, fair, near-own, near-count, near-mul, near-div}
 use Rattle.binary64.specs.OrderLaws.{Kept, stays, mul-le}
-use Rattle.binary64.specs.Range.{Within, literal, tested-within}
+use Rattle.binary64.specs.Range.{exact, Within, literal, tested-within}
 use Rattle.binary64.specs.RangeOps.{mul-between, sub-over}
 use Rattle.binary64.specs.Rounds.{add-rounds, div-rounds}
 use Rattle.binary64.specs.Value.{val}
@@ -97,6 +97,22 @@ not-lower h = lt-not-le (lit<F tt) (h .hi)
 not-free : Near (one ⊕ speck) (val one +F val speck) (nat 1) 0 2 → ⊥
 unfolding ofBits add val whole _+F_ _*F_ negF u
 not-free h = lt-not-le (lit<F tt) (h .error .lo)
+
+-- ---- what binary64 holds: the largest value and the smallest, and not 2 ^ 53 + 1, 1/3, 2 ^ 1024 or 2 ^ -1075
+held-ends : T (exact ((2 ^ 53 - 1) * 2 ^ 971) 1) × T (exact 1 (2 ^ 1074))
+held-ends = (tt, tt)
+
+digits-missing : T (exact (2 ^ 53 + 1) 1) → ⊥
+digits-missing t = t
+
+third-missing : T (exact 1 3) → ⊥
+third-missing t = t
+
+large-missing : T (exact (2 ^ 1024) 1) → ⊥
+large-missing t = t
+
+small-missing : T (exact 1 (2 ^ 1075)) → ⊥
+small-missing t = t
 
 -- ---- ranges: 2 ^ -600 · 2 ^ -470 is subnormal; 1 - x for x tested from 1e-3 to 1 is from 0 to 1
 product-range : Within (fin false 1 (negsuc 599) ⊗ fin false 1 (negsuc 469)) 1 (2 ^ 1070) 1 (2 ^ 1070)
