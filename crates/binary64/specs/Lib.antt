@@ -2,6 +2,7 @@
 --
 -- What is defined
 --   Operators   x ⊕ y, x ⊖ y, x ⊗ y, x ⊘ y, each one operation, so one rounding; `f64 bits` a literal, `count n` a whole number, `negative x` the sign
+--   Decimal     a literal's pattern against its decimal, rounded once
 --   Range       `Most x s A C`: finite, of the sign s, |x| ≤ A / C.  `Least x B E`: |x| ≥ B / E.  `Between x s A C B E` both, `Within` of the sign +, `Sized` of any sign.
 --               `exact A C`: A / C is a value of binary64, a test that computes. Ranges start from int-between and count-within for whole numbers, tested-within and tested-sized
 --               from a program's comparisons, literal for closed floats; most-wider and least-wider widen them
@@ -44,5 +45,6 @@ pub mod Error
 pub mod OrderLaws
 pub mod Bounds
 pub mod Near
+pub mod Decimal
 pub mod Examples
 pub mod Instances
