@@ -5,3 +5,4 @@ pub mod SignLaws
 pub mod CountLaws
 pub mod BenchCells
 pub mod Literals
+pub mod ExpRange
