@@ -46,7 +46,7 @@ fine-between (suc n) lo x hi f g h k =
     (fine-between n (lo ⊗ lo) (x ⊗ x) (hi ⊗ hi) (and-r (positive lo) (fine n (lo ⊗ lo)) f) (and-r (positive hi) (fine n (hi ⊗ hi)) g) (mul-mono binary64 lo x lo x p r p r h h) (mul-mono binary64 x hi x hi r q r q k k))
 
 -- ---- from fractions to the order of floats
-within-positive : (x : Float) (A C B E : ℕ) → 0 < B → Within x A C B E → T (positive x)
+pub within-positive : (x : Float) (A C B E : ℕ) → 0 < B → Within x A C B E → T (positive x)
 within-positive nan A C B E b w = absurd (w .0 .fine)
 within-positive (inf s) A C B E b w = absurd (w .0 .fine)
 within-positive (fin true m e) A C B E b w = absurd (true≢false (w .0 .sign))
@@ -54,7 +54,7 @@ within-positive (fin false zero e) A C B E b w = absurd (not-le-of-lt (mul-pos b
 within-positive (fin false (suc m) e) A C B E b w = lt→ltb 0 (suc m) (zero-lt-suc m)
 
 -- lo is at most B / E, and hi at least A / C
-within-le : (lo x hi : Float) (A C B E : ℕ) → T (positive lo) → T (positive hi) → T (ltb 0 B) → T (leb (num lo * E) (B * den lo)) → T (leb (A * den hi) (num hi * C)) → Within x A C B E → T (le lo x) × T (le x hi)
+pub within-le : (lo x hi : Float) (A C B E : ℕ) → T (positive lo) → T (positive hi) → T (ltb 0 B) → T (leb (num lo * E) (B * den lo)) → T (leb (A * den hi) (num hi * C)) → Within x A C B E → T (le lo x) × T (le x hi)
 within-le lo x hi A C B E p q b l m w =
     let r = within-positive x A C B E (ltb→lt 0 B b) w in (
       cross→le lo x p r (through (num lo) B (num x) (den lo) E (den x) (w .1 .over) (leb→le (num lo * E) (B * den lo) l) (w .1 .least)),
@@ -172,6 +172,44 @@ unfolding ofBits
 exp-20 t s h =
     let w = exp-within 161 8 1314 65536 64222 (f64 0x3fef_5bc0_0000_0000) (f64 0x3ff0_5220_0000_0000) exp-20-ends (f64 0x3e10_e5a0_21bb_14eb) (f64 0x41c4_1318_2790_8be6) exp-20-bottom exp-20-top tt tt t s h in
     (most-wider (w .0) (2 ^ 30) 1 tt tt, least-wider (w .1) 1 (2 ^ 30) tt tt)
+
+-- ---- |t| ≤ 22.5: between 2 ^ -34 and 2 ^ 33
+exp-22-ends : Exponents 45 2 1473 65536 64063 (f64 0x3fef_47e0_0000_0000) (f64 0x3ff0_5c10_0000_0000)
+unfolding fine mul round size ofBits
+exp-22-ends = record {
+  limit = tt;
+  scaled = tt;
+  scales = tt;
+  term = tt;
+  product = tt;
+  quotient = tt;
+  top = tt;
+  bottom = tt;
+  sum = tt;
+  rest = tt;
+  start-top = tt;
+  start-bottom = tt;
+  over = tt;
+  some = tt;
+  lo-at = tt;
+  hi-at = tt;
+  lo-fine = tt;
+  hi-fine = tt;
+}
+
+exp-22-top : squarings 10 (f64 0x3ff0_5c10_0000_0000) ≡ f64 0x41fc_9429_3dfa_3e20
+unfolding squarings mul round size ofBits
+exp-22-top = refl
+
+exp-22-bottom : squarings 10 (f64 0x3fef_47e0_0000_0000) ≡ f64 0x3dd5_5b5c_4e14_725d
+unfolding squarings mul round size ofBits
+exp-22-bottom = refl
+
+pub exp-22 : (t : Float) (s : Bool) → Most t s 45 2 → Within (expOf t) (2 ^ 33) 1 1 (2 ^ 34)
+unfolding ofBits
+exp-22 t s h =
+    let w = exp-within 45 2 1473 65536 64063 (f64 0x3fef_47e0_0000_0000) (f64 0x3ff0_5c10_0000_0000) exp-22-ends (f64 0x3dd5_5b5c_4e14_725d) (f64 0x41fc_9429_3dfa_3e20) exp-22-bottom exp-22-top tt tt t s h in
+    (most-wider (w .0) (2 ^ 33) 1 tt tt, least-wider (w .1) 1 (2 ^ 34) tt tt)
 
 -- ---- |t| ≤ 30.125: between 2 ^ -46 and 2 ^ 45
 exp-30-ends : Exponents 241 8 1987 65536 63549 (f64 0x3fef_07a0_0000_0000) (f64 0x3ff0_7c30_0000_0000)

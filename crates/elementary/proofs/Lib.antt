@@ -6,3 +6,6 @@ pub mod CountLaws
 pub mod BenchCells
 pub mod Literals
 pub mod ExpRange
+pub mod LnRange
+pub mod PowRange
+pub mod AsinhRange
