@@ -13,7 +13,8 @@ use Rattle.binary64.specs.Operators.{_⊕_, _⊖_, _⊗_, _⊘_, count, 
 use Rattle.binary64.specs.Opened.{mul-is, div-is, sub-is, plus, minus, Summed, add-summed}
 use Rattle.binary64.specs.Range.{exact, exact-over, Most, Between, Sized, sized, neg-most, neg-least, round-most, round-between}
 -- (where ranges start, so that one line brings in all)
-pub use Rattle.binary64.specs.Range.{least-zero, literal, tested-within, tested-sized, int-between, count-within}
+pub use Rattle.binary64.specs.Range.{least-zero}
+pub use Rattle.binary64.specs.RangeTests.{literal, tested-within, tested-sized, int-between, count-within}
 
 -- ---- products and sums of fractions of naturals: with x / p ≤ A / C and y / q ≤ B / D
 ruleset ac = (add-mul, mul-add, mul-assoc, mul-comm, mul-left-comm)
