@@ -15,8 +15,8 @@ use Rattle.binary64.specs.Bounds.{Scaled}
 use Rattle.binary64.specs.Error.{u, Close, rounding-error}
 use Rattle.binary64.specs.Near.{Near, fair, near-own, near-count, near-mul, near-div}
 use Rattle.binary64.specs.OrderLaws.{Kept, stays, mul-le}
-use Rattle.binary64.specs.Range.{exact, Within, literal, tested-within}
-use Rattle.binary64.specs.RangeOps.{mul-between, sub-over}
+use Rattle.binary64.specs.Range.{exact, Within}
+use Rattle.binary64.specs.RangeOps.{mul-between, sub-over, literal, tested-within}
 use Rattle.binary64.specs.Rounds.{add-rounds, div-rounds}
 use Rattle.binary64.specs.Value.{val}
 

@@ -4,8 +4,7 @@
 --   Operators   x ⊕ y, x ⊖ y, x ⊗ y, x ⊘ y, each one operation, so one rounding; `f64 bits` a literal, `count n` a whole number, `negative x` the sign
 --   Decimal     a literal's pattern against its decimal, rounded once
 --   Range       `Most x s A C`: finite, of the sign s, |x| ≤ A / C.  `Least x B E`: |x| ≥ B / E.  `Between x s A C B E` both, `Within` of the sign +, `Sized` of any sign.
---               `exact A C`: A / C is a value of binary64, a test that computes. Ranges start from int-between and count-within for whole numbers, tested-within and tested-sized
---               from a program's comparisons, literal for closed floats; most-wider and least-wider widen them
+--               `exact A C`: A / C is a value of binary64, a test that computes
 --   Value       `val x`: the value of a finite float as a fraction (0 for a NaN and an infinity)
 --   Rounds      `Rounds Q r`: r is the fraction Q rounded
 --   Error       `Close r Q E`: r is finite and |val r − Q| ≤ E;  `u` = 2 ^ -53
@@ -13,6 +12,8 @@
 --   Near        `Near x q κ k b`: finite, |val x − q| ≤ k · κ · u and |q| ≤ b · κ, for a scale κ that is `Fair` (from 2 ^ -1000 to 2 ^ 900)
 --
 -- What is proved
+--   RangeTests  where ranges start: literal for closed floats, int-between and count-within for whole numbers, tested-within and tested-sized from a program's comparisons;
+--               and where they end: most-le, most-ge, within-ge, within-positive. In Range most-wider and least-wider widen them
 --   RangeOps    the range of each operation's result from those of its operands: mul- and div-between, add- and sub-alike, -unlike (operands of one sign, of opposite ones),
 --               -over (the first operand is the larger), each -most (bounds from above only); div-count by a whole number
 --   Value       le-val, val-le, lt-val, val-lt: the order of finite floats is that of their values;  val-neg;  int-val: whole numbers up to 2 ^ 53 are held
@@ -35,6 +36,7 @@ pub mod Sign
 pub mod Order
 pub mod Opened
 pub mod Range
+pub mod RangeTests
 pub mod RangeOps
 pub mod Nearest
 pub mod Held

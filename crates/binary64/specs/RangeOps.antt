@@ -11,7 +11,10 @@ use lib.Ieee.{Float, binary64, unlike, neg}
 use lib.Ieee.Positive.{num, den, den-pos, first-pos}
 use Rattle.binary64.specs.Operators.{_⊕_, _⊖_, _⊗_, _⊘_, count, negative}
 use Rattle.binary64.specs.Opened.{mul-is, div-is, sub-is, plus, minus, Summed, add-summed}
-use Rattle.binary64.specs.Range.{exact, exact-over, least-zero, count-within, Most, Between, Sized, sized, neg-most, neg-least, round-most, round-between}
+use Rattle.binary64.specs.Range.{exact, exact-over, Most, Between, Sized, sized, neg-most, neg-least, round-most, round-between}
+-- (where ranges start, so that one line brings in all)
+pub use Rattle.binary64.specs.Range.{least-zero}
+pub use Rattle.binary64.specs.RangeTests.{literal, tested-within, tested-sized, int-between, count-within}
 
 -- ---- products and sums of fractions of naturals: with x / p ≤ A / C and y / q ≤ B / D
 ruleset ac = (add-mul, mul-add, mul-assoc, mul-comm, mul-left-comm)
