@@ -1,6 +1,5 @@
 -- A commutative ring up to an equivalence, and a solver: an equation between two polynomials holds if the normal form of their difference is 0.
 -- Assumes nothing.
-use mathlib.Core.Path.{_≡_, refl, sym, _∙_, ap, ap₂, subst}
 use mathlib.Core.List.{List, [], _∷_}
 use mathlib.Core.Bool.{Bool, true, false, _&&_}
 use Prim.Native.Nat.{ℕ, zero, suc}
