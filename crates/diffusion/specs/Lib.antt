@@ -3,3 +3,9 @@ pub mod Exact
 pub mod Premises
 pub mod Places
 pub mod ExactLaws
+pub mod Chain
+pub mod ClampValue
+pub mod Profile
+pub mod OneStep
+pub mod Run
+pub mod RunLaws

@@ -37,6 +37,11 @@ pub record Held (M : Fraction) (x : Float) : Type 0 where
   pub fine : T (finite x)
   pub range : val x from nat 0 to M
 
+-- a profile: each of its first n places
+pub record Whole (n : ℕ) (M : Fraction) (c : List Float) : Type 0 where
+  pub long : n ≤ length c
+  pub held : (i : ℕ) → i < n → Held M (getD c i nan)
+
 -- ---- what the exact scheme's own laws need
 pub record Stable (e : Numbers) : Type 0 where
   pub n-low : 3 ≤ e .n

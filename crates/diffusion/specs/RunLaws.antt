@@ -1,0 +1,152 @@
+-- Lists of sub-steps: after K of them every node is within K·M / 2 ^ 49 of the exact scheme's. Where one list has the greater fluxes its nodes rank above, but for 2·K·M / 2 ^ 49.
+use Prim.Native.Nat.{ℕ, zero, suc, _+_, _^_, _<_, _≤_}
+use mathlib.Core.Path.{_≡_, refl, sym, _∙_, ap, subst}
+use mathlib.Core.List.{List, [], _∷_, _++_, map}
+use native.Mathlib.Nat.{zero-add, add-zero}
+use native.Mathlib.Omega.{arith}
+use lib.ListN.{length, getD, length-map, replicate}
+use lib.Ieee.{Float, nan}
+use Rattle.fraction.specs.Fraction.{Fraction, nat, pow2, _+F_, negF, _-F_, _*F_, _/F_, inv, _≤F_, _<F_, _within_}
+use Rattle.fraction.specs.Field.{le-of-lt}
+use Rattle.fraction.specs.Certificate.{quote, le-by, within-by, up, hi, lo, num, eqn, _⊞_, _⊠_, _·_, _&_}
+use Rattle.fraction.specs.Inverse.{mul-inv}
+use Rattle.fraction.specs.Order.{≤F-refl, nat-suc, pow2-pos}
+use Rattle.fraction.specs.Size.{size-pos}
+use Rattle.fraction.specs.Within.{within-weaken, apart-trans}
+use Rattle.binary64.specs.Error.{u, u-nn, u-is}
+use Rattle.binary64.specs.Value.{val}
+use Rattle.turns.specs.Turns.{times}
+use Rattle.diffusion.specs.SubStep.{Drive, subStep}
+use Rattle.diffusion.specs.Exact.{Numbers, numbers, exactNode, exactStep}
+use Rattle.diffusion.specs.ExactLaws.{withFlux, contraction, monotone}
+use Rattle.diffusion.specs.Premises.{Ready, Stable, Whole, ready-stable}
+use Rattle.diffusion.specs.Profile.{step-length, step-unused, exact-length, exact-place, values-at}
+use Rattle.diffusion.specs.OneStep.{sub-step-whole, sub-step-near}
+use Rattle.diffusion.specs.Run.{Grid, Move, drive, run, exactRun, Each, Both, AllReady, Stronger}
+
+-- K·M / 2 ^ 49
+abbrev pub bound : ℕ → Fraction → Fraction
+bound K M = nat K *F M /F pow2 49
+
+-- one sub-step's 14·M / 2 ^ 53 is no more than M / 2 ^ 49
+one-more : {M : Fraction} (K : ℕ) → nat 0 ≤F M → M *F (nat 14 *F u) +F bound K M ≤F bound (suc K) M
+one-more {M} K m = le-by (M ∷ u ∷ inv (pow2 49) ∷ nat K ∷ nat (suc K) ∷ []) 0
+    (num 2 ⊠ m ⊠ u-nn ⊞ eqn (M *F inv (pow2 49) · u-is & negF (nat 16 *F M *F u) · mul-inv (pow2-pos 49) & negF (M *F inv (pow2 49)) · nat-suc K)) (search quote depth 24) tt
+
+-- ---- every node within K·M / 2 ^ 49
+pub record Tracks (b : Grid) (c : List Float) (x : List Fraction) (K : ℕ) : Type 0 where
+  pub long : b .n ≤ length x
+  pub near : (i : ℕ) → i < b .n → val (getD c i nan) -F getD x i (nat 0) within bound K (val (b .c_max))
+
+-- two exact profiles that are nowhere further apart than B
+exact-apart : {e : Numbers} → Stable e → (x y : List Fraction) → e .n ≤ length x → e .n ≤ length y → {B : Fraction} → ((i : ℕ) → i < e .n → getD x i (nat 0) -F getD y i (nat 0) within B)
+    → (i : ℕ) → i < e .n → getD (exactStep e x) i (nat 0) -F getD (exactStep e y) i (nat 0) within B
+exact-apart {e} s x y p q h i l = rw (exact-place e x i l p, exact-place e y i l q) (contraction e s (λ k. getD x k (nat 0)) (λ k. getD y k (nat 0)) h i l)
+
+module _ (b : Grid) where
+  abbrev M : Fraction
+  M = val (b .c_max)
+
+  abbrev AllHeld : List Float → Type 0
+  AllHeld c = Whole (b .n) M c
+
+  pub tracks-start : (c : List Float) → AllHeld c → Tracks b c (map val c) 0
+  tracks-start c w = record {
+    long = rw (length-map c val) (w .long);
+    near = λ i l. rw (values-at c i) (within-by (val (getD c i nan) ∷ M ∷ inv (pow2 49) ∷ []) 0 (num 0) (num 0) (search quote depth 24) tt tt);
+  }
+
+  pub tracks-step : {m : Move} {c : List Float} {x : List Fraction} {K : ℕ} → Ready (drive b m) → AllHeld c → Tracks b c x K → Tracks b (subStep (drive b m) c) (exactStep (numbers (drive b m)) x) (suc K)
+  tracks-step {m} {c} {x} {K} r w h =
+      let v = drive b m in
+      let e = numbers (drive b m) in
+      let p : b .n ≤ length (map val c) = rw (length-map c val) (w .long) in
+      let q : b .n ≤ length x = h .long in
+      record {
+        long = rw (exact-length e x) q;
+        near = λ i l. within-weaken
+            (apart-trans (val (getD (subStep v c) i nan)) (getD (exactStep e (map val c)) i (nat 0)) (getD (exactStep e x) i (nat 0))
+            (sub-step-near v r c w i l)
+            (exact-apart (ready-stable r) (map val c) x p q (λ k o. rw (values-at c k) (h .near k o)) i l))
+            (one-more K (le-of-lt (size-pos (r .sound .c_max))));
+      }
+
+  pub run-whole : {ms : List Move} (c : List Float) → AllReady b ms → AllHeld c → AllHeld (run b ms c)
+  unfolding run
+  run-whole c Each.none w = w
+  run-whole c (Each.more {x = m} r rs) w = run-whole (subStep (drive b m) c) rs (sub-step-whole (drive b m) r c w)
+
+  pub run-tracks : {ms : List Move} (c : List Float) (x : List Fraction) (K : ℕ) → AllReady b ms → AllHeld c → Tracks b c x K → Tracks b (run b ms c) (exactRun b ms x) (length ms + K)
+  unfolding run exactRun
+  run-tracks c x K Each.none w h = rw zero-add h
+  run-tracks c x K (Each.more {x = m} {xs = ms} r rs) w h =
+      subst (λ (k : ℕ). Tracks b (run b ms (subStep (drive b m) c)) (exactRun b ms (exactStep (numbers (drive b m)) x)) k) (omega arith)
+      (run-tracks (subStep (drive b m) c) (exactStep (numbers (drive b m)) x) (suc K) rs (sub-step-whole (drive b m) r c w) (tracks-step r w h))
+
+  -- LISTS OF SUB-STEPS: with K their number, every node is within K·M / 2 ^ 49 of the exact scheme from the same start
+  pub run-near : (ms : List Move) (c : List Float) → AllReady b ms → Whole (b .n) (val (b .c_max)) c → (i : ℕ) → i < b .n
+      → val (getD (run b ms c) i nan) -F getD (exactRun b ms (map val c)) i (nat 0) within nat (length ms) *F val (b .c_max) /F pow2 49
+  run-near ms c rs w i l = (subst (λ (k : ℕ). Tracks b (run b ms c) (exactRun b ms (map val c)) k) (add-zero (length ms)) (run-tracks c (map val c) 0 rs w (tracks-start c w))) .near i l
+
+  -- the length of the profile and its unused places stay, whatever the sub-steps are
+  pub run-length : (ms : List Move) (c : List Float) → length (run b ms c) ≡ length c
+  unfolding run
+  run-length [] c = refl
+  run-length (m ∷ ms) c = run-length ms (subStep (drive b m) c) ∙ step-length (drive b m) c
+
+  pub run-unused : (ms : List Move) (c : List Float) (i : ℕ) (d : Float) → b .n ≤ i → getD (run b ms c) i d ≡ getD c i d
+  unfolding run
+  run-unused [] c i d l = refl
+  run-unused (m ∷ ms) c i d l = run-unused ms (subStep (drive b m) c) i d l ∙ step-unused (drive b m) c i d l
+
+  -- ---- two lists, of which the second has the greater fluxes
+  stronger-numbers : {m m' : Move} → Stronger m m' → numbers (drive b m') ≡ withFlux (numbers (drive b m)) (val (m' .j_n))
+  stronger-numbers s = rw (s .same-d, s .same-t)
+
+  exact-mono : {ms ms' : List Move} → Both Stronger ms ms' → AllReady b ms → (x y : List Fraction) → b .n ≤ length x → b .n ≤ length y → ((i : ℕ) → i < b .n → getD x i (nat 0) ≤F getD y i (nat 0))
+      → (i : ℕ) → i < b .n → getD (exactRun b ms x) i (nat 0) ≤F getD (exactRun b ms' y) i (nat 0)
+  unfolding exactRun
+  exact-mono Both.none rs x y p q h i l = h i l
+  exact-mono (Both.more {x = m} {y = m'} k a) (Each.more r rs) x y p q h i l =
+      let e = numbers (drive b m) in
+      let f = withFlux (numbers (drive b m)) (val (m' .j_n)) in
+      rw (stronger-numbers k)
+      (exact-mono a rs (exactStep e x) (exactStep f y) (rw (exact-length e x) p) (rw (exact-length f y) q)
+      (λ i l. rw (exact-place e x i l p, exact-place f y i l q) (monotone e (ready-stable r) (val (m' .j_n)) (k .flux) (λ k. getD x k (nat 0)) (λ k. getD y k (nat 0)) h i l)) i l)
+
+pub both-length : {A : Type 0} {R : A → A → Type 0} {xs ys : List A} → Both R xs ys → length xs ≡ length ys
+both-length Both.none = refl
+both-length (Both.more r rs) = ap suc (both-length rs)
+
+-- RANKING: from one profile the second list's nodes are nowhere more than 2·K·M / 2 ^ 49 below the first's
+pub ranking : (b : Grid) {ms ms' : List Move} (c : List Float) → Both Stronger ms ms' → AllReady b ms → AllReady b ms' → Whole (b .n) (val (b .c_max)) c → (i : ℕ) → i < b .n
+    → val (getD (run b ms c) i nan) ≤F val (getD (run b ms' c) i nan) +F nat 2 *F nat (length ms) *F val (b .c_max) /F pow2 49
+ranking b {ms} {ms'} c a rs rs' w i l =
+    let x = val (getD (run b ms c) i nan) in
+    let y = val (getD (run b ms' c) i nan) in
+    let X = getD (exactRun b ms (map val c)) i (nat 0) in
+    let Y = getD (exactRun b ms' (map val c)) i (nat 0) in
+    let long : b .n ≤ length (map val c) = rw (length-map c val) (w .long) in
+    let h : X ≤F Y = exact-mono b a rs (map val c) (map val c) long long (λ i l. ≤F-refl) i l in
+    let p : x -F X within bound (length ms) (val (b .c_max)) = run-near b ms c rs w i l in
+    let q : y -F Y within bound (length ms) (val (b .c_max)) = rw (both-length a) (run-near b ms' c rs' w i l) in
+    le-by (x ∷ y ∷ X ∷ Y ∷ nat (length ms) ∷ val (b .c_max) ∷ inv (pow2 49) ∷ []) 0 (up h ⊞ hi p ⊞ lo q) (search quote depth 24) tt
+
+-- ---- one sub-step k times over
+times-inside : {A : Type 0} (f : A → A) (k : ℕ) (x : A) → times k f (f x) ≡ f (times k f x)
+unfolding times
+times-inside f zero x = refl
+times-inside f (suc k) x = ap f (times-inside f k x)
+
+pub run-times : (b : Grid) (m : Move) (k : ℕ) (c : List Float) → run b (replicate k m) c ≡ times k (subStep (drive b m)) c
+unfolding run times
+run-times b m zero c = refl
+run-times b m (suc k) c = run-times b m k (subStep (drive b m) c) ∙ times-inside (subStep (drive b m)) k c
+
+pub each-copies : {A : Type 0} (P : A → Type 0) (x : A) (k : ℕ) → P x → Each P (replicate k x)
+each-copies P x zero p = Each.none
+each-copies P x (suc k) p = Each.more p (each-copies P x k p)
+
+pub both-copies : {A : Type 0} (R : A → A → Type 0) (x y : A) (k : ℕ) → R x y → Both R (replicate k x) (replicate k y)
+both-copies R x y zero r = Both.none
+both-copies R x y (suc k) r = Both.more r (both-copies R x y k r)
