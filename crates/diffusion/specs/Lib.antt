@@ -9,3 +9,5 @@ pub mod Profile
 pub mod OneStep
 pub mod Run
 pub mod RunLaws
+pub mod Calls
+pub mod CallLaws
