@@ -11,3 +11,4 @@ pub mod Run
 pub mod RunLaws
 pub mod Calls
 pub mod CallLaws
+pub mod Examples
