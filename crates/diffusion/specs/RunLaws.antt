@@ -6,14 +6,13 @@ use native.Mathlib.Nat.{zero-add, add-zero}
 use native.Mathlib.Omega.{arith}
 use lib.ListN.{length, getD, length-map, replicate}
 use lib.Ieee.{Float, nan}
-use Rattle.fraction.specs.Fraction.{Fraction, nat, pow2, _+F_, negF, _-F_, _*F_, _/F_, inv, _≤F_, _<F_, _within_}
+use Rattle.fraction.specs.Fraction.{Fraction, whole, nat, pow2, turned, inv, _+F_, negF, _-F_, _*F_, _/F_, _≤F_, _within_}
 use Rattle.fraction.specs.Field.{le-of-lt}
 use Rattle.fraction.specs.Certificate.{quote, le-by, within-by, up, hi, lo, num, eqn, _⊞_, _⊠_, _·_, _&_}
-use Rattle.fraction.specs.Inverse.{mul-inv}
-use Rattle.fraction.specs.Order.{≤F-refl, nat-suc, pow2-pos}
+use Rattle.fraction.specs.Order.{≤F-refl, nat-suc, lit≤F}
 use Rattle.fraction.specs.Size.{size-pos}
 use Rattle.fraction.specs.Within.{within-weaken, apart-trans}
-use Rattle.binary64.specs.Error.{u, u-nn, u-is}
+use Rattle.binary64.specs.Error.{u}
 use Rattle.binary64.specs.Value.{val}
 use Rattle.turns.specs.Turns.{times}
 use Rattle.diffusion.specs.SubStep.{Drive, subStep}
@@ -24,14 +23,20 @@ use Rattle.diffusion.specs.Profile.{step-length, step-unused, exact-leng
 use Rattle.diffusion.specs.OneStep.{sub-step-whole, sub-step-near}
 use Rattle.diffusion.specs.Run.{Grid, Move, drive, run, exactRun, Each, Both, AllReady, Stronger}
 
--- K·M / 2 ^ 49
-abbrev pub bound : ℕ → Fraction → Fraction
-bound K M = nat K *F M /F pow2 49
+-- a sub-step's share of the bound: the 14 / 2 ^ 53 of its rounding are within it
+abbrev share : Fraction
+share = inv (pow2 49)
 
--- one sub-step's 14·M / 2 ^ 53 is no more than M / 2 ^ 49
+share-holds : nat 14 *F u ≤F share
+unfolding u inv turned whole _*F_
+share-holds = lit≤F tt
+
+-- K·M / 2 ^ 49
+abbrev bound : ℕ → Fraction → Fraction
+bound K M = nat K *F M *F share
+
 one-more : {M : Fraction} (K : ℕ) → nat 0 ≤F M → M *F (nat 14 *F u) +F bound K M ≤F bound (suc K) M
-one-more {M} K m = le-by (M ∷ u ∷ inv (pow2 49) ∷ nat K ∷ nat (suc K) ∷ []) 0
-    (num 2 ⊠ m ⊠ u-nn ⊞ eqn (M *F inv (pow2 49) · u-is & negF (nat 16 *F M *F u) · mul-inv (pow2-pos 49) & negF (M *F inv (pow2 49)) · nat-suc K)) (search quote depth 24) tt
+one-more {M} K m = le-by (M ∷ u ∷ share ∷ nat K ∷ nat (suc K) ∷ []) 0 (m ⊠ up share-holds ⊞ eqn (negF (M *F share) · nat-suc K)) (search quote depth 24) tt
 
 -- ---- every node within K·M / 2 ^ 49
 pub record Tracks (b : Grid) (c : List Float) (x : List Fraction) (K : ℕ) : Type 0 where
@@ -53,7 +58,7 @@ module _ (b : Grid) where
   pub tracks-start : (c : List Float) → AllHeld c → Tracks b c (map val c) 0
   tracks-start c w = record {
     long = rw (length-map c val) (w .long);
-    near = λ i l. rw (values-at c i) (within-by (val (getD c i nan) ∷ M ∷ inv (pow2 49) ∷ []) 0 (num 0) (num 0) (search quote depth 24) tt tt);
+    near = λ i l. rw (values-at c i) (within-by (val (getD c i nan) ∷ M ∷ share ∷ []) 0 (num 0) (num 0) (search quote depth 24) tt tt);
   }
 
   pub tracks-step : {m : Move} {c : List Float} {x : List Fraction} {K : ℕ} → Ready (drive b m) → AllHeld c → Tracks b c x K → Tracks b (subStep (drive b m) c) (exactStep (numbers (drive b m)) x) (suc K)
@@ -130,7 +135,7 @@ ranking b {ms} {ms'} c a rs rs' w i l =
     let h : X ≤F Y = exact-mono b a rs (map val c) (map val c) long long (λ i l. ≤F-refl) i l in
     let p : x -F X within bound (length ms) (val (b .c_max)) = run-near b ms c rs w i l in
     let q : y -F Y within bound (length ms) (val (b .c_max)) = rw (both-length a) (run-near b ms' c rs' w i l) in
-    le-by (x ∷ y ∷ X ∷ Y ∷ nat (length ms) ∷ val (b .c_max) ∷ inv (pow2 49) ∷ []) 0 (up h ⊞ hi p ⊞ lo q) (search quote depth 24) tt
+    le-by (x ∷ y ∷ X ∷ Y ∷ nat (length ms) ∷ val (b .c_max) ∷ share ∷ []) 0 (up h ⊞ hi p ⊞ lo q) (search quote depth 24) tt
 
 -- ---- one sub-step k times over
 times-inside : {A : Type 0} (f : A → A) (k : ℕ) (x : A) → times k f (f x) ≡ f (times k f x)
