@@ -12,8 +12,8 @@ use Rattle.fraction.specs.Order.{lit≤F}
 use Rattle.binary64.specs.Operators.{_⊕_, _⊗_, _⊘_, f64, count}
 use Rattle.binary64.specs.Error.{u, Close, rounding-error}
 use Rattle.binary64.specs.Near.{Fair, Near, exact, near-add, near-mul}
-use Rattle.binary64.specs.Range.{Most, Within, literal}
-use Rattle.binary64.specs.RangeOps.{mul-most, div-count, add-over}
+use Rattle.binary64.specs.Range.{Most, Within}
+use Rattle.binary64.specs.RangeOps.{mul-most, div-count, add-over, literal}
 use Rattle.binary64.specs.Rounds.{add-rounds}
 use Rattle.binary64.specs.Value.{val}
 

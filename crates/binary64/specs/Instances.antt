@@ -1,24 +1,22 @@
 -- Closed floats at which the laws' premises hold, by computing: at a subnormal result, at the edge of overflow, and in between; and two bounds that do not hold. Assumes nothing.
 use mathlib.Core.Path.{refl}
-use mathlib.Core.List.{[], _∷_}
-use Prim.Native.Nat.{_^_}
+use Prim.Native.Nat.{_+_, _-_, _*_, _^_}
 use mathlib.Core.Bool.{false}
-use lib.Dec.{T, lit<}
+use lib.Dec.{T, lit<, lit≤}
 use lib.IntN.{pos, negsuc}
 use lib.Ieee.{Float, fin, ofBits, fits, le, neg, add, sub, mul}
 use lib.Ieee.Scale.{finite}
 use Rattle.fraction.specs.Fraction.{whole, nat, pow2, frac, _+F_, negF, _-F_, _*F_, _/F_, inv, turned, _≈F_, _within_}
-use Rattle.fraction.specs.Field.{≈F-refl, ≤F-of-≈F, lt-not-le, le-of-lt}
-use Rattle.fraction.specs.Certificate.{quote, ring}
+use Rattle.fraction.specs.Field.{lt-not-le}
 use Rattle.fraction.specs.Order.{lit≤F, lit<F}
-use Rattle.fraction.specs.Size.{Size, size-pos}
-use Rattle.fraction.specs.Within.{within-self, within-weaken}
-use Rattle.binary64.specs.Operators.{_⊕_, _⊖_, _⊗_, _⊘_, f64}
+use Rattle.fraction.specs.Size.{Size, size-nat, size-mul, size-inv}
+use Rattle.binary64.specs.Operators.{_⊕_, _⊖_, _⊗_, _⊘_, f64, count}
+use Rattle.binary64.specs.Bounds.{Scaled}
 use Rattle.binary64.specs.Error.{u, Close, rounding-error}
-use Rattle.binary64.specs.Near.{Fair, Near, exact, near-mul, near-div}
+use Rattle.binary64.specs.Near.{Near, fair, near-own, near-count, near-mul, near-div}
 use Rattle.binary64.specs.OrderLaws.{Kept, stays, mul-le}
-use Rattle.binary64.specs.Range.{Within, literal, tested-within}
-use Rattle.binary64.specs.RangeOps.{mul-between, sub-over}
+use Rattle.binary64.specs.Range.{exact, Within}
+use Rattle.binary64.specs.RangeOps.{mul-between, sub-over, literal, tested-within}
 use Rattle.binary64.specs.Rounds.{add-rounds, div-rounds}
 use Rattle.binary64.specs.Value.{val}
 
@@ -100,6 +98,22 @@ not-free : Near (one ⊕ speck) (val one +F val speck) (nat 1) 0 2 → ⊥
 unfolding ofBits add val whole _+F_ _*F_ negF u
 not-free h = lt-not-le (lit<F tt) (h .error .lo)
 
+-- ---- what binary64 holds: the largest value and the smallest, and not 2 ^ 53 + 1, 1/3, 2 ^ 1024 or 2 ^ -1075
+held-ends : T (exact ((2 ^ 53 - 1) * 2 ^ 971) 1) × T (exact 1 (2 ^ 1074))
+held-ends = (tt, tt)
+
+digits-missing : T (exact (2 ^ 53 + 1) 1) → ⊥
+digits-missing t = t
+
+third-missing : T (exact 1 3) → ⊥
+third-missing t = t
+
+large-missing : T (exact (2 ^ 1024) 1) → ⊥
+large-missing t = t
+
+small-missing : T (exact 1 (2 ^ 1075)) → ⊥
+small-missing t = t
+
 -- ---- ranges: 2 ^ -600 · 2 ^ -470 is subnormal; 1 - x for x tested from 1e-3 to 1 is from 0 to 1
 product-range : Within (fin false 1 (negsuc 599) ⊗ fin false 1 (negsuc 469)) 1 (2 ^ 1070) 1 (2 ^ 1070)
 product-range = mul-between (literal (fin false 1 (negsuc 599)) 1 (2 ^ 600) 1 (2 ^ 600) tt tt tt tt tt) (literal (fin false 1 (negsuc 469)) 1 (2 ^ 470) 1 (2 ^ 470) tt tt tt tt tt) 1 (2 ^ 1070) 1 (2 ^ 1070) tt tt tt tt
@@ -118,25 +132,11 @@ unfolding ofBits val whole
 tripled x y p q h = mul-le x y three p q h tt (lit≤F tt)
 
 -- ---- near values: 3 ⊗ 3 ⊘ 5, each at its own scale
-fair-three : Fair (val three)
+scaled-three : Scaled three 0 2
 unfolding ofBits val whole _*F_
-fair-three = record { low = lit≤F tt; high = lit≤F tt }
+scaled-three = record { fine = tt; size = record { low = lit≤F tt; high = lit≤F tt } }
 
-fair-five : Fair (val five)
-unfolding ofBits val whole _*F_
-fair-five = record { low = lit≤F tt; high = lit≤F tt }
-
-fair-product : Fair (val three *F val three)
-unfolding ofBits val whole _*F_
-fair-product = record { low = lit≤F tt; high = lit≤F tt }
-
-fair-ratio : Fair (val three *F val three /F val five)
-unfolding ofBits val whole _*F_ inv turned
-fair-ratio = record { low = lit≤F tt; high = lit≤F tt }
-
-own : (x : Float) → T (finite x) → Fair (val x) → Near x (val x) (val x) 0 1
-own x p f = exact p ≈F-refl f 1 (within-weaken (within-self (le-of-lt (size-pos f))) (≤F-of-≈F (ring (val x ∷ []) (search quote depth 24) tt))) tt
-
-ratio-near : Near (three ⊗ three ⊘ five) (val three *F val three /F val five) (val three *F val three /F val five) 4 1
-unfolding ofBits
-ratio-near = near-div (near-mul (own three tt fair-three) (own three tt fair-three) fair-product tt) (own five tt fair-five) fair-ratio tt
+ratio-near : Near (three ⊗ three ⊘ count 5) (val three *F val three /F nat 5) (val three *F val three /F nat 5) 4 1
+ratio-near =
+    let s = size-mul (scaled-three .size) (scaled-three .size) in
+    near-div (near-mul (near-own scaled-three tt tt) (near-own scaled-three tt tt) (fair s tt tt) tt) (near-count 5 (lit≤ tt) (lit≤ tt)) (fair (size-mul s (size-inv (size-nat 5 3 (lit≤ tt) (lit≤ tt)))) tt tt) tt

@@ -3,25 +3,26 @@
 use mathlib.Core.Path.{ap}
 use mathlib.Core.List.{[], _∷_}
 use Prim.Native.Nat.{ℕ, _+_, _*_, _^_, _≤_, _<_}
-use native.Mathlib.Nat.{le-refl, mul-le-mul}
+use native.Mathlib.Nat.{mul-le-mul}
 use native.Mathlib.Omega.{arith}
 use lib.Dec.{T, leb, ltb, leb→le, ltb→lt, lit≤}
 use lib.IntN.{pos}
 use lib.Ieee.{Float, neg}
 use lib.Ieee.Scale.{finite}
 use Rattle.fraction.specs.Fraction.{Fraction, whole, nat, frac, _+F_, negF, _-F_, _*F_, _/F_, inv, _≈F_, _≤F_, _<F_, _within_}
-use Rattle.fraction.specs.Field.{≤F-of-≈F, nn-natF, lt-not-le, lt-of-not-le, le-of-lt}
-use Rattle.fraction.specs.Certificate.{quote, ring, le-by, within-by, eq-by, up, hi, lo, num, eqn, _⊞_, _⊠_, _·_, _&_}
+use Rattle.fraction.specs.Field.{≈F-refl, ≤F-of-≈F, nn-natF, lt-not-le, lt-of-not-le, le-of-lt}
+use Rattle.fraction.specs.Certificate.{quote, ring, le-by, within-by, up, hi, lo, num, eqn, _⊞_, _⊠_, _·_, _&_}
 use Rattle.fraction.specs.Inverse.{mul-inv, inv-nn, mul-cancel, quotient-error}
-use Rattle.fraction.specs.Order.{nat-lt, nat-+, nat-*}
-use Rattle.fraction.specs.Size.{Size, size-pos, size-mul, size-wider}
+use Rattle.fraction.specs.Order.{nat-le, nat-lt}
+use Rattle.fraction.specs.Size.{Size, size-pos, size-nat, size-mul, size-wider}
 use Rattle.fraction.specs.Within.{within-nn, within-self, within-weaken, within-resp, within-neg, within-add, within-mul, product-error}
 use Rattle.binary64.specs.Operators as Op
+use Rattle.binary64.specs.Bounds.{Scaled}
 use Rattle.binary64.specs.Error.{u, u-nn, rounding-error}
 use Rattle.binary64.specs.OrderLaws.{positive-num}
 use Rattle.binary64.specs.Rounds.{Rounds, add-rounds, sub-rounds, mul-rounds, div-rounds}
 use Rattle.binary64.specs.Sign.{neg-finite}
-use Rattle.binary64.specs.Value.{val, val-neg}
+use Rattle.binary64.specs.Value.{val, val-neg, int-finite, int-val}
 
 -- scales from 2 ^ -1000 to 2 ^ 900
 abbrev pub Fair : Fraction → Type 0
@@ -53,13 +54,13 @@ half-more-size : (b : ℕ) → b ≤ 2 ^ 20 → Size (half-more b) 1 21
 unfolding whole _*F_
 half-more-size b h = record { low = record { cross = omega arith }; high = record { cross = omega arith } }
 
-odd-small : (k : ℕ) → k ≤ 2 ^ 20 → (nat 2 *F nat k +F nat 1) *F u ≤F nat 1
-unfolding whole _*F_ _+F_ u
-odd-small k h = record { cross = omega arith }
+-- n / 2 ^ 53 is at most 1
+small : (n : ℕ) → n ≤ 2 ^ 53 → nat n *F u ≤F nat 1
+unfolding whole _*F_ u
+small n h = record { cross = omega arith }
 
-three-le : (k b k' : ℕ) → k + b + 1 ≤ k' → nat k +F nat b +F nat 1 ≤F nat k'
-unfolding whole _+F_
-three-le k b k' h = record { cross = omega arith }
+products : (k l : ℕ) → k ≤ 2 ^ 20 → l ≤ 2 ^ 20 → 4 * (k * l) ≤ 2 ^ 53
+products k l h g = let p : k * l ≤ 2 ^ 40 = mul-le-mul h g in omega arith
 
 -- ---- one rounding on top of an error E that is there already, of at most k + 1/2
 module _ (Q q κ E : Fraction) (k b : ℕ) (f : Fair κ) (e : Q -F q within E) (E-le : nat 2 *F E ≤F κ *F ((nat 2 *F nat k +F nat 1) *F u)) (s : q within κ *F nat b) (n : k + b + 1 + b ≤ 2 ^ 20) where
@@ -68,23 +69,19 @@ module _ (Q q κ E : Fraction) (k b : ℕ) (f : Fair κ) (e : Q -F q within E) (
 
   in-A : Q within κ *F B
   in-A =
-      let c = κ-room in
+      let c = fair-nn f ⊠ up (small (2 * k + 1) (omega arith)) in
       within-by (Q ∷ q ∷ κ ∷ E ∷ nat k ∷ nat b ∷ u ∷ B ∷ []) 1
       (num 2 ⊠ hi e ⊞ up E-le ⊞ num 2 ⊠ hi s ⊞ c ⊞ eqn (negF κ · half-more-is b))
       (num 2 ⊠ lo e ⊞ up E-le ⊞ num 2 ⊠ lo s ⊞ c ⊞ eqn (negF κ · half-more-is b)) (search quote depth 24) tt tt
-    where
-      κ-room : nat 0 ≤F κ *F (nat 1 -F (nat 2 *F nat k +F nat 1) *F u)
-      κ-room = fair-nn f ⊠ up (odd-small k (omega arith))
 
   pub rounds-near : (r : Float) → Rounds Q r → Near r q κ (k + b + 1) b
   rounds-near r h =
       let c = rounding-error h in-A (size-wider 1022 1023 (size-mul f (half-more-size b (omega arith))) (lit≤ tt) (lit≤ tt)) in
-      let l = num 2 ⊠ (fair-nn f ⊠ u-nn ⊠ up (three-le k b (k + b + 1) (le-refl (k + b + 1)))) in
       record {
         fine = c .fine;
-        error = within-by (Q ∷ q ∷ κ ∷ E ∷ nat k ∷ nat b ∷ u ∷ B ∷ val r ∷ nat (k + b + 1) ∷ []) 1
-            (num 2 ⊠ hi e ⊞ up E-le ⊞ num 2 ⊠ hi (c .near) ⊞ l ⊞ eqn (κ *F u · half-more-is b))
-            (num 2 ⊠ lo e ⊞ up E-le ⊞ num 2 ⊠ lo (c .near) ⊞ l ⊞ eqn (κ *F u · half-more-is b)) (search quote depth 24) tt tt;
+        error = within-by (Q ∷ q ∷ κ ∷ E ∷ nat k ∷ nat b ∷ u ∷ B ∷ val r ∷ []) 1
+            (num 2 ⊠ hi e ⊞ up E-le ⊞ num 2 ⊠ hi (c .near) ⊞ eqn (κ *F u · half-more-is b))
+            (num 2 ⊠ lo e ⊞ up E-le ⊞ num 2 ⊠ lo (c .near) ⊞ eqn (κ *F u · half-more-is b)) (search quote depth 24) tt tt;
         size = s;
         scale = f;
         few = n;
@@ -99,6 +96,19 @@ exact {x} {q} {κ} p e f b s t = record {
   scale = f;
   few = let l = leb→le b (2 ^ 20) t in omega arith;
 }
+
+pub fair : {κ : Fraction} {e f : ℕ} → Size κ e f → T (leb e 1000) → T (leb f 900) → Fair κ
+fair {κ} {e} {f} h s t = size-wider 1000 900 h (leb→le e 1000 s) (leb→le f 900 t)
+
+-- a float above 0 and a whole number, each at its own scale
+own : {x : Float} {q : Fraction} → T (finite x) → val x ≈F q → Fair q → Near x q q 0 1
+own {x} {q} p e f = exact p e f 1 (within-weaken (within-self (fair-nn f)) (≤F-of-≈F (ring (q ∷ []) (search quote depth 24) tt))) tt
+
+pub near-own : {x : Float} {e f : ℕ} → Scaled x e f → T (leb e 1000) → T (leb f 900) → Near x (val x) (val x) 0 1
+near-own h s t = own (h .fine) ≈F-refl (fair (h .size) s t)
+
+pub near-count : (n : ℕ) → 1 ≤ n → n ≤ 2 ^ 53 → Near (Op.count n) (nat n) (nat n) 0 1
+near-count n h l = own (int-finite (pos n) l) (int-val (pos n) l) (fair (size-nat n 53 h l) tt tt)
 
 pub near-resp : {x : Float} {q r κ : Fraction} {k b : ℕ} → q ≈F r → Near x q κ k b → Near x r κ k b
 near-resp {x} {q} {r} {κ} {k} {b} e h = record {
@@ -118,15 +128,11 @@ near-neg {x} {q} {κ} {k} {b} h = record {
   few = h .few;
 }
 
-products-le : (k n m k' : ℕ) → k * n ≤ m * k' → nat k *F nat n ≤F nat m *F nat k'
-unfolding whole _*F_
-products-le k n m k' h = record { cross = omega arith }
-
 -- κ · m ≤ μ · n: a count k becomes k' where k · n ≤ m · k'
 module _ (κ μ : Fraction) (m n : ℕ) (M : 0 < m) (c : κ *F nat m ≤F μ *F nat n) (κ-nn : nat 0 ≤F κ) (μ-nn : nat 0 ≤F μ) where
   carried : (k k' : ℕ) → k * n ≤ m * k' → κ *F nat k ≤F μ *F nat k'
   carried k k' h = mul-cancel (κ *F nat k) (μ *F nat k') (nat-lt 0 m M)
-      (le-by (κ ∷ μ ∷ nat m ∷ nat n ∷ nat k ∷ nat k' ∷ []) 0 (up c ⊠ nn-natF k ⊞ μ-nn ⊠ up (products-le k n m k' h)) (search quote depth 24) tt)
+      (le-by (κ ∷ μ ∷ nat m ∷ nat n ∷ nat k ∷ nat k' ∷ []) 0 (up c ⊠ nn-natF k ⊞ μ-nn ⊠ up (nat-le (k * n) (m * k') h)) (search quote depth 24) tt)
 
 pub rescale : {x : Float} {q κ μ : Fraction} {k b : ℕ} → Near x q κ k b → (m n k' b' : ℕ) → κ *F nat m ≤F μ *F nat n → Fair μ → T (ltb 0 m) → T (leb (k * n) (m * k')) → T (leb (b * n) (m * b')) → T (leb (k' + b') (2 ^ 20)) → Near x q μ k' b'
 rescale {x} {q} {κ} {μ} {k} {b} h m n k' b' c f p s t z =
@@ -142,7 +148,7 @@ rescale {x} {q} {κ} {μ} {k} {b} h m n k' b' c f p s t z =
 -- ---- sums and differences
 module _ (κ : Fraction) (k l : ℕ) (f : Fair κ) where
   sum-error : nat 2 *F (κ *F (nat k *F u) +F κ *F (nat l *F u)) ≤F κ *F ((nat 2 *F nat (k + l) +F nat 1) *F u)
-  sum-error = le-by (κ ∷ nat k ∷ nat l ∷ nat (k + l) ∷ u ∷ []) 0 (fair-nn f ⊠ u-nn ⊞ eqn (negF (nat 2 *F κ *F u) · nat-+ k l)) (search quote depth 24) tt
+  sum-error = le-by (κ ∷ nat k ∷ nat l ∷ u ∷ []) 0 (fair-nn f ⊠ u-nn) (search quote depth 24) tt
 
   -- what is rounded is s, with the errors of both operands
   sum-near : {z : Float} {Q s : Fraction} → Q -F s within κ *F (nat k *F u) +F κ *F (nat l *F u) → Rounds Q z → (a : ℕ) → s within κ *F nat a → T (leb (k + l + a + 1 + a) (2 ^ 20)) → Near z s κ (k + l + a + 1) a
@@ -157,18 +163,11 @@ near-sub {x} {y} {q} {r} {κ} {k} {b} {l} {c} h g =
     sum-near κ k l (h .scale) (within-resp (ring (val x ∷ val y ∷ q ∷ r ∷ []) (search quote depth 24) tt) (within-add (h .error) (within-neg (g .error)))) (sub-rounds x y (h .fine) (g .fine))
 
 -- ---- products
-crosses : (k l b c : ℕ) → nat (k * c + l * b) ≈F nat k *F nat c +F nat l *F nat b
-unfolding whole _+F_ _*F_
-crosses k l b c = record { cross = ap pos (omega arith) }
-
-second : (k l : ℕ) → k ≤ 2 ^ 20 → l ≤ 2 ^ 20 → nat 2 *F (nat k *F nat l) *F u ≤F nat 1
-unfolding whole _*F_ u
-second k l h g = let p : k * l ≤ 2 ^ 40 = mul-le-mul h g in record { cross = omega arith }
-
 module _ (κ μ : Fraction) (k l b c : ℕ) (f : Fair κ) (g : Fair μ) (h : k ≤ 2 ^ 20) (h' : l ≤ 2 ^ 20) where
   mul-error : nat 2 *F ((κ *F nat b) *F (μ *F (nat l *F u)) +F (μ *F nat c) *F (κ *F (nat k *F u)) +F (κ *F (nat k *F u)) *F (μ *F (nat l *F u))) ≤F (κ *F μ) *F ((nat 2 *F nat (k * c + l * b) +F nat 1) *F u)
-  mul-error = le-by (κ ∷ μ ∷ nat k ∷ nat l ∷ nat b ∷ nat c ∷ nat (k * c + l * b) ∷ u ∷ []) 0
-      (fair-nn f ⊠ fair-nn g ⊠ u-nn ⊠ up (second k l h h') ⊞ eqn (negF (nat 2 *F κ *F μ *F u) · crosses k l b c)) (search quote depth 24) tt
+  mul-error =
+      let n : 2 * (k * l) ≤ 2 ^ 53 = omega (arith, products k l h h') in
+      le-by (κ ∷ μ ∷ nat k ∷ nat l ∷ nat b ∷ nat c ∷ u ∷ []) 0 (fair-nn f ⊠ fair-nn g ⊠ u-nn ⊠ up (small (2 * (k * l)) n)) (search quote depth 24) tt
 
 pub near-mul : {x y : Float} {q r κ μ : Fraction} {k b l c : ℕ} → Near x q κ k b → Near y r μ l c → Fair (κ *F μ) → T (leb (k * c + l * b + b * c + 1 + b * c) (2 ^ 20)) → Near (Op._⊗_ x y) (q *F r) (κ *F μ) (k * c + l * b + b * c + 1) (b * c)
 near-mul {x} {y} {q} {r} {κ} {μ} {k} {b} {l} {c} h g f t =
@@ -177,19 +176,15 @@ near-mul {x} {y} {q} {r} {κ} {μ} {k} {b} {l} {c} h g f t =
     (as-one (within-mul (h .size) (g .size))) (leb→le (k * c + l * b + b * c + 1 + b * c) (2 ^ 20) t) (Op._⊗_ x y) (mul-rounds x y (h .fine) (g .fine))
   where
     as-one : q *F r within (κ *F nat b) *F (μ *F nat c) → q *F r within (κ *F μ) *F nat (b * c)
-    as-one w = within-weaken w (≤F-of-≈F (eq-by (κ ∷ μ ∷ nat b ∷ nat c ∷ nat (b * c) ∷ []) (negF (κ *F μ) · nat-* b c) (search quote depth 24) tt))
+    as-one w = within-weaken w (≤F-of-≈F (ring (κ ∷ μ ∷ nat b ∷ nat c ∷ []) (search quote depth 24) tt))
 
 -- a factor x that is exact and may be tiny, |x| ≤ X: X · μ · m ≤ κ, and the product keeps the scale κ
-odd-le : (l m k0 : ℕ) → 2 * l ≤ m * (2 * k0 + 1) → nat 2 *F nat l ≤F nat m *F (nat 2 *F nat k0 +F nat 1)
-unfolding whole _+F_ _*F_
-odd-le l m k0 h = record { cross = omega arith }
-
 module _ (X κ μ : Fraction) (m : ℕ) (X-nn : nat 0 ≤F X) (f : Fair μ) (w : X *F μ *F nat m ≤F κ) where
   factor-error : (l k0 : ℕ) → 2 * l ≤ m * (2 * k0 + 1) → nat 2 *F (X *F (μ *F (nat l *F u))) ≤F κ *F ((nat 2 *F nat k0 +F nat 1) *F u)
-  factor-error l k0 h = le-by (X ∷ κ ∷ μ ∷ nat m ∷ nat l ∷ nat k0 ∷ u ∷ []) 0 (up w ⊠ (num 2 ⊠ nn-natF k0 ⊞ num 1) ⊠ u-nn ⊞ X-nn ⊠ fair-nn f ⊠ u-nn ⊠ up (odd-le l m k0 h)) (search quote depth 24) tt
+  factor-error l k0 h = le-by (X ∷ κ ∷ μ ∷ nat m ∷ nat l ∷ nat k0 ∷ u ∷ []) 0 (up w ⊠ (num 2 ⊠ nn-natF k0 ⊞ num 1) ⊠ u-nn ⊞ X-nn ⊠ fair-nn f ⊠ u-nn ⊠ up (nat-le (2 * l) (m * (2 * k0 + 1)) h)) (search quote depth 24) tt
 
   factor-size : (c b' : ℕ) → c * 1 ≤ m * b' → X *F (μ *F nat c) ≤F κ *F nat b'
-  factor-size c b' h = le-by (X ∷ κ ∷ μ ∷ nat m ∷ nat c ∷ nat b' ∷ []) 0 (up w ⊠ nn-natF b' ⊞ X-nn ⊠ fair-nn f ⊠ up (products-le c 1 m b' h)) (search quote depth 24) tt
+  factor-size c b' h = le-by (X ∷ κ ∷ μ ∷ nat m ∷ nat c ∷ nat b' ∷ []) 0 (up w ⊠ nn-natF b' ⊞ X-nn ⊠ fair-nn f ⊠ up (nat-le (c * 1) (m * b') h)) (search quote depth 24) tt
 
 pub near-factor : (x : Float) {y z : Float} {X r κ μ : Fraction} {l c : ℕ} → Rounds (val x *F val y) z → val x within X → Near y r μ l c → Fair κ → (m k0 b : ℕ) → X *F μ *F nat m ≤F κ
     → T (leb (2 * l) (m * (2 * k0 + 1))) → T (leb (c * 1) (m * b)) → T (leb (k0 + b + 1 + b) (2 ^ 20)) → Near z (val x *F r) κ (k0 + b + 1) b
@@ -201,36 +196,23 @@ near-factor x {y} {z} {X} {r} {κ} {μ} {l} {c} h p g f m k0 b w s t n =
     (leb→le (k0 + b + 1 + b) (2 ^ 20) n) z h
 
 -- ---- quotients: the divisor's own size is its scale
-doubled : (l : ℕ) → l ≤ 2 ^ 20 → nat 2 *F (nat l *F u) ≤F nat 1
-unfolding whole _*F_ u
-doubled l h = record { cross = omega arith }
-
-plus-product : (k b l : ℕ) → nat (k + b * l) ≈F nat k +F nat b *F nat l
-unfolding whole _+F_ _*F_
-plus-product k b l = record { cross = ap pos (omega arith) }
-
-fourth : (l n : ℕ) → l ≤ 2 ^ 20 → n ≤ 2 ^ 20 → nat 4 *F (nat l *F nat n) *F u ≤F nat 1
-unfolding whole _*F_ u
-fourth l n h g = let p : l * n ≤ 2 ^ 40 = mul-le-mul h g in record { cross = omega arith }
-
 module _ (Y μ : Fraction) (l : ℕ) (p : nat 0 <F μ) (e : Y -F μ within μ *F (nat l *F u)) (h : l ≤ 2 ^ 20) where
   divisor-pos : nat 0 <F Y
   divisor-pos = lt-of-not-le (λ (n : Y ≤F nat 0). lt-not-le p
-      (le-by (Y ∷ μ ∷ nat l ∷ u ∷ []) 0 (num 2 ⊠ lo e ⊞ num 2 ⊠ up n ⊞ le-of-lt p ⊠ up (doubled l h)) (search quote depth 24) tt))
+      (le-by (Y ∷ μ ∷ nat l ∷ u ∷ []) 0 (num 2 ⊠ lo e ⊞ num 2 ⊠ up n ⊞ le-of-lt p ⊠ up (small (2 * l) (omega arith))) (search quote depth 24) tt))
 
   abbrev I : Fraction
   I = inv μ *F (nat 1 +F nat 2 *F (nat l *F u))
 
   inverse-le : inv Y ≤F I
   inverse-le = le-by (Y ∷ μ ∷ inv Y ∷ inv μ ∷ nat l ∷ u ∷ []) 0
-      (inv-nn p ⊠ inv-nn divisor-pos ⊠ (lo e ⊠ (num 1 ⊞ num 2 ⊠ (nn-natF l ⊠ u-nn)) ⊞ le-of-lt p ⊠ (nn-natF l ⊠ u-nn) ⊠ up (doubled l h))
+      (inv-nn p ⊠ inv-nn divisor-pos ⊠ (lo e ⊠ (num 1 ⊞ num 2 ⊠ (nn-natF l ⊠ u-nn)) ⊞ le-of-lt p ⊠ (nn-natF l ⊠ u-nn) ⊠ up (small (2 * l) (omega arith)))
       ⊞ eqn (I · mul-inv divisor-pos & negF (inv Y) · mul-inv p)) (search quote depth 24) tt
 
   div-error : (κ : Fraction) (k b : ℕ) → nat 0 ≤F κ → k + b * l ≤ 2 ^ 20
       → nat 2 *F (I *F (κ *F (nat k *F u) +F (κ *F nat b *F inv μ) *F (μ *F (nat l *F u)))) ≤F (κ /F μ) *F ((nat 2 *F nat (k + b * l) +F nat 1) *F u)
-  div-error κ k b f n = le-by (μ ∷ inv μ ∷ κ ∷ nat k ∷ nat b ∷ nat l ∷ nat (k + b * l) ∷ u ∷ []) 0
-      (f ⊠ inv-nn p ⊠ u-nn ⊠ up (fourth l (k + b * l) h n)
-      ⊞ eqn (nat 2 *F I *F κ *F nat b *F (nat l *F u) · mul-inv p & negF (nat 2 *F κ *F inv μ *F u *F (nat 1 +F nat 2 *F (nat l *F u))) · plus-product k b l)) (search quote depth 24) tt
+  div-error κ k b f n = le-by (μ ∷ inv μ ∷ κ ∷ nat k ∷ nat b ∷ nat l ∷ u ∷ []) 0
+      (f ⊠ inv-nn p ⊠ u-nn ⊠ up (small (4 * (l * (k + b * l))) (products l (k + b * l) h n)) ⊞ eqn (nat 2 *F I *F κ *F nat b *F (nat l *F u) · mul-inv p)) (search quote depth 24) tt
 
 pub near-div : {x y : Float} {q κ μ : Fraction} {k b l : ℕ} → Near x q κ k b → Near y μ μ l 1 → Fair (κ /F μ) → T (leb (k + b * l + b + 1 + b) (2 ^ 20)) → Near (Op._⊘_ x y) (q /F μ) (κ /F μ) (k + b * l + b + 1) b
 near-div {x} {y} {q} {κ} {μ} {k} {b} {l} h g f t =

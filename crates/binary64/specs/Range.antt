@@ -2,17 +2,16 @@
 -- `Most x s A C`: x is finite, has the sign s, and is at most A / C in size. `Least x B E`: it is at least B / E in size. Assumes nothing.
 use mathlib.Core.Path.{_≡_, refl, sym, ap, _∙_, subst, subst₂}
 use Prim.Native.Nat.{ℕ, zero, suc, _+_, _*_, _/_, _^_, _≤_, _<_, zero-le}
-use native.Mathlib.Nat.{le-trans, le-of-eq, zero-mul, zero-lt-suc, mul-le-mul-right}
+use native.Mathlib.Nat.{le-trans, le-of-eq, zero-mul, zero-lt-suc}
 use mathlib.Core.Bool.{Bool, true, false, not, _&&_, cond}
 use lib.Dec.{T, ltb, leb, eqb, ltb→lt, leb→le, eqb→eq}
-use lib.IntN.{ℤ, pos, natAbs}
-use lib.Ieee.{Float, nan, inf, fin, binary64, down, round, le, neg, ofInt}
+use lib.Ieee.{Float, binary64, round, le, neg}
 use lib.Ieee.Exact.{HasValue, round-exact}
 use lib.Ieee.Order.{round-mono}
-use lib.Ieee.Positive.{num, den, den-pos, through, positive, positive-finite, own-value, between}
+use lib.Ieee.Positive.{num, den, den-pos, through}
 use lib.Ieee.Scale.{finite}
-use Rattle.binary64.specs.Operators.{count, negative}
-use Rattle.binary64.specs.Order.{Below, le→below, between-finite, sign-finite, value-finite, value-sign, value-cross, below-zero, int-value}
+use Rattle.binary64.specs.Operators.{negative}
+use Rattle.binary64.specs.Order.{Below, le→below, sign-finite, value-finite, value-sign, value-cross}
 use Rattle.binary64.specs.Sign.{neg-num, neg-den, neg-finite, neg-sign, round-sign, round-num, round-den, round-finite}
 
 -- ---- A / C is a value of binary64: a test that antt computes at numerals
@@ -134,51 +133,3 @@ module _ (s : Bool) (n d : ℕ) (D : 0 < d) where
   round-between A C B E x y h k =
       let m = round-most A C x h in
       (m, round-least B E y (m .fine) k)
-
--- ---- whole numbers up to 2 ^ 53 in size
-whole-between : (x : Float) (s : Bool) (k A B : ℕ) → HasValue x s k 1 → k ≤ A → B ≤ k → Between x s A 1 B 1
-whole-between nan s k A B v h l = absurd v
-whole-between (inf t) s k A B v h l = absurd v
-whole-between (fin t m e) s k A B v h l = (
-  record { over = zero-lt-suc 0; fine = tt; sign = v .0; most = le-trans (le-of-eq (v .1)) (mul-le-mul-right (down e) h) },
-  record { over = zero-lt-suc 0; least = le-trans (mul-le-mul-right (down e) l) (le-of-eq (sym (v .1))) },
-)
-
-pub int-between : (z : ℤ) (A B : ℕ) → natAbs z ≤ A → B ≤ natAbs z → natAbs z ≤ 2 ^ 53 → Between (ofInt binary64 z) (below-zero z) A 1 B 1
-int-between z A B h l m = whole-between (ofInt binary64 z) (below-zero z) (natAbs z) A B (int-value z m) h l
-
-pub count-within : (k A B : ℕ) → k ≤ A → B ≤ k → k ≤ 2 ^ 53 → Within (count k) A 1 B 1
-count-within k A B h l m = int-between (pos k) A B h l m
-
--- ---- ranges from what a program tests, and of closed floats
-positive-sign : (x : Float) → T (positive x) → negative x ≡ false
-positive-sign nan p = absurd p
-positive-sign (inf s) p = absurd p
-positive-sign (fin true m e) p = absurd p
-positive-sign (fin false m e) p = refl
-
-pub tested-within : (lo x hi : Float) → T (positive lo) → T (positive hi) → T (le lo x) → T (le x hi) → Within x (num hi) (den hi) (num lo) (den lo)
-tested-within lo x hi p q h k =
-    let r = between lo x hi p q h k in
-    let s = positive-sign x r in
-    (most-of-le x hi (num hi) (den hi) s (den-pos hi) (own-value hi q) k, least-of-le lo x (num lo) (den lo) s (positive-finite x r) (den-pos lo) (own-value lo p) h)
-
-pub tested-sized : (x hi : Float) → T (positive hi) → T (le (neg hi) x) → T (le x hi) → Sized x (num hi) (den hi)
-tested-sized x hi q h k =
-    let p = positive-finite hi q in
-    let n : T (finite (neg hi)) = rw (neg-finite hi) p in
-    let r = between-finite (neg hi) x hi n p h k in
-    let lo : Below true (num hi * den x) (negative x) (num x * den hi) =
-    rw (neg-num hi, neg-den hi) at (rw (neg-sign hi p, positive-sign hi q) at (le→below (neg hi) x n r h)) in
-    let up : Below (negative x) (num x * den hi) false (num hi * den x) = rw (positive-sign hi q) at (le→below x hi r p k) in
-    record { over = den-pos hi; fine = r; sign = refl; most = both (negative x) (num x * den hi) (num hi * den x) lo up }
-  where
-    both : (s : Bool) (a b : ℕ) → Below true b s a → Below s a false b → a ≤ b
-    both true a b h k = h
-    both false a b h k = k
-
-pub literal : (x : Float) (A C B E : ℕ) → T (finite x) → T (ltb 0 C) → T (ltb 0 E) → T (leb (num x * C) (A * den x)) → T (leb (B * den x) (num x * E)) → Between x (negative x) A C B E
-literal x A C B E p c e h k = (
-  record { over = ltb→lt 0 C c; fine = p; sign = refl; most = leb→le (num x * C) (A * den x) h },
-  record { over = ltb→lt 0 E e; least = leb→le (B * den x) (num x * E) k },
-)

@@ -1,6 +1,7 @@
 -- The range of each operation's result from the ranges of its operands. What is asked is that the new bounds are values of binary64 and one inequality of closed numbers for each:
 -- `tt` proves them. Of `Between x s A C B E` the size of x is from B / E to A / C, and its sign is s. Assumes nothing.
 use mathlib.Core.Path.{_≡_, refl, sym, ap₂, subst, subst₂}
+use mathlib.Core.Logic.{_⊎_, inl, inr}
 use Prim.Native.Nat.{ℕ, _+_, _*_, _^_, _≤_, _<_, zero-le}
 use native.Mathlib.Nat.{le-trans, le-of-eq, le-refl, lt-of-lt-of-le, lt-of-mul-lt-mul-right, mul-pos, mul-comm, mul-assoc, mul-left-comm, add-mul, mul-add, zero-mul, mul-le-mul, mul-le-mul-right, le-of-mul-le-mul-right}
 use native.Mathlib.Omega.{arith}
@@ -10,7 +11,10 @@ use lib.Ieee.{Float, binary64, unlike, neg}
 use lib.Ieee.Positive.{num, den, den-pos, first-pos}
 use Rattle.binary64.specs.Operators.{_⊕_, _⊖_, _⊗_, _⊘_, count, negative}
 use Rattle.binary64.specs.Opened.{mul-is, div-is, sub-is, plus, minus, Summed, add-summed}
-use Rattle.binary64.specs.Range.{exact, exact-over, least-zero, count-within, Most, Between, Sized, sized, neg-most, neg-least, round-most, round-between}
+use Rattle.binary64.specs.Range.{exact, exact-over, Most, Between, Sized, sized, neg-most, neg-least, round-most, round-between}
+-- (where ranges start, so that one line brings in all)
+pub use Rattle.binary64.specs.Range.{least-zero}
+pub use Rattle.binary64.specs.RangeTests.{literal, tested-within, tested-sized, int-between, count-within}
 
 -- ---- products and sums of fractions of naturals: with x / p ≤ A / C and y / q ≤ B / D
 ruleset ac = (add-mul, mul-add, mul-assoc, mul-comm, mul-left-comm)
@@ -53,6 +57,15 @@ module _ (x p A C y q B D G H : ℕ) (P : 0 < C) (Q : 0 < D) where
       let b = simp ac at (mul-le-mul-right (p * C * H) k) in
       let c = simp ac at (mul-le-mul-right (p * q) l) in
       let z : (G * (p * q) + y * p * H) * (C * D) ≤ x * q * H * (C * D) = simp ac (omega arith) in
+      le-of-mul-le-mul-right z (mul-pos P Q)
+
+  -- A / C ≤ G / H + B / D, and B / D ≤ y / q
+  rest-le : x * C ≤ A * p → B * q ≤ y * D → A * (H * D) ≤ (G * D + B * H) * C → x * q * H ≤ G * (p * q) + y * p * H
+  rest-le h k l =
+      let a = simp ac at (mul-le-mul-right (q * D * H) h) in
+      let b = simp ac at (mul-le-mul-right (p * C * H) k) in
+      let c = simp ac at (mul-le-mul-right (p * q) l) in
+      let z : x * q * H * (C * D) ≤ (G * (p * q) + y * p * H) * (C * D) = simp ac (omega arith) in
       le-of-mul-le-mul-right z (mul-pos P Q)
 
 -- ---- ⊗
@@ -149,6 +162,28 @@ add-alike {x} {y} {s} {A} {C} {B} {E} {A'} {C'} {B'} {E'} h k G H K J e e' l m =
     (le-trans (sum-ge (num x) (den x) B E (num y) (den y) B' E' K J (h .1 .over) (k .1 .over) (h .1 .least) (k .1 .least) (leb→le (K * (E * E')) ((B * E' + B' * E) * J) m))
     (mul-le-mul-right J (size-alike s (num x * den y) (num y * den x) (w .size) (subst (λ (σ : Bool). plus s (num x * den y) + plus s (num y * den x) + minus σ (w .size) ≡ minus s (num x * den y) + minus s (num y * den x) + plus σ (w .size)) (w .alike refl) (w .adds))))))
 
+-- of opposite signs: the difference of the sizes, either way round
+unlike-size : (s σ : Bool) (p q n : ℕ) → plus s p + plus (not s) q + minus σ n ≡ minus s p + minus (not s) q + plus σ n → (n + q ≤ p) ⊎ (n + p ≤ q)
+unlike-size false false p q n e = inl (omega arith)
+unlike-size false true p q n e = inr (omega arith)
+unlike-size true false p q n e = inr (omega arith)
+unlike-size true true p q n e = inl (omega arith)
+
+drop : (n p q H B : ℕ) → n + q ≤ p → p * H ≤ B + q * H → n * H ≤ B
+drop n p q H B h k = let a = simp add-mul at (mul-le-mul-right H h) in omega arith
+
+pub add-unlike : {x y : Float} {s : Bool} {A C B E A' C' B' E' : ℕ} → Between x s A C B E → Between y (not s) A' C' B' E' → (G H : ℕ) → T (exact G H)
+    → T (leb (A * (H * E')) ((G * E' + B' * H) * C)) → T (leb (A' * (H * E)) ((G * E + B * H) * C')) → Sized (x ⊕ y) G H
+add-unlike {x} {y} {s} {A} {C} {B} {E} {A'} {C'} {B'} {E'} h k G H e l m =
+    let w = summed (h .0) (k .0) in
+    sized (subst (λ (z : Float). Most z (w .sign) G H) (sym (w .is)) (round-most (w .sign) (w .size) (den x * den y) (dens (h .0) (k .0)) G H e
+    (elim (unlike-size s (w .sign) (num x * den y) (num y * den x) (w .size) (w .adds)) [
+      | inl g ↦ drop (w .size) (num x * den y) (num y * den x) H (G * (den x * den y)) g
+          (rest-le (num x) (den x) A C (num y) (den y) B' E' G H (h .0 .over) (k .1 .over) (h .0 .most) (k .1 .least) (leb→le (A * (H * E')) ((G * E' + B' * H) * C) l))
+      | inr g ↦ drop (w .size) (num y * den x) (num x * den y) H (G * (den x * den y)) g
+          (rw (mul-comm (den x) (den y)) (rest-le (num y) (den y) A' C' (num x) (den x) B E G H (k .0 .over) (h .1 .over) (k .0 .most) (h .1 .least) (leb→le (A' * (H * E)) ((G * E + B * H) * C') m)))
+    ])))
+
 -- a second operand of any sign that is no larger than the first: K / J is what it leaves, above 0 where the first is negative
 pub add-over : {x y : Float} {s t : Bool} {A C B E A' C' : ℕ} → Between x s A C B E → Most y t A' C' → (G H K J : ℕ) → T (ltb 0 K || not s) → T (exact G H) → T (exact K J)
     → T (leb ((A * C' + A' * C) * H) (G * (C * C'))) → T (leb ((K * C' + A' * J) * E) (B * (J * C'))) → Between (x ⊕ y) s G H K J
@@ -173,11 +208,16 @@ pub sub-unlike : {x y : Float} {s : Bool} {A C B E A' C' B' E' : ℕ} → Betwee
     → T (leb ((A * C' + A' * C) * H) (G * (C * C'))) → T (leb (K * (E * E')) ((B * E' + B' * E) * J)) → Between (x ⊖ y) s G H K J
 sub-unlike {x} {y} {s} {A' = A'} {C'} {B'} {E'} h k G H K J e e' l m =
     subst (λ (w : Float). Between w s G H K J) (sym (sub-is binary64 x y))
-    (add-alike h (subst (λ (b : Bool). Most (neg y) b A' C') (twice s) (neg-most (k .0)), neg-least (k .1)) G H K J e e' l m)
+    (add-alike h (subst (λ (b : Bool). Most (neg y) b A' C') (not-not s) (neg-most (k .0)), neg-least (k .1)) G H K J e e' l m)
   where
-    twice : (s : Bool) → not (not s) ≡ s
-    twice true = refl
-    twice false = refl
+    not-not : (s : Bool) → not (not s) ≡ s
+    not-not true = refl
+    not-not false = refl
+
+-- of one sign
+pub sub-alike : {x y : Float} {s : Bool} {A C B E A' C' B' E' : ℕ} → Between x s A C B E → Between y s A' C' B' E' → (G H : ℕ) → T (exact G H)
+    → T (leb (A * (H * E')) ((G * E' + B' * H) * C)) → T (leb (A' * (H * E)) ((G * E + B * H) * C')) → Sized (x ⊖ y) G H
+sub-alike {x} {y} h k G H e l m = subst (λ (w : Float). Sized w G H) (sym (sub-is binary64 x y)) (add-unlike h (neg-most (k .0), neg-least (k .1)) G H e l m)
 
 -- ---- quotients by whole numbers
 unlike-plus : (s : Bool) → unlike s false ≡ s

@@ -15,7 +15,7 @@ use Rattle.fraction.specs.Within.{within-resp, within-add, within-mul, w
 use Rattle.fraction.specs.Certificate.{quote, le-by, eq-by, up, eqn, _⊞_, _⊠_, _·_, _&_}
 
 -- above 0: so is the number above
-pub top-pos : {x : Fraction} → nat 0 <F x → pos 0 <ℤ x .top
+top-pos : {x : Fraction} → nat 0 <F x → pos 0 <ℤ x .top
 unfolding whole
 top-pos {x} h = elim (≤ℤ-or (x .top) (pos 0)) [
   | inl k ↦ absurd (lt-not-le h (record { cross = zle-by (x .top ∷ below x ∷ []) (Z.up (x .top) (pos 0) k) (x .top *ℤ pos 1) (pos 0 *ℤ below x) (search zquote depth 24) tt }))

@@ -23,13 +23,13 @@
 -- USED (Certificate): each identity or inequality is one line. It lists the terms that count as variables (at most 16; any terms, such as
 -- `inv y` or `nat n`), and `search quote depth 24` reads the rest back as polynomials in them. Numbers that are written out need no listing,
 -- and `nat (a + b)`, `nat (a * b)` are taken apart.
---   an identity
+--   an identity; here (x + y)·(x² − x·y + y²) = x³ + y³ (`cubes` of Examples)
 --     ring (x ∷ y ∷ []) (search quote depth 24) tt
---   x ≤F y: a certificate, which is a term shown to be at least 0 that equals (k + 1) · (y − x); here k is 0
+--   x ≤F y: a certificate, a term shown to be at least 0 that equals (k + 1)·(y − x); here 3·x ≤ y + 2·z of x ≤ y ≤ z, k = 0 (`between`)
 --     le-by (x ∷ y ∷ z ∷ []) 0 (num 3 ⊠ up h ⊞ num 2 ⊠ up k) (search quote depth 24) tt
---   x within b: two certificates, of b − x and of x + b
+--   x within b: two certificates, of b − x and of x + b; here ∣−x∣ ≤ b of ∣x∣ ≤ b (`within-neg` of Within; `square-error` has k = 1)
 --     within-by (x ∷ b ∷ []) 0 (lo h) (hi h) (search quote depth 24) tt tt
---   x ≈F y from equations: y − x is the sum of the e · (b − a), for equations h : a ≈F b
+--   x ≈F y from equations: y − x is a sum of e·(b − a), one for each h : a ≈F b; here x / y · y = x (`quotient`)
 --     eq-by (x ∷ y ∷ inv y ∷ []) (x · mul-inv p) (search quote depth 24) tt
 -- What a certificate is made of:
 --   up h     y − x        h : x ≤F y              num n       a natural number

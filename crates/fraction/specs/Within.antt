@@ -41,6 +41,9 @@ apart-sym x y {e} h = within-by (x ∷ y ∷ e ∷ []) 0 (lo h) (hi h) (search q
 pub apart-trans : (x y z : Fraction) {e f : Fraction} → x -F y within e → y -F z within f → x -F z within e +F f
 apart-trans x y z {e} {f} h k = within-by (x ∷ y ∷ z ∷ e ∷ f ∷ []) 0 (hi h ⊞ hi k) (lo h ⊞ lo k) (search quote depth 24) tt tt
 
+pub apart-add : (x y z : Fraction) {e : Fraction} → x -F y within e → x +F z -F (y +F z) within e
+apart-add x y z h = within-resp (ring (x ∷ y ∷ z ∷ []) (search quote depth 24) tt) h
+
 -- each is at most the other and e
 pub apart : {x y e : Fraction} → x ≤F y +F e → y ≤F x +F e → x -F y within e
 apart {x} {y} {e} h k = within-by (x ∷ y ∷ e ∷ []) 0 (up h) (up k) (search quote depth 24) tt tt
