@@ -12,9 +12,10 @@ use Rattle.fraction.specs.Fraction.{Fraction, nat, pow2, _+F_, _-F_, _*F_, _/F_
 use Rattle.binary64.specs.Value.{val}
 use Rattle.diffusion.specs.SubStep.{subStep}
 use Rattle.diffusion.specs.Exact.{numbers, exactStep}
-use Rattle.diffusion.specs.Premises.{Kept, Sound, Ready, Whole}
+use Rattle.diffusion.specs.Premises.{Sound, Whole}
 use Rattle.diffusion.specs.Run.{Grid, Move, drive, run, exactRun, Each, Both, AllReady, Stronger}
-use Rattle.diffusion.specs.RunLaws.{run-whole, run-near, run-unused, ranking, both-length}
+use Rattle.diffusion.specs.RunLaws.{run-whole, run-near, run-unused}
+use Rattle.diffusion.specs.Ranking.{ranking, both-length}
 use Rattle.diffusion.specs.Calls.{Stepper, after, accepted, total, exactAfter, Keeps, Lawful}
 
 -- ---- lists

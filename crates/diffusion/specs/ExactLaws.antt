@@ -1,10 +1,10 @@
 -- Laws of the exact sub-step: every node anew is a mean of old nodes, and at the surface the flux's part more. So it brings two profiles no further apart, and keeps their order,
 -- in the profile and in the flux.
 use Prim.Native.Nat.{ℕ, _+_, _-_, _<_, _≤_}
-use mathlib.Core.Path.{_≡_, refl}
+use mathlib.Core.Path.{_≡_}
 use mathlib.Core.List.{[], _∷_}
 use native.Mathlib.Omega.{arith}
-use Rattle.fraction.specs.Fraction.{Fraction, nat, _+F_, negF, _-F_, _*F_, _/F_, inv, _≤F_, _<F_, _within_, _from_to_}
+use Rattle.fraction.specs.Fraction.{Fraction, nat, _+F_, _-F_, _*F_, _/F_, inv, _≤F_, _<F_, _within_, _from_to_}
 use Rattle.fraction.specs.Certificate.{quote, le-by, within-by, up, hi, lo, num, eqn, _⊞_, _⊠_, _·_}
 use Rattle.fraction.specs.Clamp.{clamp-mono, clamp-apart}
 use Rattle.fraction.specs.Inverse.{mul-inv, inv-nn, mul-pos}

@@ -10,14 +10,13 @@ use lib.Ieee.{Float, nan, neg, ofBits, add, sub, mul, div, ofInt, lt}
 use lib.Ieee.Scale.{finite}
 use Rattle.fraction.specs.Fraction.{Fraction, whole, nat, frac, pow2, turned, inv, negF, _+F_, _-F_, _*F_, _/F_, ∣_∣, _≤?_, minF, maxF, clampF, _≈F_, _≤F_, _within_}
 use Rattle.fraction.specs.Order.{lit≤F, lit≈F}
-use Rattle.fraction.specs.Size.{Size}
 use Rattle.binary64.specs.Operators.{f64}
 use Rattle.binary64.specs.Value.{val}
 use Rattle.turns.specs.Turns.{firstBy}
 use Rattle.diffusion.specs.SubStep.{rate, node, subStep}
 use Rattle.diffusion.specs.Exact.{Numbers, numbers, g, centre, inner, surface, moved, exactNode, exactStep}
 use Rattle.diffusion.specs.Premises.{Kept, Sound, Held, Whole}
-use Rattle.diffusion.specs.Run.{Grid, Move, drive, run, Each, Both, Stronger}
+use Rattle.diffusion.specs.Run.{Grid, Move, drive, run, Each, Both}
 use Rattle.diffusion.specs.Calls.{Stepper, after, accepted, total, exactAfter, Keeps, Lawful}
 use Rattle.diffusion.specs.CallLaws.{calls-near, calls-ranking}
 

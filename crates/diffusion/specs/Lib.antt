@@ -9,6 +9,8 @@ pub mod Profile
 pub mod OneStep
 pub mod Run
 pub mod RunLaws
+pub mod Ranking
+pub mod Copies
 pub mod Calls
 pub mod CallLaws
 pub mod Examples

@@ -1,30 +1,29 @@
--- Lists of sub-steps: after K of them every node is within K·M / 2 ^ 49 of the exact scheme's. Where one list has the greater fluxes its nodes rank above, but for 2·K·M / 2 ^ 49.
-use Prim.Native.Nat.{ℕ, zero, suc, _+_, _^_, _<_, _≤_}
-use mathlib.Core.Path.{_≡_, refl, sym, _∙_, ap, subst}
-use mathlib.Core.List.{List, [], _∷_, _++_, map}
+-- Lists of sub-steps: after K of them every node is finite, from 0 to M, and within K·M / 2 ^ 49 of the exact scheme's.
+use Prim.Native.Nat.{ℕ, suc, _+_, _<_, _≤_}
+use mathlib.Core.Path.{_≡_, refl, _∙_, subst}
+use mathlib.Core.List.{List, [], _∷_, map}
 use native.Mathlib.Nat.{zero-add, add-zero}
 use native.Mathlib.Omega.{arith}
-use lib.ListN.{length, getD, length-map, replicate}
+use lib.ListN.{length, getD, length-map}
 use lib.Ieee.{Float, nan}
 use Rattle.fraction.specs.Fraction.{Fraction, whole, nat, pow2, turned, inv, _+F_, negF, _-F_, _*F_, _/F_, _≤F_, _within_}
 use Rattle.fraction.specs.Field.{le-of-lt}
-use Rattle.fraction.specs.Certificate.{quote, le-by, within-by, up, hi, lo, num, eqn, _⊞_, _⊠_, _·_, _&_}
-use Rattle.fraction.specs.Order.{≤F-refl, nat-suc, lit≤F}
+use Rattle.fraction.specs.Certificate.{quote, le-by, within-by, up, num, eqn, _⊞_, _⊠_, _·_}
+use Rattle.fraction.specs.Order.{nat-suc, lit≤F}
 use Rattle.fraction.specs.Size.{size-pos}
 use Rattle.fraction.specs.Within.{within-weaken, apart-trans}
 use Rattle.binary64.specs.Error.{u}
 use Rattle.binary64.specs.Value.{val}
-use Rattle.turns.specs.Turns.{times}
-use Rattle.diffusion.specs.SubStep.{Drive, subStep}
-use Rattle.diffusion.specs.Exact.{Numbers, numbers, exactNode, exactStep}
-use Rattle.diffusion.specs.ExactLaws.{withFlux, contraction, monotone}
+use Rattle.diffusion.specs.SubStep.{subStep}
+use Rattle.diffusion.specs.Exact.{Numbers, numbers, exactStep}
+use Rattle.diffusion.specs.ExactLaws.{contraction}
 use Rattle.diffusion.specs.Premises.{Ready, Stable, Whole, ready-stable}
 use Rattle.diffusion.specs.Profile.{step-length, step-unused, exact-length, exact-place, values-at}
 use Rattle.diffusion.specs.OneStep.{sub-step-whole, sub-step-near}
-use Rattle.diffusion.specs.Run.{Grid, Move, drive, run, exactRun, Each, Both, AllReady, Stronger}
+use Rattle.diffusion.specs.Run.{Grid, Move, drive, run, exactRun, Each, AllReady}
 
 -- a sub-step's share of the bound: the 14 / 2 ^ 53 of its rounding are within it
-abbrev share : Fraction
+abbrev pub share : Fraction
 share = inv (pow2 49)
 
 share-holds : nat 14 *F u ≤F share
@@ -32,7 +31,7 @@ unfolding u inv turned whole _*F_
 share-holds = lit≤F tt
 
 -- K·M / 2 ^ 49
-abbrev bound : ℕ → Fraction → Fraction
+abbrev pub bound : ℕ → Fraction → Fraction
 bound K M = nat K *F M *F share
 
 one-more : {M : Fraction} (K : ℕ) → nat 0 ≤F M → M *F (nat 14 *F u) +F bound K M ≤F bound (suc K) M
@@ -103,55 +102,3 @@ module _ (b : Grid) where
   unfolding run
   run-unused [] c i d l = refl
   run-unused (m ∷ ms) c i d l = run-unused ms (subStep (drive b m) c) i d l ∙ step-unused (drive b m) c i d l
-
-  -- ---- two lists, of which the second has the greater fluxes
-  stronger-numbers : {m m' : Move} → Stronger m m' → numbers (drive b m') ≡ withFlux (numbers (drive b m)) (val (m' .j_n))
-  stronger-numbers s = rw (s .same-d, s .same-t)
-
-  exact-mono : {ms ms' : List Move} → Both Stronger ms ms' → AllReady b ms → (x y : List Fraction) → b .n ≤ length x → b .n ≤ length y → ((i : ℕ) → i < b .n → getD x i (nat 0) ≤F getD y i (nat 0))
-      → (i : ℕ) → i < b .n → getD (exactRun b ms x) i (nat 0) ≤F getD (exactRun b ms' y) i (nat 0)
-  unfolding exactRun
-  exact-mono Both.none rs x y p q h i l = h i l
-  exact-mono (Both.more {x = m} {y = m'} k a) (Each.more r rs) x y p q h i l =
-      let e = numbers (drive b m) in
-      let f = withFlux (numbers (drive b m)) (val (m' .j_n)) in
-      rw (stronger-numbers k)
-      (exact-mono a rs (exactStep e x) (exactStep f y) (rw (exact-length e x) p) (rw (exact-length f y) q)
-      (λ i l. rw (exact-place e x i l p, exact-place f y i l q) (monotone e (ready-stable r) (val (m' .j_n)) (k .flux) (λ k. getD x k (nat 0)) (λ k. getD y k (nat 0)) h i l)) i l)
-
-pub both-length : {A : Type 0} {R : A → A → Type 0} {xs ys : List A} → Both R xs ys → length xs ≡ length ys
-both-length Both.none = refl
-both-length (Both.more r rs) = ap suc (both-length rs)
-
--- RANKING: from one profile the second list's nodes are nowhere more than 2·K·M / 2 ^ 49 below the first's
-pub ranking : (b : Grid) {ms ms' : List Move} (c : List Float) → Both Stronger ms ms' → AllReady b ms → AllReady b ms' → Whole (b .n) (val (b .c_max)) c → (i : ℕ) → i < b .n
-    → val (getD (run b ms c) i nan) ≤F val (getD (run b ms' c) i nan) +F nat 2 *F nat (length ms) *F val (b .c_max) /F pow2 49
-ranking b {ms} {ms'} c a rs rs' w i l =
-    let x = val (getD (run b ms c) i nan) in
-    let y = val (getD (run b ms' c) i nan) in
-    let X = getD (exactRun b ms (map val c)) i (nat 0) in
-    let Y = getD (exactRun b ms' (map val c)) i (nat 0) in
-    let long : b .n ≤ length (map val c) = rw (length-map c val) (w .long) in
-    let h : X ≤F Y = exact-mono b a rs (map val c) (map val c) long long (λ i l. ≤F-refl) i l in
-    let p : x -F X within bound (length ms) (val (b .c_max)) = run-near b ms c rs w i l in
-    let q : y -F Y within bound (length ms) (val (b .c_max)) = rw (both-length a) (run-near b ms' c rs' w i l) in
-    le-by (x ∷ y ∷ X ∷ Y ∷ nat (length ms) ∷ val (b .c_max) ∷ share ∷ []) 0 (up h ⊞ hi p ⊞ lo q) (search quote depth 24) tt
-
--- ---- one sub-step k times over
-times-inside : {A : Type 0} (f : A → A) (k : ℕ) (x : A) → times k f (f x) ≡ f (times k f x)
-unfolding times
-times-inside f zero x = refl
-times-inside f (suc k) x = ap f (times-inside f k x)
-
-pub run-times : (b : Grid) (m : Move) (k : ℕ) (c : List Float) → run b (replicate k m) c ≡ times k (subStep (drive b m)) c
-unfolding run times
-run-times b m zero c = refl
-run-times b m (suc k) c = run-times b m k (subStep (drive b m) c) ∙ times-inside (subStep (drive b m)) k c
-
-pub each-copies : {A : Type 0} (P : A → Type 0) (x : A) (k : ℕ) → P x → Each P (replicate k x)
-each-copies P x zero p = Each.none
-each-copies P x (suc k) p = Each.more p (each-copies P x k p)
-
-pub both-copies : {A : Type 0} (R : A → A → Type 0) (x y : A) (k : ℕ) → R x y → Both R (replicate k x) (replicate k y)
-both-copies R x y zero r = Both.none
-both-copies R x y (suc k) r = Both.more r (both-copies R x y k r)
