@@ -1,17 +1,14 @@
 -- One sub-step in binary64 against the exact one from the same profile: every node is finite, from 0 to M, and within 14·M / 2 ^ 53 of the exact node.
 use Prim.Native.Nat.{ℕ, _+_, _-_, _<_, _≤_}
-use mathlib.Core.Path.{_≡_, refl, fun-ext}
+use mathlib.Core.Path.{_≡_, fun-ext}
 use mathlib.Core.List.{List, map}
 use native.Mathlib.Nat.{le-refl}
 use native.Mathlib.Omega.{arith}
-use lib.Dec.{T}
 use lib.ListN.{length, getD, length-map}
-use lib.Ieee.{Float, nan, ofBits}
-use lib.Ieee.Scale.{finite}
-use Rattle.fraction.specs.Fraction.{Fraction, whole, nat, _-F_, _*F_, clampF, _≈F_, _≤F_, _within_}
+use lib.Ieee.{Float, nan}
+use Rattle.fraction.specs.Fraction.{Fraction, nat, _-F_, _*F_, clampF, _≤F_, _within_}
 use Rattle.fraction.specs.Field.{≈F-refl, ≈F-sym, +F-cong, ≤F-of-≈F, ≤F-trans, le-of-lt}
 use Rattle.fraction.specs.Clamp.{clamp-apart, clamp-between}
-use Rattle.fraction.specs.Order.{lit≈F}
 use Rattle.fraction.specs.Size.{size-pos}
 use Rattle.fraction.specs.Within.{within-resp}
 use Rattle.binary64.specs.Operators.{_⊕_, _⊗_, f64}
@@ -22,19 +19,11 @@ use Rattle.binary64.specs.Value.{val}
 use Rattle.diffusion.specs.SubStep.{Drive, shellRate, ghostNode, rate, node, subStep}
 use Rattle.diffusion.specs.Exact.{Numbers, numbers, moved, exactNode, exactStep}
 use Rattle.diffusion.specs.ExactLaws.{moved-inner, moved-surface}
-use Rattle.diffusion.specs.Premises.{Ready, Held, Whole}
+use Rattle.diffusion.specs.Premises.{Ready, Held, Whole, zero-fine, zero-val}
 use Rattle.diffusion.specs.Places.{by-place, other-place, before-place, from-place}
 use Rattle.diffusion.specs.Profile.{step-length, step-place, exact-place, values-at}
 use Rattle.diffusion.specs.Chain.{centre-near, inner-near, surface-near}
 use Rattle.diffusion.specs.ClampValue.{Clamped, clamp-value}
-
-zero-fine : T (finite (f64 0))
-unfolding ofBits
-zero-fine = tt
-
-zero-val : val (f64 0) ≈F nat 0
-unfolding ofBits val whole
-zero-val = lit≈F refl
 
 -- which rate is which
 module _ (v : Drive) (c : ℕ → Float) where

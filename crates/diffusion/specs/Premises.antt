@@ -1,14 +1,18 @@
 -- What is asked of a sub-step: the two conditions of the demand, and ranges that every checked sheet, grid and load is well inside of. Definitions, and what they give at once.
 use Prim.Native.Nat.{ℕ, _<_, _≤_}
+use mathlib.Core.Path.{refl}
 use mathlib.Core.List.{List}
 use lib.Dec.{T}
 use lib.ListN.{length, getD}
-use lib.Ieee.{Float, nan}
+use lib.Ieee.{Float, nan, le, ofBits}
 use lib.Ieee.Scale.{finite}
-use Rattle.fraction.specs.Fraction.{Fraction, nat, _*F_, ∣_∣, _≤F_, _<F_, _from_to_}
-use Rattle.fraction.specs.Field.{le-of-lt}
+use Rattle.fraction.specs.Fraction.{Fraction, whole, nat, _*F_, ∣_∣, _≈F_, _≤F_, _<F_, _from_to_}
+use Rattle.fraction.specs.Field.{≈F-sym, ≤F-of-≈F, ≤F-trans, le-of-lt}
+use Rattle.fraction.specs.Order.{lit≈F}
 use Rattle.fraction.specs.Size.{Size, size-pos}
-use Rattle.binary64.specs.Value.{val}
+use Rattle.binary64.specs.Operators.{f64}
+use Rattle.binary64.specs.Order.{between-finite}
+use Rattle.binary64.specs.Value.{val, le-val}
 use Rattle.diffusion.specs.SubStep.{Drive}
 use Rattle.diffusion.specs.Exact.{Numbers, numbers}
 
@@ -32,6 +36,15 @@ pub record Ready (v : Drive) : Type 0 where
   pub sound : Sound v
   pub kept : Kept (numbers v)
 
+-- ---- 0, and the nodes
+pub zero-fine : T (finite (f64 0))
+unfolding ofBits
+zero-fine = tt
+
+pub zero-val : val (f64 0) ≈F nat 0
+unfolding ofBits val whole
+zero-val = lit≈F refl
+
 -- a node: finite, and from 0 to M
 pub record Held (M : Fraction) (x : Float) : Type 0 where
   pub fine : T (finite x)
@@ -41,6 +54,12 @@ pub record Held (M : Fraction) (x : Float) : Type 0 where
 pub record Whole (n : ℕ) (M : Fraction) (c : List Float) : Type 0 where
   pub long : n ≤ length c
   pub held : (i : ℕ) → i < n → Held M (getD c i nan)
+
+-- a node that a program's comparisons found to be from 0 to M
+pub held-tested : (x M : Float) → T (finite M) → T (le (f64 0) x) → T (le x M) → Held (val M) x
+held-tested x M p h k =
+    let f = between-finite (f64 0) x M zero-fine p h k in
+    record { fine = f; range = record { lower = ≤F-trans (≤F-of-≈F (≈F-sym zero-val)) (le-val (f64 0) x zero-fine f h); upper = le-val x M f p k } }
 
 -- ---- what the exact scheme's own laws need
 pub record Stable (e : Numbers) : Type 0 where
