@@ -22,6 +22,6 @@ pub each-copies : {A : Type 0} (P : A → Type 0) (x : A) (k : ℕ) → P x → 
 each-copies P x zero p = Each.none
 each-copies P x (suc k) p = Each.more p (each-copies P x k p)
 
-pub both-copies : {A : Type 0} (R : A → A → Type 0) (x y : A) (k : ℕ) → R x y → Both R (replicate k x) (replicate k y)
-both-copies R x y zero r = Both.none
-both-copies R x y (suc k) r = Both.more r (both-copies R x y k r)
+pub both-copies : {A : Type 0} {P : A → Type 0} (R : A → A → Type 0) (x y : A) (k : ℕ) → (P x → P y → R x y) → Each P (replicate k x) → Each P (replicate k y) → Both R (replicate k x) (replicate k y)
+both-copies R x y zero f ps qs = Both.none
+both-copies R x y (suc k) f (Each.more p ps) (Each.more q qs) = Both.more (f p q) (both-copies R x y k f ps qs)
