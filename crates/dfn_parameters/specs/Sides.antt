@@ -33,6 +33,14 @@ cathodeOf p = record {
 abbrev pub areaOf : Side → Float
 areaOf s = f64 0x4008_0000_0000_0000 ⊗ s .eps ⊘ s .r
 
+-- the constant of Faraday
+abbrev pub faraday : Float
+faraday = f64 0x40f7_8e50_0000_0000
+
+-- current / (a * l * FARADAY * area)
+abbrev pub poreFlux : Side → Float → Float → Float
+poreFlux s area current = current ⊘ (areaOf s ⊗ s .l ⊗ faraday ⊗ area)
+
 -- Horner's rule from 0.0 over the first k coefficients, the highest power first
 unfoldable pub horner : List Float → Float → ℕ → Float
 horner c theta zero = f64 0

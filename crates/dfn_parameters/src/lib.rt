@@ -6,7 +6,7 @@ ghost use mathlib.Core.Path.{_≡_};
 ghost use Prim.Native.Nat.{_≤_};
 ghost use Rattle.dfn_parameters.specs.Ranges.{numbersFit, coefficientFits, coefficientsFit, parametersFit, gridFits, limitsFit};
 ghost use Rattle.dfn_parameters.specs.Ready.{nmcGraphite, lfpGraphite};
-ghost use Rattle.dfn_parameters.specs.Sides.{anodeOf, cathodeOf, areaOf, horner};
+ghost use Rattle.dfn_parameters.specs.Sides.{anodeOf, cathodeOf, areaOf, poreFlux, horner};
 
 pub struct DfnParams {
     // Thickness of the anode, the separator and the cathode, m; area of the plates, m^2.
@@ -239,6 +239,13 @@ impl Side {
         ensures { λ r. ⌜ r ≡ areaOf self ⌝ }
     {
         3.0 * self.eps / self.r
+    }
+
+    // The flux through the particles' surfaces that a current asks for, over plates of an area.
+    pub fn pore_flux(self, area: f64, current: f64) -> f64
+        ensures { λ r. ⌜ r ≡ poreFlux self area current ⌝ }
+    {
+        current / (self.specific_area() * self.l * 96485.0 * area)
     }
 }
 
