@@ -5,6 +5,7 @@ mod ranges;
 mod functions;
 mod sheets;
 mod particles;
+mod porous;
 
 use libc::STDOUT_FILENO;
 use list::{OVER, AGREES};
@@ -24,6 +25,10 @@ const PARTICLE_NEW: u64 = 10;
 const PARTICLE_STEP: u64 = 11;
 const PARTICLE_DT_STABLE: u64 = 12;
 const PARTICLE_NUMBERS: u64 = 13;
+const READY_PARAMETERS: u64 = 14;
+const DFN_NEW: u64 = 15;
+const DFN_STEP: u64 = 16;
+const RUN_GALVANOSTATIC: u64 = 17;
 
 fn line(which: u64, fd: i32) -> u64 {
     match which {
@@ -41,6 +46,10 @@ fn line(which: u64, fd: i32) -> u64 {
         PARTICLE_STEP => particles::step_line(fd),
         PARTICLE_DT_STABLE => particles::dt_stable_line(fd),
         PARTICLE_NUMBERS => particles::number_line(fd),
+        READY_PARAMETERS => porous::ready_line(fd),
+        DFN_NEW => porous::new_line(fd),
+        DFN_STEP => porous::step_line(fd),
+        RUN_GALVANOSTATIC => porous::run_line(fd),
         _ => OVER,
     }
 }
@@ -89,4 +98,8 @@ fn main() {
     replay(PARTICLE_STEP, b"particle_step.txt");
     replay(PARTICLE_DT_STABLE, b"particle_dt_stable.txt");
     replay(PARTICLE_NUMBERS, b"particle_numbers.txt");
+    replay(READY_PARAMETERS, b"ready_parameters.txt");
+    replay(DFN_NEW, b"dfn_new.txt");
+    replay(DFN_STEP, b"dfn_step.txt");
+    replay(RUN_GALVANOSTATIC, b"run_galvanostatic.txt");
 }

@@ -87,6 +87,30 @@ slice-aggregate-replay-14 c = search needs
 replay-requires-14 : tie.Need-replay-requires-14
 replay-requires-14 c κs = search needs
 
+slice-aggregate-replay-15 : tie.Need-slice-aggregate-replay-15
+slice-aggregate-replay-15 c = search needs
+
+replay-requires-15 : tie.Need-replay-requires-15
+replay-requires-15 c κs = search needs
+
+slice-aggregate-replay-16 : tie.Need-slice-aggregate-replay-16
+slice-aggregate-replay-16 c = search needs
+
+replay-requires-16 : tie.Need-replay-requires-16
+replay-requires-16 c κs = search needs
+
+slice-aggregate-replay-17 : tie.Need-slice-aggregate-replay-17
+slice-aggregate-replay-17 c = search needs
+
+replay-requires-17 : tie.Need-replay-requires-17
+replay-requires-17 c κs = search needs
+
+slice-aggregate-replay-18 : tie.Need-slice-aggregate-replay-18
+slice-aggregate-replay-18 c = search needs
+
+replay-requires-18 : tie.Need-replay-requires-18
+replay-requires-18 c κs = search needs
+
 returns : tie.Need-returns
 returns c = search needs
 
@@ -122,4 +146,12 @@ main-spec =
     replay-requires-13
     slice-aggregate-replay-14
     replay-requires-14
+    slice-aggregate-replay-15
+    replay-requires-15
+    slice-aggregate-replay-16
+    replay-requires-16
+    slice-aggregate-replay-17
+    replay-requires-17
+    slice-aggregate-replay-18
+    replay-requires-18
     returns)
