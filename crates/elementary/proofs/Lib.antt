@@ -5,7 +5,10 @@ pub mod SignLaws
 pub mod CountLaws
 pub mod BenchCells
 pub mod Literals
+pub mod Constants
 pub mod ExpRange
 pub mod LnRange
 pub mod PowRange
 pub mod AsinhRange
+pub mod ArrheniusRange
+pub mod Specials
