@@ -14,6 +14,7 @@ use Rattle.binary64.specs.RangeOps.{mul-most, add-alike, least-zero}
 use Rattle.binary64.specs.RangeTests.{tested-within, within-positive, within-ge, most-le}
 use Rattle.square_root.specs.Root.{sqrtOf, rounded, wholeRoot, rootBelow}
 use Rattle.square_root.specs.Standard.{natural}
+use Rattle.square_root.proofs.Standard.{positive-natural}
 use Rattle.square_root.proofs.Monotone.{sqrt-mono}
 use Rattle.elementary.specs.Exp.{one}
 use Rattle.elementary.specs.Ln.{lnOf}
@@ -31,12 +32,6 @@ abs-most (fin s m e) A C h = record { over = h .over; fine = tt; sign = refl; mo
 root-ends : (sqrtOf one ≡ one) × (sqrtOf (f64 0x7e70_0000_0000_0000) ≡ f64 0x5f30_0000_0000_0000)
 unfolding sqrtOf rounded wholeRoot rootBelow round size ofBits
 root-ends = (refl, refl)
-
-positive-natural : (x : Float) → T (positive x) → T (natural x)
-positive-natural nan p = absurd p
-positive-natural (inf s) p = absurd p
-positive-natural (fin true m e) p = absurd p
-positive-natural (fin false m e) p = tt
 
 root-within : (z : Float) → T (fits binary64 z) → Within z (2 ^ 1000) 1 1 1 → Within (sqrtOf z) (2 ^ 500) 1 1 1
 unfolding ofBits

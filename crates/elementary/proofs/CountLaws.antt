@@ -16,15 +16,16 @@ use Rattle.binary64.specs.Operators.{f64}
 use Rattle.binary64.specs.Order.{le→below, not→lt}
 use Rattle.binary64.specs.Held.{own-round}
 use Rattle.elementary.specs.Count.{ceilDiv, ceilOf}
+use Rattle.elementary.proofs.Format.{held}
+
+after : (n : ℕ) → n < n + 1
+after n = omega arith
 
 -- ---- `ceilDiv a d` is the least n with a ≤ n * d
 pub ceil-reaches : (a d : ℕ) → 0 < d → a ≤ ceilDiv a d * d
 ceil-reaches a d p =
-    let l : a + (d - 1) < (ceilDiv a d + 1) * d = div-lt-iff-lt-mul p .0 (next (ceilDiv a d)) in
+    let l : a + (d - 1) < (ceilDiv a d + 1) * d = div-lt-iff-lt-mul p .0 (after (ceilDiv a d)) in
     omega (arith, add-mul (ceilDiv a d) 1 d)
-  where
-    next : (n : ℕ) → n < n + 1
-    next n = omega arith
 
 pub ceil-least : (a d n : ℕ) → 0 < d → a ≤ n * d → ceilDiv a d ≤ n
 ceil-least a d n p h =
@@ -39,11 +40,8 @@ ceil-at a d p h =
 
 ceil-next : (a d : ℕ) → 0 < d → a / d * d < a → a / d + 1 ≡ ceilDiv a d
 ceil-next a d p h =
-    let u : a < (a / d + 1) * d = div-lt-iff-lt-mul p .0 (next (a / d)) in
+    let u : a < (a / d + 1) * d = div-lt-iff-lt-mul p .0 (after (a / d)) in
     sym (div-eq-of-lt-le d (omega (arith, add-mul (a / d) 1 d)) (omega (arith, add-mul (a / d) 1 d, add-mul (a / d + 1) 1 d)))
-  where
-    next : (n : ℕ) → n < n + 1
-    next n = omega arith
 
 -- ---- what is not above zero, and what is too large
 pub ceil-zero : (q : Float) → lt (f64 0) q ≡ false → 0 ≡ ceilOf q
@@ -140,7 +138,7 @@ part-counted m j l =
     })
 
 pub counted : (q : Float) → T (fits binary64 q) → lt (f64 0) q ≡ true → le (f64 0x43f0_0000_0000_0000) q ≡ false → CountedBy q (toUnsigned 64 q)
-unfolding lt le ofBits fits
+unfolding lt le ofBits
 counted nan f h k = absurd (false≢true h)
 counted (inf true) f h k = absurd (false≢true h)
 counted (inf false) f h k = absurd (true≢false k)
@@ -150,8 +148,4 @@ counted (fin false m (pos j)) f h k = whole-counted m j f (below m j (ltb→lt (
     below : (m j : ℕ) → m * 2 ^ j * 1 < 1 * 2 ^ 64 * 1 → m * 2 ^ j < 2 ^ 64
     below m j h = omega arith
 counted (fin false zero (negsuc j)) f h k = part-counted 0 j (lit< tt)
-counted (fin false (suc m) (negsuc j)) f h k =
-    let a = eqb (suc m % 2) 1 in
-    let b = ltb (suc m) (2 ^ 53) in
-    let c = leb (2 ^ suc j) (2 ^ 1074) in
-    part-counted (suc m) j (ltb→lt (suc m) (2 ^ 53) (and-r a b (and-l (a && b) c (and-l (a && b && c) (ltb (suc m * 1) (2 ^ 1024 * 2 ^ suc j)) f))))
+counted (fin false (suc m) (negsuc j)) f h k = part-counted (suc m) j (held false m (negsuc j) f .digits)

@@ -1,3 +1,4 @@
+pub mod Format
 pub mod ExpLaws
 pub mod LnLaws
 pub mod LnSplits

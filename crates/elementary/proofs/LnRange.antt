@@ -22,6 +22,7 @@ use Rattle.binary64.specs.RangeOps.{mul-most, div-most, div-between, div-count,
 use Rattle.binary64.specs.RangeTests.{int-between, within-positive}
 use Rattle.elementary.specs.Exp.{one}
 use Rattle.elementary.specs.Ln.{two, ln2, terms, lnParts, raise, lnSplit, mant, expo, lnOf}
+use Rattle.elementary.proofs.Format.{held, lead-le, lead-lt, minus-up, minus-down}
 use Rattle.elementary.proofs.LnLaws.{parts-is}
 use Rattle.elementary.proofs.Constants.{at-1, at-2, at-23, ln2-most}
 
@@ -52,22 +53,6 @@ parts-sized J G ex same ey bound m k sk w kb =
     subst (λ (z : Float). Sized z G 16) (parts-is m k s refl) (add-most km pm G 16 ey bound)
 
 -- ---- the significand is from 1 to 2: as it is below 3/2, from there on halved
-size-pos : (n : ℕ) → 0 < n → 0 < size n
-size-pos n np = lt-of-not-le (λ (g : size n ≤ 0). lt-irrefl 0 (lt-of-lt-of-le np (le-of-suc-le-suc (lt-of-lt-of-le (size-lt n) (pow-mono g)))))
-
--- 2 ^ (size n - 1) ≤ n < 2 * 2 ^ (size n - 1)
-lead-le : (n : ℕ) → 0 < n → 2 ^ (size n - 1) ≤ n
-lead-le n np = size-reaches n (size n - 1) (before (size n) (size-pos n np))
-  where
-    before : (z : ℕ) → 0 < z → z - 1 < z
-    before z h = omega arith
-
-lead-lt : (n : ℕ) → 0 < n → n < 2 * 2 ^ (size n - 1)
-lead-lt n np = lt-of-lt-of-le (size-lt n) (le-of-eq (ap (λ (z : ℕ). 2 ^ z) (sym (suc-pred (size n) (size-pos n np))) ∙ pow-succ' 2 (size n - 1)))
-  where
-    suc-pred : (z : ℕ) → 0 < z → suc (z - 1) ≡ z
-    suc-pred z h = omega arith
-
 mant-within : (n : ℕ) → 0 < n → Within (mant n) 2 1 1 1
 mant-within n np =
     let j = size n - 1 in
@@ -106,13 +91,9 @@ pow-lt-back i p h = lt-of-not-le (λ (g : p ≤ i). lt-irrefl (2 ^ i) (lt-of-lt-
 
 minus-from : (a b i j : ℕ) → a < suc i + b → b ≤ a + j → From j i (minus a b)
 minus-from a b i j h k = elim (decLe b a) [
-  | yes l ↦ subst (From j i) (sym (cond-yes (leb b a) (le→leb b a l))) (omega arith)
-  | no n ↦ let l : a < b = lt-of-not-le n in subst (From j i) (sym (cond-no (leb b a) (pos (a - b)) (negsuc (b - suc a)) (lt→nleb b a l))) (omega arith)
+  | yes l ↦ subst (From j i) (sym (minus-up a b l)) (omega arith)
+  | no n ↦ let l : a < b = lt-of-not-le n in subst (From j i) (sym (minus-down a b l)) (omega arith)
 ]
-  where
-    cond-yes : (t : Bool) → T t → cond t (pos (a - b)) (negsuc (b - suc a)) ≡ pos (a - b)
-    cond-yes true u = refl
-    cond-yes false u = absurd u
 
 expo-from : (n : ℕ) (e : ℤ) (i j : ℕ) → 0 < n → n * up e < 2 ^ suc i * down e → down e ≤ n * up e * 2 ^ j → From j i (expo n e)
 expo-from n (pos a) i j p h k =
@@ -175,18 +156,13 @@ module _ (J G j i : ℕ) (g : Logarithm J G j i) where
 
 -- ---- every x that is finite and above zero: at most 746.2
 fits-range : (x : Float) → T (fits binary64 x) → T (positive x) → (num x < 2 ^ 1024 * den x) × (den x ≤ num x * 2 ^ 1074)
-unfolding fits
 fits-range nan f p = absurd p
 fits-range (inf _) f p = absurd p
 fits-range (fin true m e) f p = absurd p
 fits-range (fin false zero e) f p = absurd p
 fits-range (fin false (suc m) e) f p =
-    let a = eqb (suc m % 2) 1 && ltb (suc m) (2 ^ 53) in
-    let c = leb (down e) (2 ^ 1074) in
-    let d = ltb (suc m * up e) (2 ^ 1024 * down e) in (
-      ltb→lt (suc m * up e) (2 ^ 1024 * down e) (and-r (a && c) d f),
-      le-trans (leb→le (down e) (2 ^ 1074) (and-r a c (and-l (a && c) d f))) (le-trans (le-of-eq (sym (one-mul (2 ^ 1074)))) (mul-le-mul-right (2 ^ 1074) (mul-pos (zero-lt-suc m) (up-pos e)))),
-    )
+    let h = held false m e f in
+    (h .most, le-trans (h .least) (le-trans (le-of-eq (sym (one-mul (2 ^ 1074)))) (mul-le-mul-right (2 ^ 1074) (mul-pos (zero-lt-suc m) (up-pos e)))))
 
 pub ln-finite : (x : Float) → T (fits binary64 x) → T (positive x) → Sized (lnOf x) 11939 16
 ln-finite x f p =

@@ -37,9 +37,10 @@ pub fn parts_of(b: u64) -> Parts
     Parts { c: c, w: w }
 }
 
-// A whole number near 2 ^ 52 times the root of t, for the t from 1 to 4 with digits c and the exponent odd:
-// two steps of Halley for 1 / root of t from a linear start, then s + (t - s * s) / (s + root of t), where s is
-// the root cut to 26 digits, so that its square is exact.
+// A whole number near 2 ^ 52 times the root of t, for the t from 1 to 4 whose digits are c and whose exponent
+// is odd: y goes to 1 / root of t in two steps of third order, from a start that halves the exponent. Then r,
+// which is near the root, is rounded to s, a multiple of 2 ^ -25 with an exact square, and the root is
+// s + (t - s * s) / (root + s). Nothing is claimed of it but its range.
 fn guess(c: u64, odd: u64) -> u64
     requires { ⌜ c < 2 ^ 53 ⌝ }
     requires { ⌜ odd ≤ 1 ⌝ }
