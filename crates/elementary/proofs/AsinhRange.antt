@@ -14,8 +14,7 @@ use Rattle.binary64.specs.RangeOps.{mul-most, add-alike, least-zero}
 use Rattle.binary64.specs.RangeTests.{tested-within, within-positive, within-ge, most-le}
 use Rattle.square_root.specs.Root.{sqrtOf, rounded, wholeRoot, rootBelow}
 use Rattle.square_root.specs.Standard.{natural}
-use Rattle.square_root.proofs.Standard.{positive-natural}
-use Rattle.square_root.proofs.Monotone.{sqrt-mono}
+use Rattle.square_root.proofs.Range.{sqrt-within}
 use Rattle.elementary.specs.Exp.{one}
 use Rattle.elementary.specs.Ln.{lnOf}
 use Rattle.elementary.specs.Choice.{absOf}
@@ -37,10 +36,7 @@ root-within : (z : Float) → T (fits binary64 z) → Within z (2 ^ 1000) 1 1 1 
 unfolding ofBits
 root-within z f w =
     let top = f64 0x7e70_0000_0000_0000 in
-    let n = positive-natural z (within-positive w tt) in
-    tested-within one (sqrtOf z) (f64 0x5f30_0000_0000_0000) tt tt
-    (subst (λ (r : Float). T (le r (sqrtOf z))) (root-ends .0) (sqrt-mono one z (ofBits-fits binary64 0x3ff0_0000_0000_0000) f tt n (within-ge w one tt tt tt)))
-    (subst (λ (r : Float). T (le (sqrtOf z) r)) (root-ends .1) (sqrt-mono z top f (ofBits-fits binary64 0x7e70_0000_0000_0000) n tt (most-le (w .0) top tt tt)))
+    sqrt-within one top one (f64 0x5f30_0000_0000_0000) (ofBits-fits binary64 0x3ff0_0000_0000_0000) (ofBits-fits binary64 0x7e70_0000_0000_0000) tt tt tt tt (root-ends .0) (root-ends .1) z f (within-ge w one tt tt tt) (most-le (w .0) top tt tt)
 
 at-sized : (a : Float) → Most a false (2 ^ 499) 1 → Sized (asinhAt a) 11939 16
 at-sized a h =

@@ -13,3 +13,5 @@ pub mod PowRange
 pub mod AsinhRange
 pub mod ArrheniusRange
 pub mod Specials
+pub mod ChoiceLaws
+pub mod ExpTotal
