@@ -2,10 +2,10 @@
 // known, and a test in integers decides whether it is the root; if it is not, the root is found by halving.
 ghost use mathlib.Core.Path.{_≡_};
 ghost use mathlib.Core.Bool.{_&&_};
-ghost use Prim.Native.Nat.{_+_, _*_, _/_, _%_, _^_, _≤_, _<_};
+ghost use Prim.Native.Nat.{_+_, _*_, _^_, _≤_, _<_};
 ghost use lib.Dec.{leb, ltb};
 ghost use lib.Ieee.{binary64, toBits, ofBits};
-ghost use Rattle.square_root.specs.Parts.{unitsOf, Normal};
+ghost use Rattle.square_root.specs.Parts.{PartsOf};
 ghost use Rattle.square_root.specs.Whole.{Squared, NearestWhole, Digits53};
 ghost use Rattle.square_root.specs.Root.{sqrtOf};
 ghost use Rattle.square_root.specs.Standard.{SquareRoot};
@@ -16,12 +16,16 @@ pub struct Parts {
     pub w: u64,
 }
 
-// The parts of the number whose bits are b.
+// The parts of the number whose bits are b, and zeros where that is not finite or not above zero.
 pub fn parts_of(b: u64) -> Parts
-    requires { ⌜ 0 < b ⌝ }
-    requires { ⌜ b < 0x7ff0_0000_0000_0000 ⌝ }
-    ensures { λ r. ⌜ Normal (unitsOf (b / 2 ^ 52) (b % 2 ^ 52)) (r .c) (r .w) ⌝ }
+    ensures { λ r. ⌜ PartsOf b (r .c) (r .w) ⌝ }
 {
+    if b == 0 {
+        return Parts { c: 0, w: 0 };
+    }
+    if b >= 0x7ff0_0000_0000_0000 {
+        return Parts { c: 0, w: 0 };
+    }
     let e = b / 0x10_0000_0000_0000;
     let t = b % 0x10_0000_0000_0000;
     let mut c: u64 = t;
