@@ -10,7 +10,7 @@ ghost use Prim.Native.Nat.{_≤_};
 ghost use Rattle.refusal.specs.Answers.{said};
 ghost use Rattle.turns.specs.Turns.{times};
 ghost use Rattle.diffusion.specs.SubStep.{subStep};
-ghost use Rattle.particle.specs.Checks.{particleRefusal};
+ghost use Rattle.particle.specs.Checks.{fieldsFit, particleRefusal};
 ghost use Rattle.particle.specs.Particle.{spacing, driveWith, surfaceTheta, surfacePotential, stableStep, average, averageTheta};
 ghost use Rattle.particle.specs.Calls.{fresh, noParticle, made, stepRefusal, accepted, stepped, dtStable, thetaSurface, thetaAvg, cAvg, ocpSurface};
 
@@ -31,16 +31,21 @@ pub struct ParticleAnswer {
 impl ParticleDiffusion {
     // ---- parts of a particle that fits
 
+    // Whether the sheet and the profile are as they must be.
+    pub fn fields_fit(self) -> bool
+        ensures { λ r. ⌜ r ≡ fieldsFit self ⌝ }
+    {
+        let params = self.params;
+        let c_s = self.c_s;
+        params.fits() & profile_fits(c_s, self.n_nodes, params.c_s_max)
+    }
+
     // The number of the table that the particle meets, 0 for none.
     pub fn refusal(self) -> u64
         ensures { λ r. ⌜ r ≡ particleRefusal self ⌝ }
     {
-        let params = self.params;
-        let n = self.n_nodes;
-        let c_s = self.c_s;
-        let few = refusal::refusal_unless(refusal::count_within(n as u64, 3, 64), refusal::GRID);
-        let fits = params.fits() & profile_fits(c_s, n, params.c_s_max);
-        refusal::first_met(few, refusal::refusal_unless(fits, refusal::SHEET))
+        let few = refusal::refusal_unless(refusal::count_within(self.n_nodes as u64, 3, 64), refusal::GRID);
+        refusal::first_met(few, refusal::refusal_unless(self.fields_fit(), refusal::SHEET))
     }
 
     // The distance between two nodes.
@@ -222,7 +227,7 @@ impl ParticleDiffusion {
 }
 
 // The particle beside a refused build: every number +0, every count 0.
-fn no_particle() -> ParticleDiffusion
+pub fn no_particle() -> ParticleDiffusion
     ensures { λ r. ⌜ r ≡ noParticle ⌝ }
 {
     let params = ElectrodeParams {
