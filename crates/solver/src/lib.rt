@@ -3,14 +3,15 @@
 use electrode::ElectrodeParams;
 use kinetics::{bv_overpotential, terminal_voltage, wall_current, SpmConfig};
 use particle::ParticleDiffusion;
-use profile::{profile_finite, profile_fits, uniform};
+use profile::{profile_finite, uniform};
 use refusal::Answer;
 
 ghost use mathlib.Core.Path.{_≡_};
 ghost use Prim.Native.Nat.{_≤_};
 ghost use Rattle.refusal.specs.Answers.{said};
-ghost use Rattle.solver.specs.Cell.{cellRefusal, noSolver, built, ready, openCircuitVoltage, stateOfCharge, ocvCall, socCall};
-ghost use Rattle.solver.specs.Step.{inputRefusal, planOf, planRefusal, advanced, reported, finiteStep, noState, stepped};
+ghost use Rattle.solver.specs.Cell.{cellRefusal, noSolver, built, ready, ocvCall, socCall, NodesMet};
+ghost use Rattle.solver.specs.Step.{inputRefusal, planOf, planRefusal, advanced, voltageOf, reported, finiteStep, noState, refusedStep, stepped};
+ghost use Rattle.electrode.specs.Sheet.{lfpCathode, nmcCathode};
 
 pub struct SpmSolver {
     pub config: SpmConfig,
@@ -145,4 +146,170 @@ impl SpmSolver {
         let temperature = refusal::refusal_unless(refusal::temperature_fits(temp_k), refusal::TEMPERATURE);
         refusal::first_met(self.refusal(), refusal::first_met(load, refusal::first_met(interval, temperature)))
     }
+
+    // ---- parts of a step
+
+    // What the step works with.
+    fn plan(self, current_a: f64, dt: f64, temp_k: f64) -> Plan
+        requires { ⌜ NodesMet (self .anode) × NodesMet (self .cathode) ⌝ }
+        ensures { λ r. ⌜ r ≡ planOf self «current_a» dt «temp_k» ⌝ }
+    {
+        let neg = self.anode;
+        let pos = self.cathode;
+        let neg_params = neg.params;
+        let pos_params = pos.params;
+        let faraday = self.config.faraday;
+        let i_app = current_a / neg_params.area;
+        let d_neg = neg_params.diffusivity_at(temp_k);
+        let d_pos = pos_params.diffusivity_at(temp_k);
+        let dt_neg = neg.stable_step(d_neg) * 0.45;
+        let dt_pos = pos.stable_step(d_pos) * 0.45;
+        let dt_use = elementary::min(elementary::min(dt, dt_neg), dt_pos);
+        Plan {
+            d_neg,
+            d_pos,
+            j_neg: -i_app / wall_current(neg_params, faraday),
+            j_pos: i_app / wall_current(pos_params, faraday),
+            q: dt / dt_use,
+        }
+    }
+
+    // The cell after the sub-steps.
+    fn advanced(self, p: Plan, dt: f64) -> SpmSolver
+        requires { ⌜ NodesMet (self .anode) × NodesMet (self .cathode) ⌝ }
+        ensures { λ r. ⌜ r ≡ advanced self p dt ⌝ }
+    {
+        let turns = elementary::ceil_count(p.q);
+        let dt_sub = dt / std::num::nearest_u64_to_f64(turns);
+        let config = self.config;
+        let neg = self.anode;
+        let pos = self.cathode;
+        let neg_params = neg.params;
+        let pos_params = pos.params;
+        let c_neg = neg.after(p.d_neg, p.j_neg, dt_sub, turns as usize);
+        let c_pos = pos.after(p.d_pos, p.j_pos, dt_sub, turns as usize);
+        let anode = ParticleDiffusion { params: neg_params, n_nodes: neg.n_nodes, c_s: c_neg };
+        let cathode = ParticleDiffusion { params: pos_params, n_nodes: pos.n_nodes, c_s: c_pos };
+        SpmSolver { config, anode, cathode, time_s: self.time_s + dt }
+    }
+
+    // The terminal voltage of the cell after the sub-steps.
+    fn voltage(self, p: Plan, current_a: f64, temp_k: f64) -> f64
+        requires { ⌜ NodesMet (self .anode) × NodesMet (self .cathode) ⌝ }
+        ensures { λ r. ⌜ r ≡ voltageOf self p «current_a» «temp_k» ⌝ }
+    {
+        let config = self.config;
+        let neg = self.anode;
+        let pos = self.cathode;
+        let u_neg = neg.surface_potential();
+        let u_pos = pos.surface_potential();
+        let eta_neg = -bv_overpotential(config, p.j_neg, neg, temp_k);
+        let eta_pos = -bv_overpotential(config, p.j_pos, pos, temp_k);
+        let v_ohm = current_a / neg.params.area * config.r_electrolyte_ohm_m2;
+        terminal_voltage(u_neg, u_pos, eta_neg, eta_pos, v_ohm, current_a)
+    }
+
+    // The report of the cell after the sub-steps.
+    fn reported(self, p: Plan, current_a: f64, temp_k: f64) -> SpmState
+        requires { ⌜ NodesMet (self .anode) × NodesMet (self .cathode) ⌝ }
+        ensures { λ r. ⌜ r ≡ reported self p «current_a» «temp_k» ⌝ }
+    {
+        let neg = self.anode;
+        let pos = self.cathode;
+        let voltage = self.voltage(p, current_a, temp_k);
+        SpmState {
+            voltage,
+            current: current_a,
+            theta_neg: neg.surface_theta(),
+            theta_pos: pos.surface_theta(),
+            theta_neg_avg: neg.average_theta(),
+            theta_pos_avg: pos.average_theta(),
+            time_s: self.time_s,
+            cutoff: (voltage < self.config.v_min) | (voltage > self.config.v_max),
+        }
+    }
+
+    // Whether the cell after the sub-steps and its report hold numbers only.
+    fn finite_with(self, r: SpmState) -> bool
+        ensures { λ ok. ⌜ ok ≡ finiteStep self r ⌝ }
+    {
+        let neg = self.anode;
+        let pos = self.cathode;
+        let c_neg = neg.c_s;
+        let c_pos = pos.c_s;
+        profile_finite(c_neg)
+            & profile_finite(c_pos)
+            & refusal::is_finite(r.voltage)
+            & refusal::is_finite(r.theta_neg)
+            & refusal::is_finite(r.theta_pos)
+            & refusal::is_finite(r.theta_neg_avg)
+            & refusal::is_finite(r.theta_pos_avg)
+            & refusal::is_finite(r.time_s)
+    }
+
+    // ---- calls
+
+    // One step: a current in A, positive on discharge, for an interval in s at a temperature in K.
+    pub fn step(self, current_a: f64, dt: f64, temp_k: f64) -> SpmStep
+        ensures { λ r. ⌜ r ≡ stepped self «current_a» dt «temp_k» ⌝ }
+    {
+        let early = self.input_refusal(current_a, dt, temp_k);
+        if early != 0 {
+            return refused_step(early, self);
+        }
+        let p = self.plan(current_a, dt, temp_k);
+        let late = plan_refusal(p);
+        if late != 0 {
+            return refused_step(late, self);
+        }
+        let after = self.advanced(p, dt);
+        let state = after.reported(p, current_a, temp_k);
+        if after.finite_with(state) {
+            return SpmStep { refusal: 0, state, sub_steps: elementary::ceil_count(p.q), solver: after };
+        }
+        refused_step(refusal::NOT_FINITE, self)
+    }
+
+    // Open-circuit voltage, V.
+    pub fn ocv(self) -> Answer
+        ensures { λ r. ⌜ said r ≡ ocvCall self ⌝ }
+    {
+        let number = self.refusal();
+        if number != 0 {
+            return refusal::answered(number, 0.0);
+        }
+        let neg = self.anode;
+        let pos = self.cathode;
+        refusal::answered(number, pos.surface_potential() - neg.surface_potential())
+    }
+
+    // State of charge by the anode's average stoichiometry, 0 to 1.
+    pub fn soc_estimate(self) -> Answer
+        ensures { λ r. ⌜ said r ≡ socCall self ⌝ }
+    {
+        let number = self.refusal();
+        if number != 0 {
+            return refusal::answered(number, 0.0);
+        }
+        let neg = self.anode;
+        let theta = neg.average_theta();
+        refusal::answered(number, elementary::clamp((theta - 0.20) / (0.80 - 0.20), 0.0, 1.0))
+    }
+}
+
+// The number that a plan meets: 6, then 7.
+fn plan_refusal(p: Plan) -> u64
+    ensures { λ r. ⌜ r ≡ planRefusal p ⌝ }
+{
+    let within = refusal::within(p.d_neg, 1e-20, 1e-8) & refusal::within(p.d_pos, 1e-20, 1e-8);
+    let few = !(p.q > 4096.0);
+    refusal::first_met(refusal::refusal_unless(within, refusal::DIFFUSIVITY), refusal::refusal_unless(few, refusal::SUB_STEPS))
+}
+
+// A refused step: the number, and the cell as it was.
+fn refused_step(number: u64, s: SpmSolver) -> SpmStep
+    ensures { λ r. ⌜ r ≡ refusedStep number s ⌝ }
+{
+    let state = no_state();
+    SpmStep { refusal: number, state, sub_steps: 0, solver: s }
 }
