@@ -9,7 +9,7 @@ use refusal::Answer;
 ghost use mathlib.Core.Path.{_≡_};
 ghost use Prim.Native.Nat.{_≤_};
 ghost use Rattle.refusal.specs.Answers.{said};
-ghost use Rattle.solver.specs.Cell.{cellRefusal, noSolver, built, ready, ocvCall, socCall, NodesMet};
+ghost use Rattle.solver.specs.Cell.{gridFits, cellFits, cellRefusal, noSolver, built, ready, ocvCall, socCall, NodesMet};
 ghost use Rattle.solver.specs.Step.{inputRefusal, planOf, planRefusal, advanced, voltageOf, reported, finiteStep, noState, refusedStep, stepped};
 ghost use Rattle.electrode.specs.Sheet.{lfpCathode, nmcCathode};
 
@@ -72,7 +72,7 @@ fn no_solver() -> SpmSolver
 }
 
 // The report beside a refused step.
-fn no_state() -> SpmState
+pub fn no_state() -> SpmState
     ensures { λ r. ⌜ r ≡ noState ⌝ }
 {
     SpmState {
@@ -124,17 +124,32 @@ impl SpmSolver {
 
     // ---- checks
 
-    // The number of the table that the cell meets, 0 for none: all of 1 before all of 2.
-    pub fn refusal(self) -> u64
-        ensures { λ r. ⌜ r ≡ cellRefusal self ⌝ }
+    // Whether the count of nodes is in range, and that of both particles.
+    pub fn grid_fits(self) -> bool
+        ensures { λ r. ⌜ r ≡ gridFits self ⌝ }
+    {
+        let neg = self.anode;
+        let pos = self.cathode;
+        let n = self.config.n_nodes;
+        (3 <= n) & (n <= 64) & (neg.n_nodes == n) & (pos.n_nodes == n)
+    }
+
+    // Whether config, particles and clock are as they must be.
+    pub fn fields_fit(self) -> bool
+        ensures { λ r. ⌜ r ≡ cellFits self ⌝ }
     {
         let config = self.config;
         let neg = self.anode;
         let pos = self.cathode;
-        let n = config.n_nodes;
-        let grid = refusal::count_within(n as u64, 3, 64) & (neg.n_nodes == n) & (pos.n_nodes == n);
-        let fits = config.fits() & neg.fields_fit() & pos.fields_fit() & refusal::clock_fits(self.time_s);
-        refusal::first_met(refusal::refusal_unless(grid, refusal::GRID), refusal::refusal_unless(fits, refusal::SHEET))
+        config.fits() & neg.fields_fit() & pos.fields_fit() & refusal::clock_fits(self.time_s)
+    }
+
+    // The number of the table that the cell meets, 0 for none: all of 1 before all of 2.
+    pub fn refusal(self) -> u64
+        ensures { λ r. ⌜ r ≡ cellRefusal self ⌝ }
+    {
+        let grid = refusal::refusal_unless(self.grid_fits(), refusal::GRID);
+        refusal::first_met(grid, refusal::refusal_unless(self.fields_fit(), refusal::SHEET))
     }
 
     // The number that a step meets before anything is worked out.

@@ -4,23 +4,14 @@ use borrow.Author.Needs.{needs}
 use Rattle.solver.proofs.SpmSolver.refusal.Statement.{statement}
 use Rattle.solver.proofs.SpmSolver.refusal.Tie as tie
 
-count-within-requires : tie.Need-count-within-requires
-count-within-requires c κs = search needs
-
-fits-requires : tie.Need-fits-requires
-fits-requires c κs = search needs
-
-fields-fit-requires : tie.Need-fields-fit-requires
-fields-fit-requires c κs = search needs
-
-fields-fit-requires-2 : tie.Need-fields-fit-requires-2
-fields-fit-requires-2 c κs = search needs
-
-clock-fits-requires : tie.Need-clock-fits-requires
-clock-fits-requires c κs = search needs
+grid-fits-requires : tie.Need-grid-fits-requires
+grid-fits-requires c κs = search needs
 
 refusal-unless-requires : tie.Need-refusal-unless-requires
 refusal-unless-requires c κs = search needs
+
+fields-fit-requires : tie.Need-fields-fit-requires
+fields-fit-requires c κs = search needs
 
 refusal-unless-requires-2 : tie.Need-refusal-unless-requires-2
 refusal-unless-requires-2 c κs = search needs
@@ -36,12 +27,9 @@ pub refusal-spec : {M : Type 1} → statement M
 refusal-spec =
     tie.close
     (tie.spec
-    count-within-requires
-    fits-requires
-    fields-fit-requires
-    fields-fit-requires-2
-    clock-fits-requires
+    grid-fits-requires
     refusal-unless-requires
+    fields-fit-requires
     refusal-unless-requires-2
     first-met-requires
     returns)
