@@ -20,9 +20,12 @@ pub record Literals : Type 0 where
   pub scale-1024 : f64 0x4090_0000_0000_0000 ≡ decimal 1024 0
   -- the natural logarithm of 2
   pub c : f64 0x3FE6_2E42_FEFA_39EF ≡ decimal 69314718055994530941723212145818 32
+  -- R and the reference temperature of the Arrhenius factor
+  pub gas-constant : f64 0x4020_a0c4_9ba5_e354 ≡ decimal 8314 3
+  pub reference : f64 0x4072_a266_6666_6666 ≡ decimal 29815 2
   -- 2 ^ 64, from which a count is too large
   pub count-limit : f64 0x43f0_0000_0000_0000 ≡ decimal 18446744073709551616 0
 
 pub literals : Literals
 unfolding round size ofBits
-literals = record { zero = refl; one = refl; one-and-a-half = refl; two = refl; twenty-three = refl; limit-709 = refl; limit-708 = refl; scale-1024 = refl; c = refl; count-limit = refl }
+literals = record { zero = refl; one = refl; one-and-a-half = refl; two = refl; twenty-three = refl; limit-709 = refl; limit-708 = refl; scale-1024 = refl; c = refl; gas-constant = refl; reference = refl; count-limit = refl }

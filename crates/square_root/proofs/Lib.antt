@@ -8,3 +8,4 @@ pub mod Spacing
 pub mod Standard
 pub mod Monotone
 pub mod Unique
+pub mod Range

@@ -69,7 +69,7 @@ split (fin true m e) n = absurd n
 split (fin false zero e) n = inl (zero-mul (up e), zero-root false e)
 split (fin false (suc m) e) n = inr (lt→ltb 0 (suc m) (zero-lt-suc m))
 
-positive-num : (x : Float) → T (positive x) → 0 < num x
+pub positive-num : (x : Float) → T (positive x) → 0 < num x
 positive-num nan p = absurd p
 positive-num (inf s) p = absurd p
 positive-num (fin true m e) p = absurd p

@@ -125,7 +125,7 @@ value-natural (inf s) a c h = absurd h
 value-natural (fin true m e) a c h = absurd (true≢false (h .0))
 value-natural (fin false m e) a c h = tt
 
-positive-natural : (x : Float) → T (positive x) → T (natural x)
+pub positive-natural : (x : Float) → T (positive x) → T (natural x)
 positive-natural nan p = p
 positive-natural (inf s) p = absurd p
 positive-natural (fin true m e) p = absurd p
