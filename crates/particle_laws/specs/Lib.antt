@@ -1,0 +1,4 @@
+pub mod Ranges
+pub mod Checked
+pub mod Nodes
+pub mod Closure
