@@ -61,10 +61,10 @@ places-finite p h = all-of (λ i. finite (placeOf p i)) 64 (λ i l. place i l (l
 
 -- ---- a step
 module _ (p : ParticleDiffusion) (j dt t : Float) where
-  abbrev v : Drive
+  abbrev pub v : Drive
   v = driveWith p (diffusivityAt (p .params) t) j dt
 
-  abbrev next : ParticleDiffusion
+  abbrev pub next : ParticleDiffusion
   next = withProfile p (subStep v (p .«c_s»))
 
   next-passes : stepRefusal p j dt t ≡ 0 → particleRefusal next ≡ 0
@@ -95,6 +95,14 @@ module _ (p : ParticleDiffusion) (j dt t : Float) where
       go : (a : ParticleAnswer) → Leads a → a .refusal ≡ 0 → particleRefusal (a .particle) ≡ 0
       go a (Leads.refused k e) z = absurd (omega (arith, z))
       go a (Leads.moved e) z = next-passes e
+
+  -- and a particle that passes goes on passing, whatever the answer
+  pub step-stays : particleRefusal p ≡ 0 → particleRefusal (stepped p j dt t .particle) ≡ 0
+  step-stays h = go (stepped p j dt t) leads
+    where
+      go : (a : ParticleAnswer) → Leads a → particleRefusal (a .particle) ≡ 0
+      go a (Leads.refused k e) = h
+      go a (Leads.moved e) = next-passes e
 
   -- A STEP THAT IS REFUSED leaves the particle as it is, bit for bit
   pub step-refused : (stepped p j dt t .refusal ≡ 0 → ⊥) → stepped p j dt t .particle ≡ p
