@@ -8,14 +8,14 @@ use lib.Dec.{T, ltb, lit≤}
 use lib.Ieee.{Float, nan, le, ofBits, toBits}
 use lib.Ieee.Bits.{is-true}
 use lib.Ieee.Fits.{and-l, and-r}
-use lib.ListN.{length, getD, List·getD-eq-default}
+use lib.ListN.{length, List·getD-eq-default}
 use Rattle.binary64.specs.Operators.{f64}
 use Rattle.binary64.specs.Value.{val}
 use Rattle.refusal.specs.Numbers.{refusalUnless, firstMet}
 use Rattle.refusal.specs.Ranges.{inRange, plusZero}
 use Rattle.turns.specs.Turns.{all-at, all-of}
 use Rattle.electrode.specs.Sheet.{sheetFits}
-use Rattle.diffusion.specs.Premises.{Held, Whole, held-tested}
+use Rattle.diffusion.specs.Premises.{Whole, held-tested}
 use Rattle.profile.specs.Places.{placeFits, profileFits}
 use Rattle.particle.specs.declared.ParticleDiffusion.{ParticleDiffusion}
 use Rattle.particle.specs.Checks.{nodesFit, particleRefusal, nodes-of}

@@ -1,7 +1,7 @@
 -- What a particle's calls lead to: an accepted one to a particle that passes the checks again, a refused step to the particle as it was. Refusal 8 never comes from a step.
 -- Assumes nothing.
 use Prim.Native.Nat.{ℕ, zero, suc, _<_, _≤_}
-use mathlib.Core.Path.{_≡_, refl, sym, subst}
+use mathlib.Core.Path.{_≡_, refl, sym}
 use mathlib.Core.Bool.{Bool, true, false, cond}
 use mathlib.Core.List.{List, [], _∷_}
 use borrow.Author.Tests.{ltb-true, ltb-false}
@@ -13,7 +13,7 @@ use lib.Ieee.Bits.{is-true}
 use lib.Ieee.Fits.{and-i}
 use lib.Ieee.Scale.{finite}
 use lib.ListN.{getD, replicate, getD-replicate}
-use Rattle.fraction.specs.Fraction.{whole, nat, _*F_, _≈F_}
+use Rattle.fraction.specs.Fraction.{whole, nat, _≈F_}
 use Rattle.fraction.specs.Field.{≈F-sym, ≤F-of-≈F, ≤F-trans, le-of-lt}
 use Rattle.fraction.specs.Order.{lit≈F}
 use Rattle.fraction.specs.Size.{size-pos}

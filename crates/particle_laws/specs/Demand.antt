@@ -1,5 +1,5 @@
 -- THEOREM 1 of the third demand: a particle, any list of calls of `step`, refused ones among them, and the exact scheme beside it. Assumes nothing.
-use Prim.Native.Nat.{ℕ, zero, suc, _+_, _<_}
+use Prim.Native.Nat.{ℕ, _+_, _<_}
 use mathlib.Core.Path.{_≡_, refl, sym, ap, _∙_, subst}
 use mathlib.Core.Bool.{Bool, true, false, cond}
 use mathlib.Core.List.{List, [], _∷_, map}
@@ -7,23 +7,23 @@ use borrow.Author.Tests.{eqb-true, eqb-false, eq-eqb, ne-eqb}
 use native.Mathlib.Nat.{zero-add}
 use native.Mathlib.Omega.{arith}
 use lib.Dec.{T, eqb, eqb→eq, eqb·suc-zero}
-use lib.Ieee.{Float, nan}
+use lib.Ieee.{Float}
 use lib.ListN.{length, getD}
 use Rattle.fraction.specs.Fraction.{Fraction, nat, pow2, _-F_, _*F_, _/F_, _within_}
 use Rattle.binary64.specs.Value.{val}
 use Rattle.electrode.specs.Sheet.{diffusivityAt}
 use Rattle.diffusion.specs.SubStep.{Drive, subStep}
-use Rattle.diffusion.specs.Exact.{Numbers, numbers, exactStep}
+use Rattle.diffusion.specs.Exact.{Numbers, exactStep}
 use Rattle.diffusion.specs.Premises.{Kept, Sound}
 use Rattle.diffusion.specs.Profile.{values-at}
-use Rattle.diffusion.specs.Run.{Grid, Move, drive, run, exactRun, Each}
+use Rattle.diffusion.specs.Run.{drive, run, exactRun, Each}
 use Rattle.diffusion.specs.Calls.{Stepper, after, accepted, total, exactAfter, Lawful}
 use Rattle.diffusion.specs.CallLaws.{calls-near, each-with}
 use Rattle.particle.specs.declared.ParticleDiffusion.{ParticleDiffusion}
 use Rattle.particle.specs.declared.ParticleAnswer.{ParticleAnswer}
 use Rattle.particle.specs.Checks.{particleRefusal}
 use Rattle.particle.specs.Particle.{spacing, placeOf, driveWith}
-use Rattle.particle.specs.Calls.{stepped, stepRefusal}
+use Rattle.particle.specs.Calls.{stepped}
 use Rattle.particle_laws.specs.Ranges.{step-ranged, ranged-sound}
 use Rattle.particle_laws.specs.Checked.{particle-whole}
 use Rattle.particle_laws.specs.Closure.{Leads, leads, step-stays, step-refused, step-number, step-params, step-nodes}
@@ -127,7 +127,9 @@ module _ (p : ParticleDiffusion) where
 pub particle-near : (p : ParticleDiffusion) (qs : List Call) → particleRefusal p ≡ 0 → Each (λ q. Kept (numbersOf p q)) (taken p qs)
     → (i : ℕ) → i < p .«n_nodes» → place p qs i -F exactPlace p qs i within nat (K p qs) *F val (p .params .«c_s_max») /F pow2 49
 particle-near p qs h ks i l =
-    rw (← counted p qs p) (calls-near (steps p) (lawful p) p qs (record { passes = h; sheet = refl; nodes = refl }) (particle-whole p h) (each-with (λ q k k'. Each.more k Each.none) ks ks) i l)
+    let inv : Inv p p = record { passes = h; sheet = refl; nodes = refl } in
+    let keeps = each-with (λ q k k'. Each.more k Each.none) ks ks in
+    rw (counted p qs p) at (calls-near (steps p) (lawful p) p qs inv (particle-whole p h) keeps i l)
 
 -- ---- how the fold goes on at a call, from a particle s in the middle of the list
 module _ (p s : ParticleDiffusion) (q : Call) (qs : List Call) (x : List Fraction) where

@@ -16,7 +16,7 @@ use Rattle.fraction.specs.Within.{within-self, within-weaken}
 use Rattle.binary64.specs.Operators.{_⊕_, _⊗_, f64, count}
 use Rattle.binary64.specs.Range.{Within, Sized, sized, most-wider}
 use Rattle.binary64.specs.RangeTests.{literal, count-within}
-use Rattle.binary64.specs.RangeOps.{mul-between, mul-most, div-between, div-most, add-most, sub-most}
+use Rattle.binary64.specs.RangeOps.{mul-between, mul-most, div-most, add-most, sub-most}
 use Rattle.binary64.specs.Bounds.{bounded-most, within-scaled}
 use Rattle.binary64.specs.Value.{val, val-le}
 use Rattle.elementary.proofs.ChoiceLaws.{clamp-in}
