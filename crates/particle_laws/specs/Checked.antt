@@ -1,21 +1,26 @@
 -- What the checks of a particle say of its profile, place by place, and that a particle whose parts fit passes them. Assumes nothing.
-use Prim.Native.Nat.{ℕ, _<_, _≤_}
+use Prim.Native.Nat.{ℕ, _^_, _<_, _≤_}
 use mathlib.Core.Path.{_≡_, refl, sym, subst}
 use mathlib.Core.Bool.{Bool, true, false}
 use borrow.Author.Tests.{lt-ltb, le-ltb, ltb-true, ltb-false}
-use native.Mathlib.Nat.{le-trans, lt-of-not-le}
+use native.Mathlib.Nat.{le-trans, lt-of-not-le, zero-lt-suc}
 use lib.Dec.{T, ltb, lit≤}
 use lib.Ieee.{Float, nan, le, ofBits, toBits}
 use lib.Ieee.Bits.{is-true}
 use lib.Ieee.Fits.{and-l, and-r}
 use lib.ListN.{length, List·getD-eq-default}
+use Rattle.fraction.specs.Fraction.{whole}
+use Rattle.fraction.specs.Field.{≤F-trans}
+use Rattle.fraction.specs.Within.{within-self, within-weaken}
 use Rattle.binary64.specs.Operators.{f64}
+use Rattle.binary64.specs.Range.{Within, Sized}
+use Rattle.binary64.specs.Bounds.{bounded-most, within-scaled}
 use Rattle.binary64.specs.Value.{val}
 use Rattle.refusal.specs.Numbers.{refusalUnless, firstMet}
 use Rattle.refusal.specs.Ranges.{inRange, plusZero}
 use Rattle.turns.specs.Turns.{all-at, all-of}
 use Rattle.electrode.specs.Sheet.{sheetFits}
-use Rattle.diffusion.specs.Premises.{Whole, held-tested}
+use Rattle.diffusion.specs.Premises.{Held, Whole, held-tested}
 use Rattle.profile.specs.Places.{placeFits, profileFits}
 use Rattle.particle.specs.declared.ParticleDiffusion.{ParticleDiffusion}
 use Rattle.particle.specs.Checks.{nodesFit, particleRefusal, nodes-of}
@@ -35,6 +40,11 @@ nan-unfit : (used : Bool) (M : Float) → T (placeFits nan used M) → ⊥
 unfolding placeFits plusZero toBits ofBits le
 nan-unfit true M t = t
 nan-unfit false M t = t
+
+-- a node that is from 0 to M is at most 2 ^ 17
+pub held-sized : {x M : Float} → Held (val M) x → Within M (2 ^ 17) 1 1 1 → Sized x (2 ^ 17) 1
+unfolding whole
+held-sized h m = bounded-most {P = zero-lt-suc 0} (record { fine = h .fine; size = within-weaken (within-self (h .range .lower)) (≤F-trans (h .range .upper) (within-scaled m 0 17 tt tt .size .high)) })
 
 -- ---- a particle that passes
 module _ (p : ParticleDiffusion) (h : particleRefusal p ≡ 0) where
@@ -65,6 +75,9 @@ module _ (p : ParticleDiffusion) (h : particleRefusal p ≡ 0) where
         let t = used-passed i l in
         held-tested (placeOf p i) M (sheet-ranges (p .params) (sheet-passed p h) .most .0 .fine) (and-l (le (f64 0) (placeOf p i)) (le (placeOf p i) M) t) (and-r (le (f64 0) (placeOf p i)) (le (placeOf p i) M) t);
   }
+
+  pub place-sized : (i : ℕ) → i < p .«n_nodes» → Sized (placeOf p i) (2 ^ 17) 1
+  place-sized i l = held-sized (particle-whole .held i l) (sheet-ranges (p .params) (sheet-passed p h) .most)
 
 -- ---- and back
 pub particle-passes : (p : ParticleDiffusion) → T (nodesFit (p .«n_nodes»)) → T (sheetFits (p .params))

@@ -1,7 +1,7 @@
 -- What a particle's calls lead to: an accepted one to a particle that passes the checks again, a refused step to the particle as it was. Refusal 8 never comes from a step.
 -- Assumes nothing.
 use Prim.Native.Nat.{ℕ, zero, suc, _<_, _≤_}
-use mathlib.Core.Path.{_≡_, refl, sym}
+use mathlib.Core.Path.{_≡_, refl, sym, _∙_}
 use mathlib.Core.Bool.{Bool, true, false, cond}
 use mathlib.Core.List.{List, [], _∷_}
 use borrow.Author.Tests.{ltb-true, ltb-false}
@@ -95,6 +95,14 @@ module _ (p : ParticleDiffusion) (j dt t : Float) where
       go : (a : ParticleAnswer) → Leads a → a .refusal ≡ 0 → particleRefusal (a .particle) ≡ 0
       go a (Leads.refused k e) z = absurd (omega (arith, z))
       go a (Leads.moved e) z = next-passes e
+
+  -- with the profile of one sub-step
+  pub step-moved : stepRefusal p j dt t ≡ 0 → stepped p j dt t .particle ≡ next
+  step-moved = go (stepped p j dt t) leads
+    where
+      go : (a : ParticleAnswer) → Leads a → stepRefusal p j dt t ≡ 0 → a .particle ≡ next
+      go a (Leads.refused k e) z = absurd (omega (arith, sym e ∙ z))
+      go a (Leads.moved e) z = refl
 
   -- and a particle that passes goes on passing, whatever the answer
   pub step-stays : particleRefusal p ≡ 0 → particleRefusal (stepped p j dt t .particle) ≡ 0

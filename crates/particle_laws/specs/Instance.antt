@@ -1,9 +1,9 @@
 -- A worked instance of theorem 1: the ready graphite sheet, 11 nodes, discharge by steps of a second at 298.15 K, two refused calls among them. Computed. Assumes nothing.
 use Prim.Native.Nat.{ℕ, _<_}
-use mathlib.Core.Path.{_≡_, refl, ap, _∙_}
+use mathlib.Core.Path.{_≡_, refl, sym, ap, _∙_}
 use mathlib.Core.List.{List, [], _∷_}
-use lib.ListN.{length}
-use lib.Ieee.{Float, nan, neg, le, lt, sub, mul, div, ofInt, fits, ofBits}
+use lib.ListN.{length, getD}
+use lib.Ieee.{Float, nan, neg, le, lt, add, sub, mul, div, ofInt, fits, ofBits}
 use Rattle.fraction.specs.Fraction.{whole, nat, pow2, negF, _-F_, _*F_, _/F_, ∣_∣, _within_}
 use Rattle.fraction.specs.Order.{lit≤F}
 use Rattle.binary64.specs.Operators.{_⊖_, _⊗_, _⊘_, f64}
@@ -12,15 +12,18 @@ use Rattle.elementary.specs.Exp.{one, expOf}
 use Rattle.elementary.proofs.BenchCells.{bench-cells}
 use Rattle.refusal.specs.Numbers.{firstMet, refusalUnless}
 use Rattle.electrode.specs.Sheet.{graphiteAnode, diffusivityAt}
+use Rattle.turns.specs.Turns.{firstBy}
+use Rattle.diffusion.specs.SubStep.{rate, node, subStep}
 use Rattle.diffusion.specs.Premises.{Kept}
 use Rattle.diffusion.specs.Run.{Each}
+use Rattle.profile.specs.Places.{filled}
 use Rattle.particle.specs.declared.ParticleDiffusion.{ParticleDiffusion}
 use Rattle.particle.specs.Checks.{particleRefusal}
-use Rattle.particle.specs.Particle.{spacing}
-use Rattle.particle.specs.Calls.{newRefusal, fresh, made}
-use Rattle.particle_laws.specs.Closure.{build-passes}
-use Rattle.particle_laws.specs.Demand.{Call, place, exactPlace, taken, K, numbersOf, particle-near}
-use Rattle.particle_laws.specs.Accepted.{callRefusal, fitting, taken-are}
+use Rattle.particle.specs.Particle.{spacing, placeOf}
+use Rattle.particle.specs.Calls.{newRefusal, fresh, made, stepRefusal}
+use Rattle.particle_laws.specs.Closure.{build-passes, step-number, step-moved}
+use Rattle.particle_laws.specs.Demand.{Call, answer, place, exactPlace, taken, K, numbersOf, particle-near}
+use Rattle.particle_laws.specs.Accepted.{callRefusal, answer-number, fitting, taken-are}
 
 -- what `new` answers
 abbrev pub start : ParticleDiffusion
@@ -100,3 +103,18 @@ discharge-counted = ap length discharge-taken
 -- ---- theorem 1 for them
 pub graphite-near : (i : ℕ) → i < 11 → place start discharge i -F exactPlace start discharge i within nat 3 *F val (graphiteAnode .«c_s_max») /F pow2 49
 graphite-near i l = rw (← discharge-counted, ← sheet-is) (particle-near start discharge start-passes discharge-keeps i (rw nodes-are l))
+
+draw-fits : callRefusal draw ≡ 0
+unfolding callRefusal firstMet refusalUnless le lt neg ofBits
+draw-fits = refl
+
+closed-surface : getD (subStep (record { n = 11; dr = f64 0x3eb4_f8b5_88e3_68f1; d_s = f64 0x3d25_f47e_09a9_f0ea; c_max = graphiteAnode .«c_s_max»; j_n = draw .flux; dt = draw .dt }) (start .«c_s»)) 10 nan ≡ f64 0x40d8_b299_9999_999a
+unfolding made newRefusal fresh firstMet refusalUnless graphiteAnode filled firstBy subStep node rate le lt neg add sub mul div ofInt ofBits
+closed-surface = refl
+
+-- ---- the first call moves the surface from 25466.4 to 25290.4 mol/m^3
+draw-passes : stepRefusal start (draw .flux) (draw .dt) (draw .temp) ≡ 0
+draw-passes = sym (step-number start (draw .flux) (draw .dt) (draw .temp)) ∙ answer-number start draw start-passes ∙ draw-fits
+
+surface-drawn : placeOf (answer start draw .particle) 10 ≡ f64 0x40d8_b299_9999_999a
+surface-drawn = rw (step-moved start (draw .flux) (draw .dt) (draw .temp) draw-passes, sheet-is, diffusivity-is, spacing-is, nodes-are) closed-surface

@@ -1,4 +1,4 @@
--- A particle's calls beyond their contracts: what they lead to, that 8 never comes from a step, and theorem 1 of the third demand.
+-- A particle's calls beyond their contracts: theorem 1 of the third demand, what the calls lead to, and that 8 never comes from them.
 --
 -- WHERE TO START
 --   Demand      THEOREM 1, `particle-near`: a particle that passes the checks, a list of calls of any length, each any three floats; where every accepted call keeps 6·D·t ≤ h² and
@@ -12,6 +12,7 @@
 --               `step-params`, `step-nodes`, `step-unused`: the sheet, the count of nodes and the unused places stay;  `build-passes`: an accepted build passes the checks;
 --               `step-number`: a step's number is settled before it is made, so 8 never comes from it
 --   Accepted    `taken-are`: which calls of a list are accepted depends on each call's own numbers alone
+--   Numbers     8 never comes from dt_stable, theta_surface, c_avg and theta_avg: `dt-stable-is`, `theta-surface-is`, `c-avg-is`, `theta-avg-is`
 --   Nodes       `node-in`: every node of a sub-step in its ranges is from 0 to c_s_max, whether the two conditions hold or not
 --   Ranges      for a particle that passes the checks, from 200 to 400 K: the spacing from 2 ^ -33 to 2 ^ -10, D from 2 ^ -97 to 2 ^ 4, c_s_max from 1 to 2 ^ 17, and each other
 --               number of its sheet;  `Ranged`: what a sub-step works with, in such ranges;  `particle-ranged`, `step-ranged`, `ranged-sound` lead there and to diffusion's `Sound`
@@ -25,4 +26,5 @@ pub mod Nodes
 pub mod Closure
 pub mod Demand
 pub mod Accepted
+pub mod Numbers
 pub mod Instance

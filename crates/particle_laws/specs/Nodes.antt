@@ -3,27 +3,26 @@ use Prim.Native.Nat.{ℕ, _+_, _-_, _^_, _<_, _≤_}
 use mathlib.Core.Path.{_≡_, refl}
 use mathlib.Core.Bool.{Bool, true, false, cond}
 use borrow.Author.Tests.{ltb-true, eqb-false}
-use native.Mathlib.Nat.{le-trans, zero-lt-suc}
+use native.Mathlib.Nat.{le-trans}
 use native.Mathlib.Omega.{arith}
 use lib.Dec.{T, ltb, eqb, lit≤}
 use lib.Ieee.{Float, nan, inf, fin, le, isNan, ofBits}
 use lib.Ieee.Fits.{and-i}
 use lib.Ieee.Scale.{finite}
-use Rattle.fraction.specs.Fraction.{whole}
 use Rattle.fraction.specs.Field.{≤F-trans, ≤F-of-≈F, le-of-lt}
 use Rattle.fraction.specs.Size.{size-pos}
-use Rattle.fraction.specs.Within.{within-self, within-weaken}
 use Rattle.binary64.specs.Operators.{_⊕_, _⊗_, f64, count}
 use Rattle.binary64.specs.Range.{Within, Sized, sized, most-wider}
 use Rattle.binary64.specs.RangeTests.{literal, count-within}
 use Rattle.binary64.specs.RangeOps.{mul-between, mul-most, div-most, add-most, sub-most}
-use Rattle.binary64.specs.Bounds.{bounded-most, within-scaled}
+use Rattle.binary64.specs.Bounds.{within-scaled}
 use Rattle.binary64.specs.Value.{val, val-le}
 use Rattle.elementary.proofs.ChoiceLaws.{clamp-in}
 use Rattle.refusal.specs.Ranges.{inRange}
 use Rattle.diffusion.specs.SubStep.{Drive, two, six, centreRate, shellRate, ghostNode, rate, node}
 use Rattle.diffusion.specs.Premises.{Held, zero-fine, zero-val}
 use Rattle.particle_laws.specs.Ranges.{Ranged}
+use Rattle.particle_laws.specs.Checked.{held-sized}
 
 at-2 : Within two 2 1 2 1
 unfolding ofBits
@@ -42,10 +41,7 @@ number (fin s m e) h = refl
 module _ (v : Drive) (r : Ranged v) (c : ℕ → Float) (held : (i : ℕ) → i < v .n → Held (val (v .c_max)) (c i)) where
   -- each old node is at most 2 ^ 17
   place-sized : (i : ℕ) → i < v .n → Sized (c i) (2 ^ 17) 1
-  unfolding whole
-  place-sized i l =
-      let h = held i l in
-      bounded-most {P = zero-lt-suc 0} (record { fine = h .fine; size = within-weaken (within-self (h .range .lower)) (≤F-trans (h .range .upper) (within-scaled (r .c_max) 0 17 tt tt .size .high)) })
+  place-sized i l = held-sized (held i l) (r .c_max)
 
   squared : Within (v .dr ⊗ v .dr) 1 (2 ^ 20) 1 (2 ^ 66)
   squared = mul-between (r .dr) (r .dr) 1 (2 ^ 20) 1 (2 ^ 66) tt tt tt tt
