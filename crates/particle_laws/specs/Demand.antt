@@ -97,6 +97,11 @@ module _ (p : ParticleDiffusion) where
     nodes = step-nodes s (q .flux) (q .dt) (q .temp) ∙ i .nodes;
   }
 
+  stays-all : (qs : List Call) (s : ParticleDiffusion) → Inv p s → Inv p (after (steps p) s qs)
+  unfolding after
+  stays-all [] s i = i
+  stays-all (q ∷ qs) s i = stays-all qs (answer s q .particle) (stays s q i)
+
   law : (s : ParticleDiffusion) (q : Call) → Inv p s → answer s q .particle .«c_s» ≡ cond (eqb (answer s q .refusal) 0) (run (steps p .grid) (steps p .moves q) (s .«c_s»)) (s .«c_s»)
   unfolding run
   law s q i = go (answer s q) (leads s (q .flux) (q .dt) (q .temp))
@@ -123,13 +128,19 @@ module _ (p : ParticleDiffusion) where
       go true r = omega arith
       go false r = zero-add (length r)
 
+itself : (p : ParticleDiffusion) → particleRefusal p ≡ 0 → Inv p p
+itself p h = record { passes = h; sheet = refl; nodes = refl }
+
+-- AFTER ANY LIST OF CALLS, whether they keep the conditions or not, the particle passes the checks: its nodes are finite and from 0 to M
+pub after-passes : (p : ParticleDiffusion) (qs : List Call) → particleRefusal p ≡ 0 → particleRefusal (after (steps p) p qs) ≡ 0
+after-passes p qs h = stays-all p qs p (itself p h) .passes
+
 -- THEOREM 1. The particle passes the checks; every accepted call keeps 6·D·t ≤ h² and 2·h·∣flux∣ ≤ D·M (`Kept`). Then every node is within K·M / 2 ^ 49 of the exact one.
 pub particle-near : (p : ParticleDiffusion) (qs : List Call) → particleRefusal p ≡ 0 → Each (λ q. Kept (numbersOf p q)) (taken p qs)
     → (i : ℕ) → i < p .«n_nodes» → place p qs i -F exactPlace p qs i within nat (K p qs) *F val (p .params .«c_s_max») /F pow2 49
 particle-near p qs h ks i l =
-    let inv : Inv p p = record { passes = h; sheet = refl; nodes = refl } in
     let keeps = each-with (λ q k k'. Each.more k Each.none) ks ks in
-    rw (counted p qs p) at (calls-near (steps p) (lawful p) p qs inv (particle-whole p h) keeps i l)
+    rw (counted p qs p) at (calls-near (steps p) (lawful p) p qs (itself p h) (particle-whole p h) keeps i l)
 
 -- ---- how the fold goes on at a call, from a particle s in the middle of the list
 module _ (p s : ParticleDiffusion) (q : Call) (qs : List Call) (x : List Fraction) where

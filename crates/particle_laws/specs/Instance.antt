@@ -33,10 +33,11 @@ start-passes : particleRefusal start ≡ 0
 unfolding made newRefusal firstMet refusalUnless graphiteAnode le fits ofBits
 start-passes = build-passes graphiteAnode 11 tt refl
 
--- -1e-4 mol/(m^2 s) for a second at 298.15 K: 6·D·t is 2.3e-13, h² 1.6e-12; 2·h·∣flux∣ is 2.5e-10, D·M 1.2e-9
+-- 298.15 K
 abbrev room : Float
 room = f64 0x4072_a266_6666_6666
 
+-- -1e-4 mol/(m^2 s) for a second: 6·D·t is 2.3e-13, h² 1.6e-12; 2·h·∣flux∣ is 2.5e-10, D·M 1.2e-9
 abbrev pub draw : Call
 draw = record { flux = neg (f64 0x3f1a_36e2_eb1c_432d); dt = one; temp = room }
 
@@ -104,17 +105,17 @@ discharge-counted = ap length discharge-taken
 pub graphite-near : (i : ℕ) → i < 11 → place start discharge i -F exactPlace start discharge i within nat 3 *F val (graphiteAnode .«c_s_max») /F pow2 49
 graphite-near i l = rw (← discharge-counted, ← sheet-is) (particle-near start discharge start-passes discharge-keeps i (rw nodes-are l))
 
+-- ---- the first call moves the surface from 25466.4 to 25290.4 mol/m^3
 draw-fits : callRefusal draw ≡ 0
 unfolding callRefusal firstMet refusalUnless le lt neg ofBits
 draw-fits = refl
 
+draw-passes : stepRefusal start (draw .flux) (draw .dt) (draw .temp) ≡ 0
+draw-passes = sym (step-number start (draw .flux) (draw .dt) (draw .temp)) ∙ answer-number start draw start-passes ∙ draw-fits
+
 closed-surface : getD (subStep (record { n = 11; dr = f64 0x3eb4_f8b5_88e3_68f1; d_s = f64 0x3d25_f47e_09a9_f0ea; c_max = graphiteAnode .«c_s_max»; j_n = draw .flux; dt = draw .dt }) (start .«c_s»)) 10 nan ≡ f64 0x40d8_b299_9999_999a
 unfolding made newRefusal fresh firstMet refusalUnless graphiteAnode filled firstBy subStep node rate le lt neg add sub mul div ofInt ofBits
 closed-surface = refl
-
--- ---- the first call moves the surface from 25466.4 to 25290.4 mol/m^3
-draw-passes : stepRefusal start (draw .flux) (draw .dt) (draw .temp) ≡ 0
-draw-passes = sym (step-number start (draw .flux) (draw .dt) (draw .temp)) ∙ answer-number start draw start-passes ∙ draw-fits
 
 surface-drawn : placeOf (answer start draw .particle) 10 ≡ f64 0x40d8_b299_9999_999a
 surface-drawn = rw (step-moved start (draw .flux) (draw .dt) (draw .temp) draw-passes, sheet-is, diffusivity-is, spacing-is, nodes-are) closed-surface

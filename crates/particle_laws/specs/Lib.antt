@@ -4,7 +4,7 @@
 --   Demand      THEOREM 1, `particle-near`: a particle that passes the checks, a list of calls of any length, each any three floats; where every accepted call keeps 6·D·t ≤ h² and
 --               2·h·∣flux∣ ≤ D·M, every node is within K·M / 2 ^ 49 of the exact scheme from the same start, K the number of accepted calls. What is folded is `stepped`, the
 --               definition that the contract of `step` cites. `at-accepted` and `at-refused` say what one call does to the particle, to the exact scheme and to K;
---               `particle-equal`: where none is accepted the values are equal
+--               `particle-equal`: where none is accepted the values are equal;  `after-passes`: after any list of calls the particle passes the checks, so its nodes are finite
 --   Instance    the ready graphite sheet, 11 nodes, three steps and two refused calls: every premise computed, and theorem 1 for them
 --
 -- WHAT ELSE IS PROVED

@@ -93,7 +93,7 @@ pub record SheetRanges (s : ElectrodeParams) : Type 0 where
   pub activation : Sized (s .«e_a_ds») 100000 1
   pub reaction : Within (s .«k_bv») 1 1 1 (2 ^ 54)
 
-wider : {x : Float} {A C B E : ℕ} → Within x A C B E → (G H K J : ℕ) → T (ltb 0 H) → T (ltb 0 J) → T (leb (A * H) (G * C)) → T (leb (K * E) (B * J)) → Within x G H K J
+pub wider : {x : Float} {A C B E : ℕ} → Within x A C B E → (G H K J : ℕ) → T (ltb 0 H) → T (ltb 0 J) → T (leb (A * H) (G * C)) → T (leb (K * E) (B * J)) → Within x G H K J
 wider w G H K J h j l m = (most-wider (w .0) G H h l, least-wider (w .1) K J j m)
 
 within : {r : Row} → Tested r → T (positive (r .low)) → T (positive (r .high)) → Within (r .x) (num (r .high)) (den (r .high)) (num (r .low)) (den (r .low))
