@@ -32,7 +32,7 @@ at-6 : Within six 6 1 6 1
 unfolding ofBits
 at-6 = literal six 6 1 6 1 tt tt tt tt tt
 
-number : (x : Float) → T (finite x) → isNan x ≡ false
+pub number : (x : Float) → T (finite x) → isNan x ≡ false
 unfolding isNan
 number nan h = absurd h
 number (inf s) h = absurd h

@@ -30,11 +30,11 @@ use Rattle.particle.specs.declared.ParticleDiffusion.{ParticleDiffusion}
 use Rattle.particle.specs.Checks.{particleRefusal, nodes-of}
 use Rattle.particle.specs.Particle.{spacing, placeOf, surfaceTheta, stableStep, average, averageTheta}
 use Rattle.particle.specs.Calls.{dtStable, thetaSurface, thetaAvg, cAvg}
-use Rattle.particle_laws.specs.Ranges.{sheet-ranges, sheet-passed, spacing-range, diffusivity-range}
+use Rattle.particle_laws.specs.Ranges.{either, sheet-ranges, sheet-passed, spacing-range, diffusivity-range}
 use Rattle.particle_laws.specs.Checked.{place-sized}
 
 -- where a value that is not refused is finite, 8 is not met
-finite-outcome : (n : ℕ) (x : Float) → (n ≡ 0 → T (finite x)) → finiteOutcome n x ≡ outcome n x
+pub finite-outcome : (n : ℕ) (x : Float) → (n ≡ 0 → T (finite x)) → finiteOutcome n x ≡ outcome n x
 unfolding firstMet refusalUnless
 finite-outcome zero x h = rw (is-true (finite x) (h refl))
 finite-outcome (suc n) x h = rw (eqb·suc-zero n)
@@ -89,13 +89,9 @@ module _ (p : ParticleDiffusion) (h : particleRefusal p ≡ 0) where
       let r = sheet-ranges (p .params) (sheet-passed p h) .radius in
       let cube = mul-between (mul-between r r 1 (2 ^ 18) 1 (2 ^ 54) tt tt tt tt) r 1 (2 ^ 27) 1 (2 ^ 81) tt tt tt tt in
       let three = literal (f64 0x4008_0000_0000_0000) 3 1 3 1 tt tt tt tt tt in
-      go (lt (shares (p .«n_nodes») (spacing p) (p .«n_nodes»)) (f64 0x39b4_484b_feeb_c2a0))
+      either (lt (shares (p .«n_nodes») (spacing p) (p .«n_nodes»)) (f64 0x39b4_484b_feeb_c2a0))
       (most-wider (place-sized p h 0 (le-trans (lit≤ tt) (n .0))) (2 ^ 149) 1 tt tt)
       (sized (div-most (mul-most (div-most (mul-most (three .0) c (2 ^ 77) 1 tt tt) cube (2 ^ 158) 1 tt tt tt) (spacing-range p h .0) (2 ^ 148) 1 tt tt) three (2 ^ 149) 1 tt tt tt))
-    where
-      go : (b : Bool) {x y : Float} → Sized x (2 ^ 149) 1 → Sized y (2 ^ 149) 1 → Sized (cond b x y) (2 ^ 149) 1
-      go true s t = s
-      go false s t = t
 
   pub average-theta-fine : T (finite (averageTheta p))
   unfolding averageTheta

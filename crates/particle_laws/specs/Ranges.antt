@@ -1,7 +1,7 @@
 -- The ranges of what a particle that passes the checks works with: its sheet's numbers, the spacing, the diffusivity from 200 to 400 K; so every accepted call is sound. Assumes nothing.
 use Prim.Native.Nat.{ℕ, _-_, _*_, _^_, _≤_}
 use mathlib.Core.Path.{_≡_}
-use mathlib.Core.Bool.{Bool, _&&_}
+use mathlib.Core.Bool.{Bool, true, false, _&&_, cond}
 use mathlib.Core.List.{List, [], _∷_}
 use native.Mathlib.Nat.{le-trans, zero-lt-suc}
 use native.Mathlib.Omega.{arith}
@@ -95,6 +95,11 @@ pub record SheetRanges (s : ElectrodeParams) : Type 0 where
 
 pub wider : {x : Float} {A C B E : ℕ} → Within x A C B E → (G H K J : ℕ) → T (ltb 0 H) → T (ltb 0 J) → T (leb (A * H) (G * C)) → T (leb (K * E) (B * J)) → Within x G H K J
 wider w G H K J h j l m = (most-wider (w .0) G H h l, least-wider (w .1) K J j m)
+
+-- whichever of two a test chooses
+pub either : (b : Bool) {x y : Float} {A C : ℕ} → Sized x A C → Sized y A C → Sized (cond b x y) A C
+either true h k = h
+either false h k = k
 
 within : {r : Row} → Tested r → T (positive (r .low)) → T (positive (r .high)) → Within (r .x) (num (r .high)) (den (r .high)) (num (r .low)) (den (r .low))
 within {r} t p q = tested-within (r .low) (r .x) (r .high) p q (t .above) (t .below)
