@@ -1,0 +1,6 @@
+-- Sizes, Pivots: laws that the functions' proofs cite.
+-- BenchCells: 01's bench cells of `solve_dense`. Literals: the limit of a pivot is its decimal, rounded once.
+pub mod Sizes
+pub mod Pivots
+pub mod BenchCells
+pub mod Literals
