@@ -29,7 +29,7 @@ fn words(slots: &[Slot]) -> String {
     all.iter().map(|n| format!("{n:016X}")).collect::<Vec<_>>().join(" ")
 }
 
-/// A line for each case that has not come before: arguments, a tab, the answer.
+/// A line for each case that has not come before: arguments, a tab, the answer; of a call without arguments the answer alone.
 fn write_list(list: &List, seed: u64, path: &Path) -> io::Result<usize> {
     let mut out = BufWriter::new(fs::File::create(path)?);
     let mut seen = HashSet::new();
@@ -38,7 +38,8 @@ fn write_list(list: &List, seed: u64, path: &Path) -> io::Result<usize> {
         if seen.contains(&arguments) {
             continue;
         }
-        writeln!(out, "{arguments}\t{}", words(&(list.answer)(&case)))?;
+        let tab = if case.is_empty() { "" } else { "\t" };
+        writeln!(out, "{arguments}{tab}{}", words(&(list.answer)(&case)))?;
         seen.insert(arguments);
     }
     out.flush()?;

@@ -1,4 +1,5 @@
 // Reading a list, word by word.
+use refusal::Answer;
 
 // A word and the byte after it: a space, a tab before the answer, a line's end; 0 where the list is over.
 pub struct Word {
@@ -39,7 +40,41 @@ pub(crate) fn next_word(fd: i32) -> Word {
     Word { value: word_of(&text), end: text[16] }
 }
 
+pub(crate) fn next_u64(fd: i32) -> u64 {
+    let w = next_word(fd);
+    w.value
+}
+
+pub(crate) fn next_f64(fd: i32) -> f64 {
+    words::from_bits(next_u64(fd))
+}
+
 // A test's answer: 1 where it passes, 0 where not.
 pub(crate) fn is_flag(w: Word, passes: bool) -> bool {
     if passes { w.value == 1 } else { w.value == 0 }
+}
+
+// Whether the next word is x, by its bits.
+pub(crate) fn is_f64(fd: i32, x: f64) -> bool {
+    next_u64(fd) == words::to_bits(x)
+}
+
+// Whether the next answer, a number of the table and a value where that is 0, is a.
+pub(crate) fn is_answer(fd: i32, a: Answer) -> bool {
+    let number = next_u64(fd);
+    if number != 0 {
+        return match a {
+            Answer::Value(_) => false,
+            Answer::Refused(k) => k == number,
+        };
+    }
+    let value = next_u64(fd);
+    match a {
+        Answer::Value(x) => words::to_bits(x) == value,
+        Answer::Refused(_) => false,
+    }
+}
+
+pub(crate) fn verdict(agrees: bool) -> u64 {
+    if agrees { AGREES } else { DIFFERS }
 }

@@ -2,16 +2,36 @@
 // The lists stand in data/; a line is words of 16 hexadecimal digits, arguments and answer, with a tab between the two.
 mod list;
 mod ranges;
+mod functions;
+mod sheets;
 
 use libc::STDOUT_FILENO;
 use list::{OVER, AGREES};
 
 // The lists that are replayed.
 const RANGES: u64 = 0;
+const ELEMENTARY: u64 = 1;
+const POWF: u64 = 2;
+const SMALL: u64 = 3;
+const COUNTS: u64 = 4;
+const READY_SHEETS: u64 = 5;
+const D_S: u64 = 6;
+const SPECIFIC_AREA: u64 = 7;
+const OCP: u64 = 8;
+const SPHERE_VOLUME: u64 = 9;
 
 fn line(which: u64, fd: i32) -> u64 {
     match which {
         RANGES => ranges::line(fd),
+        ELEMENTARY => functions::elementary_line(fd),
+        POWF => functions::powf_line(fd),
+        SMALL => functions::small_line(fd),
+        COUNTS => functions::count_line(fd),
+        READY_SHEETS => sheets::ready_line(fd),
+        D_S => sheets::d_s_line(fd),
+        SPECIFIC_AREA => sheets::area_line(fd),
+        OCP => sheets::ocp_line(fd),
+        SPHERE_VOLUME => sheets::volume_line(fd),
         _ => OVER,
     }
 }
@@ -47,4 +67,13 @@ fn replay(which: u64, name: &[u8]) {
 
 fn main() {
     replay(RANGES, b"ranges.txt");
+    replay(ELEMENTARY, b"elementary.txt");
+    replay(POWF, b"powf.txt");
+    replay(SMALL, b"small.txt");
+    replay(COUNTS, b"counts.txt");
+    replay(READY_SHEETS, b"ready_sheets.txt");
+    replay(D_S, b"d_s.txt");
+    replay(SPECIFIC_AREA, b"specific_area.txt");
+    replay(OCP, b"ocp.txt");
+    replay(SPHERE_VOLUME, b"sphere_volume.txt");
 }

@@ -1,5 +1,5 @@
 // The list of the tests of a range: x and a range's ends, what each test finds, and the numbers that follow.
-use crate::list::{next_word, is_flag, Word, OVER, AGREES, DIFFERS};
+use crate::list::{next_word, next_u64, is_flag, verdict, OVER};
 
 fn tests_agree(x: f64, low: f64, high: f64, fd: i32) -> bool {
     let inside = next_word(fd);
@@ -20,10 +20,10 @@ fn tests_agree(x: f64, low: f64, high: f64, fd: i32) -> bool {
 
 fn numbers_agree(inside: bool, x: u64, low: u64, high: u64, fd: i32) -> bool {
     let between = next_word(fd);
-    let number = next_word(fd);
+    let number = next_u64(fd);
     let first = next_word(fd);
     is_flag(between, refusal::count_within(x, low, high))
-        & (number.value == refusal::refusal_unless(inside, x))
+        & (number == refusal::refusal_unless(inside, x))
         & (first.value == refusal::first_met(low, high))
         & (first.end == b'\n')
 }
@@ -41,5 +41,5 @@ pub(crate) fn line(fd: i32) -> u64 {
     let tests = tests_agree(fx, flow, fhigh, fd);
     let numbers = numbers_agree(refusal::within(fx, flow, fhigh), x.value, low.value, high.value, fd);
     let same_bits = words::to_bits(fx) == x.value;
-    if tests & numbers & same_bits & (high.end == b'\t') { AGREES } else { DIFFERS }
+    verdict(tests & numbers & same_bits & (high.end == b'\t'))
 }

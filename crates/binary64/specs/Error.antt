@@ -6,7 +6,7 @@ use mathlib.Core.Logic.{inl, inr}
 use Prim.Native.Nat.{ℕ, _+_, _*_, _^_, _≤_, _<_}
 use native.Mathlib.Nat.{le-trans, le-of-eq, mul-one, one-mul, mul-comm, mul-assoc, mul-left-comm, add-mul, mul-le-mul-right}
 use native.Mathlib.Omega.{arith}
-use mathlib.Core.Bool.{Bool, true, false}
+use mathlib.Core.Bool.{Bool}
 use lib.Dec.{T}
 use lib.IntN.{pos}
 use lib.Pow.{pow-pos}
@@ -17,7 +17,7 @@ use lib.Ieee.Order.{drop, kept}
 use lib.Ieee.Scale.{finite, grid, round-under}
 use Rattle.fraction.specs.Fraction.{Fraction, whole, nat, pow2, frac, _+F_, negF, _-F_, _*F_, _≈F_, _≤F_, _within_}
 use Rattle.fraction.specs.Field.{≈F-sym, ≈F-trans, +F-cong, negF-cong, ≤F-of-≈F, ≤F-trans}
-use Rattle.fraction.specs.Certificate.{quote, le-by, within-by, up, hi, lo, num, eqn, _⊞_, _⊠_, _·_}
+use Rattle.fraction.specs.Certificate.{quote, within-by, up, num, eqn, _⊞_, _⊠_, _·_}
 use Rattle.fraction.specs.Inverse.{mul-cancel}
 use Rattle.fraction.specs.Order.{pow2-pos}
 use Rattle.fraction.specs.Size.{Size}
@@ -26,7 +26,7 @@ use Rattle.binary64.specs.Nearest.{unit, unit-cases, grid-half}
 use Rattle.binary64.specs.Range.{round-most}
 use Rattle.binary64.specs.Rounds.{Rounds}
 use Rattle.binary64.specs.Sign.{round-finite}
-use Rattle.binary64.specs.Value.{ratio, signed, val, value-is, signed-within, signed-sub}
+use Rattle.binary64.specs.Value.{ratio, val, value-is, signed-within, signed-size, signed-sub}
 
 -- 2 ^ -53
 unfoldable pub u : Fraction
@@ -49,10 +49,6 @@ pub record Close (r : Float) (Q E : Fraction) : Type 0 where
 round-value : (s : Bool) (a c : ℕ) → T (finite (round binary64 s a c)) → HasValue (round binary64 s a c) s (grid binary64 a c) (2 ^ 1074)
 round-value s a c p = subst (λ (z : Float). HasValue z s (grid binary64 a c) (2 ^ 1074)) (sym (round-is binary64 s a c))
     (units-val binary64 s (kept 53 (a * 2 ^ 1074) c) (drop 53 (a * 2 ^ 1074) c) (round-under binary64 a c (subst (λ (b : Bool). T b) (round-finite binary64 s a c) p)))
-
-size-of : (s : Bool) (q A : Fraction) → signed s q within A → q ≤F A
-size-of false q A h = h .hi
-size-of true q A h = le-by (q ∷ A ∷ []) 0 (lo h) (search quote depth 24) tt
 
 -- twice the distance is at most a unit, as fractions
 twice-le : (G L a c U : ℕ) (P : 0 < L) (C : 0 < c) → G * c * 2 ≤ a * L * 2 + U * c → nat 2 *F ratio G L P ≤F nat 2 *F ratio a c C +F ratio U L P
@@ -110,7 +106,7 @@ rounding-error {Q} {A} {r} h w z =
     let c = h .bottom in
     let q = ratio a c (h .above) in
     let g = ratio (grid binary64 a c) (2 ^ 1074) (pow-pos 1074) in
-    let k = size-of s q A (within-resp (≈F-sym (h .same)) w) in
+    let k = signed-size s q A (within-resp (≈F-sym (h .same)) w) in
     let f = round-fine s a c (h .above) A k (z .high) in
     subst (λ (z : Float). Close z Q (A *F u)) (sym (h .is))
     (record {

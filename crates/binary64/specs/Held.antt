@@ -1,7 +1,7 @@
 -- A float that binary64 holds is what its own value rounds to. Assumes nothing.
 use mathlib.Core.Path.{_≡_, sym, ap, ap₂, _∙_, subst}
 use Prim.Native.Nat.{ℕ, zero, suc, _+_, _-_, _*_, _/_, _%_, _^_, _≤_, _<_}
-use native.Mathlib.Nat.{le-of-eq, le-of-suc-le-suc, lt-of-lt-of-le, lt-of-not-le, not-le-of-lt, mul-comm, mul-assoc, mul-left-comm, mul-right-comm, mul-one, zero-mul, mul-lt-mul-of-pos-right}
+use native.Mathlib.Nat.{le-of-eq, le-of-suc-le-suc, lt-of-lt-of-le, lt-of-not-le, not-le-of-lt, mul-comm, mul-assoc, mul-right-comm, mul-one, zero-mul, mul-lt-mul-of-pos-right}
 use mathlib.Core.Bool.{Bool, _&&_, cond}
 use lib.Dec.{T, ltb, leb, eqb, ltb→lt, leb→le}
 use lib.Pow.{pow-pos, pow-add, pow-lt}
@@ -36,7 +36,7 @@ own-value : (f : Format) (s : Bool) (m : ℕ) (e : ℤ) → m < 2 ^ prec f → d
 own-value f s m (pos k) a b c =
     let h : m * 2 ^ k * 2 ^ low f < 2 ^ suc (emax f) * 1 * 2 ^ low f = mul-lt-mul-of-pos-right c (pow-pos (low f)) in
     round-exact f s (m * 2 ^ k) 1 m (k + low f) (pow-pos 0) a
-    (rw (pow-add 2 k (low f), pow-add 2 (low f) (suc (emax f))) (simp (mul-one, mul-assoc, mul-comm, mul-left-comm) at h))
+    (rw (pow-add 2 k (low f), pow-add 2 (low f) (suc (emax f))) (simp (mul-one, mul-assoc, mul-comm) at h))
     (rw (pow-add 2 k (low f)) (simp (mul-one, mul-assoc)))
 own-value f s m (negsuc k) a b c =
     let l = low f in

@@ -1,12 +1,14 @@
 -- `le` and `lt` of finite floats, by the sizes ±a / c as natural numbers: ±a ≤ ±b is an inequality of naturals for each pair of signs. Assumes nothing.
-use mathlib.Core.Path.{_≡_, sym}
+use mathlib.Core.Path.{_≡_, refl, sym}
 use mathlib.Core.Logic.{_⊎_, inl, inr}
-use Prim.Native.Nat.{ℕ, _+_, _*_, _≤_, zero-le}
+use Prim.Native.Nat.{ℕ, suc, _^_, _+_, _*_, _≤_, zero-le}
 use native.Mathlib.Nat.{le-of-eq, le-of-lt, lt-of-not-le, eq-or-lt-of-le}
 use native.Mathlib.Omega.{arith}
 use mathlib.Core.Bool.{Bool, true, false, not, _&&_, _||_, true≢false}
 use lib.Dec.{T, ltb, eqb, eqb→eq, ltb→lt, lt→ltb, nltb→le}
-use lib.Ieee.{Float, nan, inf, fin, up, down, le, lt, neg, below, level}
+use lib.IntN.{ℤ, pos, negsuc, natAbs}
+use lib.Ieee.{Float, nan, inf, fin, up, down, binary64, le, lt, neg, ofInt, below, level}
+use lib.Ieee.Back.{round-whole}
 use lib.Ieee.Exact.{HasValue}
 use lib.Ieee.Fits.{and-i, and-l, and-r, eq→eqb}
 use lib.Ieee.Positive.{num, den}
@@ -70,24 +72,41 @@ value-cross nan s a c h = absurd h
 value-cross (inf t) s a c h = absurd h
 value-cross (fin t m e) s a c h = h .1
 
+-- a whole number up to 2 ^ 53 in size is held
+abbrev pub below-zero : ℤ → Bool
+below-zero (pos n) = false
+below-zero (negsuc n) = true
+
+pub int-value : (z : ℤ) → natAbs z ≤ 2 ^ 53 → HasValue (ofInt binary64 z) (below-zero z) (natAbs z) 1
+unfolding ofInt
+int-value (pos n) h = round-whole binary64 false n h
+int-value (negsuc n) h = round-whole binary64 true (suc n) h
+
 -- ---- the order of finite floats
-pub le→below : (x y : Float) → T (finite x) → T (finite y) → T (le x y) → Below (negative x) (num x * den y) (negative y) (num y * den x)
+le-is : (x y : Float) → T (finite x) → T (finite y) → le x y ≡ (below (negative x) (num x * den y) (negative y) (num y * den x) || level (negative x) (num x * den y) (negative y) (num y * den x))
 unfolding le
-le→below nan y p q h = absurd p
-le→below (inf s) y p q h = absurd p
-le→below (fin s m e) nan p q h = absurd q
-le→below (fin s m e) (inf t) p q h = absurd q
-le→below (fin s m e) (fin t n d) p q h = test→below s (m * up e * down d) t (n * up d * down e) h
+le-is nan y p q = absurd p
+le-is (inf s) y p q = absurd p
+le-is (fin s m e) nan p q = absurd q
+le-is (fin s m e) (inf t) p q = absurd q
+le-is (fin s m e) (fin t n d) p q = refl
 
-pub below→le : (x y : Float) → T (finite x) → T (finite y) → Below (negative x) (num x * den y) (negative y) (num y * den x) → T (le x y)
-unfolding le
-below→le nan y p q h = absurd p
-below→le (inf s) y p q h = absurd p
-below→le (fin s m e) nan p q h = absurd q
-below→le (fin s m e) (inf t) p q h = absurd q
-below→le (fin s m e) (fin t n d) p q h = below→test s (m * up e * down d) t (n * up d * down e) h
+lt-is : (x y : Float) → T (finite x) → T (finite y) → lt x y ≡ below (negative x) (num x * den y) (negative y) (num y * den x)
+unfolding lt
+lt-is nan y p q = absurd p
+lt-is (inf s) y p q = absurd p
+lt-is (fin s m e) nan p q = absurd q
+lt-is (fin s m e) (inf t) p q = absurd q
+lt-is (fin s m e) (fin t n d) p q = refl
 
--- ---- `lt` is the other way round not `le`
+module _ (x y : Float) (p : T (finite x)) (q : T (finite y)) where
+  pub le→below : T (le x y) → Below (negative x) (num x * den y) (negative y) (num y * den x)
+  le→below h = test→below (negative x) (num x * den y) (negative y) (num y * den x) (rw (le-is x y p q) at h)
+
+  pub below→le : Below (negative x) (num x * den y) (negative y) (num y * den x) → T (le x y)
+  below→le h = rw (le-is x y p q) (below→test (negative x) (num x * den y) (negative y) (num y * den x) h)
+
+-- `lt` is the other way round not `le`
 test→not : (s : Bool) (a : ℕ) (t : Bool) (b : ℕ) → T (below s a t b) → Below t b s a → ⊥
 test→not false a false b h k = let l = ltb→lt a b h in omega arith
 test→not false a true b h k = absurd h
@@ -100,21 +119,12 @@ not→test false a true b h = absurd (h zero-le)
 not→test true a false b h = lt→ltb 0 (a + b) (lt-of-not-le (λ (k : a + b ≤ 0). h (omega arith)))
 not→test true a true b h = lt→ltb b a (lt-of-not-le h)
 
-pub lt→not : (x y : Float) → T (finite x) → T (finite y) → T (lt x y) → T (le y x) → ⊥
-unfolding lt le
-lt→not nan y p q h k = absurd p
-lt→not (inf s) y p q h k = absurd p
-lt→not (fin s m e) nan p q h k = absurd q
-lt→not (fin s m e) (inf t) p q h k = absurd q
-lt→not (fin s m e) (fin t n d) p q h k = test→not s (m * up e * down d) t (n * up d * down e) h (test→below t (n * up d * down e) s (m * up e * down d) k)
+module _ (x y : Float) (p : T (finite x)) (q : T (finite y)) where
+  pub lt→not : T (lt x y) → T (le y x) → ⊥
+  lt→not h k = test→not (negative x) (num x * den y) (negative y) (num y * den x) (rw (lt-is x y p q) at h) (le→below y x q p k)
 
-pub not→lt : (x y : Float) → T (finite x) → T (finite y) → (T (le y x) → ⊥) → T (lt x y)
-unfolding lt le
-not→lt nan y p q h = absurd p
-not→lt (inf s) y p q h = absurd p
-not→lt (fin s m e) nan p q h = absurd q
-not→lt (fin s m e) (inf t) p q h = absurd q
-not→lt (fin s m e) (fin t n d) p q h = not→test s (m * up e * down d) t (n * up d * down e) (λ (k : Below t (n * up d * down e) s (m * up e * down d)). h (below→test t (n * up d * down e) s (m * up e * down d) k))
+  pub not→lt : (T (le y x) → ⊥) → T (lt x y)
+  not→lt h = rw (lt-is x y p q) (not→test (negative x) (num x * den y) (negative y) (num y * den x) (λ (k : Below (negative y) (num y * den x) (negative x) (num x * den y)). h (below→le y x q p k)))
 
 -- what lies between two finite floats is finite
 pub between-finite : (lo x hi : Float) → T (finite lo) → T (finite hi) → T (le lo x) → T (le x hi) → T (finite x)

@@ -1,13 +1,12 @@
 -- Ranges by monotone rounding: a fraction that is at most A / C rounds to at most A / C, where A / C is a value of binary64 (`exact A C`), and so from below.
 -- `Most x s A C`: x is finite, has the sign s, and is at most A / C in size. `Least x B E`: it is at least B / E in size. Assumes nothing.
 use mathlib.Core.Path.{_≡_, refl, sym, ap, _∙_, subst, subst₂}
-use Prim.Native.Nat.{ℕ, zero, suc, _+_, _*_, _/_, _^_, _≤_, _<_}
-use native.Mathlib.Nat.{le-of-eq}
-use mathlib.Core.Bool.{Bool, false, not, _&&_, cond}
+use Prim.Native.Nat.{ℕ, zero, suc, _+_, _*_, _/_, _^_, _≤_, _<_, zero-le}
+use native.Mathlib.Nat.{le-trans, le-of-eq, zero-mul, zero-lt-suc}
+use mathlib.Core.Bool.{Bool, true, false, not, _&&_, cond}
 use lib.Dec.{T, ltb, leb, eqb, ltb→lt, leb→le, eqb→eq}
 use lib.Ieee.{Float, binary64, round, le, neg}
 use lib.Ieee.Exact.{HasValue, round-exact}
-use lib.Ieee.Fits.{and-l, and-r}
 use lib.Ieee.Order.{round-mono}
 use lib.Ieee.Positive.{num, den, den-pos, through}
 use lib.Ieee.Scale.{finite}
@@ -28,22 +27,28 @@ exactAt A C q j = ltb 0 C && ltb q (2 ^ 53) && ltb (q * 2 ^ j) (2 ^ 2098) && eqb
 abbrev pub exact : ℕ → ℕ → Bool
 exact A C = let n = A * 2 ^ 1074 / C in let j = spare 11 n in exactAt A C (n / 2 ^ j) j
 
+all-four : (a b c d : Bool) → T (a && b && c && d) → T a × T b × T c × T d
+all-four true true true true t = (tt, tt, tt, tt)
+all-four true true true false t = absurd t
+all-four true true false d t = absurd t
+all-four true false c d t = absurd t
+all-four false b c d t = absurd t
+
 module _ (A C q j : ℕ) (t : T (exactAt A C q j)) where
+  parts : T (ltb 0 C) × T (ltb q (2 ^ 53)) × T (ltb (q * 2 ^ j) (2 ^ 2098)) × T (eqb (A * 2 ^ 1074) (q * 2 ^ j * C))
+  parts = all-four (ltb 0 C) (ltb q (2 ^ 53)) (ltb (q * 2 ^ j) (2 ^ 2098)) (eqb (A * 2 ^ 1074) (q * 2 ^ j * C)) t
+
   at-over : 0 < C
-  at-over = ltb→lt 0 C (and-l (ltb 0 C) (ltb q (2 ^ 53)) (and-l (ltb 0 C && ltb q (2 ^ 53)) (ltb (q * 2 ^ j) (2 ^ 2098)) (and-l (ltb 0 C && ltb q (2 ^ 53) && ltb (q * 2 ^ j) (2 ^ 2098)) (eqb (A * 2 ^ 1074) (q * 2 ^ j * C)) t)))
+  at-over = ltb→lt 0 C (parts .0)
 
   at-value : HasValue (round binary64 false A C) false A C
-  at-value =
-      round-exact binary64 false A C q j at-over
-      (ltb→lt q (2 ^ 53) (and-r (ltb 0 C) (ltb q (2 ^ 53)) (and-l (ltb 0 C && ltb q (2 ^ 53)) (ltb (q * 2 ^ j) (2 ^ 2098)) (and-l (ltb 0 C && ltb q (2 ^ 53) && ltb (q * 2 ^ j) (2 ^ 2098)) (eqb (A * 2 ^ 1074) (q * 2 ^ j * C)) t))))
-      (ltb→lt (q * 2 ^ j) (2 ^ 2098) (and-r (ltb 0 C && ltb q (2 ^ 53)) (ltb (q * 2 ^ j) (2 ^ 2098)) (and-l (ltb 0 C && ltb q (2 ^ 53) && ltb (q * 2 ^ j) (2 ^ 2098)) (eqb (A * 2 ^ 1074) (q * 2 ^ j * C)) t)))
-      (eqb→eq (A * 2 ^ 1074) (q * 2 ^ j * C) (and-r (ltb 0 C && ltb q (2 ^ 53) && ltb (q * 2 ^ j) (2 ^ 2098)) (eqb (A * 2 ^ 1074) (q * 2 ^ j * C)) t))
+  at-value = round-exact binary64 false A C q j at-over (ltb→lt q (2 ^ 53) (parts .1)) (ltb→lt (q * 2 ^ j) (2 ^ 2098) (parts .2)) (eqb→eq (A * 2 ^ 1074) (q * 2 ^ j * C) (parts .3))
 
 pub exact-over : (A C : ℕ) → T (exact A C) → 0 < C
-exact-over A C t = at-over A C (A * 2 ^ 1074 / C / 2 ^ spare 11 (A * 2 ^ 1074 / C)) (spare 11 (A * 2 ^ 1074 / C)) t
+exact-over A C t = let n = A * 2 ^ 1074 / C in let j = spare 11 n in at-over A C (n / 2 ^ j) j t
 
 pub exact-value : (A C : ℕ) → T (exact A C) → HasValue (round binary64 false A C) false A C
-exact-value A C t = at-value A C (A * 2 ^ 1074 / C / 2 ^ spare 11 (A * 2 ^ 1074 / C)) (spare 11 (A * 2 ^ 1074 / C)) t
+exact-value A C t = let n = A * 2 ^ 1074 / C in let j = spare 11 n in at-value A C (n / 2 ^ j) j t
 
 -- ---- the ranges
 pub record Most (x : Float) (s : Bool) (A C : ℕ) : Type 0 where
@@ -69,6 +74,10 @@ Sized x A C = Most x (negative x) A C
 
 pub sized : {x : Float} {s : Bool} {A C : ℕ} → Most x s A C → Sized x A C
 sized h = record { over = h .over; fine = h .fine; sign = refl; most = h .most }
+
+-- a size is 0 at least
+pub least-zero : {x : Float} → Least x 0 1
+least-zero {x} = record { over = zero-lt-suc 0; least = le-trans (le-of-eq (zero-mul (den x))) zero-le }
 
 pub most-wider : {x : Float} {s : Bool} {A C : ℕ} → Most x s A C → (B D : ℕ) → T (ltb 0 D) → T (leb (A * D) (B * C)) → Most x s B D
 most-wider {x} {s} {A} {C} h B D p l = record { over = ltb→lt 0 D p; fine = h .fine; sign = h .sign; most = through (num x) A B (den x) C D (h .over) (h .most) (leb→le (A * D) (B * C) l) }

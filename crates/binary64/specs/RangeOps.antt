@@ -1,21 +1,20 @@
 -- The range of each operation's result from the ranges of its operands. What is asked is that the new bounds are values of binary64 and one inequality of closed numbers for each:
 -- `tt` proves them. Of `Between x s A C B E` the size of x is from B / E to A / C, and its sign is s. Assumes nothing.
-use mathlib.Core.Path.{_≡_, refl, sym, ap, _∙_, subst, subst₂}
-use Prim.Native.Nat.{ℕ, _+_, _-_, _*_, _^_, _≤_, _<_, zero-le}
-use native.Mathlib.Nat.{le-trans, le-of-eq, le-refl, lt-of-lt-of-le, lt-of-mul-lt-mul-right, mul-pos, mul-comm, mul-assoc, mul-left-comm, mul-right-comm, mul-mul-mul-comm, add-mul, mul-add, zero-mul, mul-le-mul, mul-le-mul-right, le-of-mul-le-mul-right, zero-lt-suc}
+use mathlib.Core.Path.{_≡_, refl, sym, ap₂, subst, subst₂}
+use mathlib.Core.Logic.{_⊎_, inl, inr}
+use Prim.Native.Nat.{ℕ, _+_, _*_, _^_, _≤_, _<_, zero-le}
+use native.Mathlib.Nat.{le-trans, le-of-eq, le-refl, lt-of-lt-of-le, lt-of-mul-lt-mul-right, mul-pos, mul-comm, mul-assoc, mul-left-comm, add-mul, mul-add, zero-mul, mul-le-mul, mul-le-mul-right, le-of-mul-le-mul-right}
 use native.Mathlib.Omega.{arith}
 use mathlib.Core.Bool.{Bool, true, false, not, _||_}
-use lib.Dec.{T, ltb, leb, ltb→lt, leb→le}
-use lib.Ieee.{Float, nan, inf, fin, binary64, down, unlike, round, ofInt, le, neg}
-use lib.Ieee.Back.{round-whole}
-use lib.Ieee.Exact.{HasValue}
-use lib.Ieee.Positive.{num, den, den-pos, first-pos, positive, positive-finite, own-value, between}
-use lib.Ieee.Scale.{finite}
+use lib.Dec.{T, ltb, leb, ltb→lt, leb→le, le→leb}
+use lib.Ieee.{Float, binary64, unlike, neg}
+use lib.Ieee.Positive.{num, den, den-pos, first-pos}
 use Rattle.binary64.specs.Operators.{_⊕_, _⊖_, _⊗_, _⊘_, count, negative}
 use Rattle.binary64.specs.Opened.{mul-is, div-is, sub-is, plus, minus, Summed, add-summed}
-use Rattle.binary64.specs.Order.{Below, le→below, between-finite}
-use Rattle.binary64.specs.Range.{exact, exact-over, Most, Least, Between, Within, Sized, sized, neg-most, neg-least, most-of-le, least-of-le, round-most, round-between}
-use Rattle.binary64.specs.Sign.{neg-num, neg-den, neg-finite, neg-sign}
+use Rattle.binary64.specs.Range.{exact, exact-over, Most, Between, Sized, sized, neg-most, neg-least, round-most, round-between}
+-- (where ranges start, so that one line brings in all)
+pub use Rattle.binary64.specs.Range.{least-zero}
+pub use Rattle.binary64.specs.RangeTests.{literal, tested-within, tested-sized, int-between, count-within}
 
 -- ---- products and sums of fractions of naturals: with x / p ≤ A / C and y / q ≤ B / D
 ruleset ac = (add-mul, mul-add, mul-assoc, mul-comm, mul-left-comm)
@@ -23,21 +22,17 @@ ruleset ac = (add-mul, mul-add, mul-assoc, mul-comm, mul-left-comm)
 module _ (x p A C y q B D G H : ℕ) (P : 0 < C) (Q : 0 < D) where
   times-le : x * C ≤ A * p → y * D ≤ B * q → A * B * H ≤ G * (C * D) → x * y * H ≤ G * (p * q)
   times-le h k l =
-      le-of-mul-le-mul-right
-      (le-trans (le-of-eq (mul-right-comm (x * y) H (C * D) ∙ ap (λ (z : ℕ). z * H) (mul-mul-mul-comm x y C D)))
-      (le-trans (mul-le-mul-right H (mul-le-mul h k))
-      (le-trans (le-of-eq (ap (λ (z : ℕ). z * H) (mul-mul-mul-comm A p B q) ∙ mul-right-comm (A * B) (p * q) H))
-      (le-trans (mul-le-mul-right (p * q) l) (le-of-eq (mul-right-comm G (C * D) (p * q)))))))
-      (mul-pos P Q)
+      let a = simp ac at (mul-le-mul-right H (mul-le-mul h k)) in
+      let b = simp ac at (mul-le-mul-right (p * q) l) in
+      let z : x * y * H * (C * D) ≤ G * (p * q) * (C * D) = simp ac (omega arith) in
+      le-of-mul-le-mul-right z (mul-pos P Q)
 
   times-ge : A * p ≤ x * C → B * q ≤ y * D → G * (C * D) ≤ A * B * H → G * (p * q) ≤ x * y * H
   times-ge h k l =
-      le-of-mul-le-mul-right
-      (le-trans (le-of-eq (mul-right-comm G (p * q) (C * D)))
-      (le-trans (mul-le-mul-right (p * q) l)
-      (le-trans (le-of-eq (mul-right-comm (A * B) H (p * q) ∙ ap (λ (z : ℕ). z * H) (sym (mul-mul-mul-comm A p B q))))
-      (le-trans (mul-le-mul-right H (mul-le-mul h k)) (le-of-eq (ap (λ (z : ℕ). z * H) (sym (mul-mul-mul-comm x y C D)) ∙ mul-right-comm (x * y) (C * D) H))))))
-      (mul-pos P Q)
+      let a = simp ac at (mul-le-mul-right H (mul-le-mul h k)) in
+      let b = simp ac at (mul-le-mul-right (p * q) l) in
+      let z : G * (p * q) * (C * D) ≤ x * y * H * (C * D) = simp ac (omega arith) in
+      le-of-mul-le-mul-right z (mul-pos P Q)
 
   sum-le : x * C ≤ A * p → y * D ≤ B * q → (A * D + B * C) * H ≤ G * (C * D) → (x * q + y * p) * H ≤ G * (p * q)
   sum-le h k l =
@@ -64,79 +59,53 @@ module _ (x p A C y q B D G H : ℕ) (P : 0 < C) (Q : 0 < D) where
       let z : (G * (p * q) + y * p * H) * (C * D) ≤ x * q * H * (C * D) = simp ac (omega arith) in
       le-of-mul-le-mul-right z (mul-pos P Q)
 
+  -- A / C ≤ G / H + B / D, and B / D ≤ y / q
+  rest-le : x * C ≤ A * p → B * q ≤ y * D → A * (H * D) ≤ (G * D + B * H) * C → x * q * H ≤ G * (p * q) + y * p * H
+  rest-le h k l =
+      let a = simp ac at (mul-le-mul-right (q * D * H) h) in
+      let b = simp ac at (mul-le-mul-right (p * C * H) k) in
+      let c = simp ac at (mul-le-mul-right (p * q) l) in
+      let z : x * q * H * (C * D) ≤ (G * (p * q) + y * p * H) * (C * D) = simp ac (omega arith) in
+      le-of-mul-le-mul-right z (mul-pos P Q)
+
 -- ---- ⊗
-module _ {x y : Float} {s t : Bool} {A C A' C' : ℕ} (h : Most x s A C) (k : Most y t A' C') where
-  product : x ⊗ y ≡ round binary64 (unlike s t) (num x * num y) (den x * den y)
-  product = subst₂ (λ (a b : Bool). x ⊗ y ≡ round binary64 (unlike a b) (num x * num y) (den x * den y)) (h .sign) (k .sign) (mul-is binary64 x y (h .fine) (k .fine))
-
-  pub mul-most : (G H : ℕ) → T (exact G H) → T (leb (A * A' * H) (G * (C * C'))) → Most (x ⊗ y) (unlike s t) G H
-  mul-most G H e l =
-      subst (λ (z : Float). Most z (unlike s t) G H) (sym product)
-      (round-most (unlike s t) (num x * num y) (den x * den y) (mul-pos (den-pos x) (den-pos y)) G H e
-      (times-le (num x) (den x) A C (num y) (den y) A' C' G H (h .over) (k .over) (h .most) (k .most) (leb→le (A * A' * H) (G * (C * C')) l)))
-
 pub mul-between : {x y : Float} {s t : Bool} {A C B E A' C' B' E' : ℕ} → Between x s A C B E → Between y t A' C' B' E' → (G H K J : ℕ) → T (exact G H) → T (exact K J)
     → T (leb (A * A' * H) (G * (C * C'))) → T (leb (K * (E * E')) (B * B' * J)) → Between (x ⊗ y) (unlike s t) G H K J
 mul-between {x} {y} {s} {t} {A} {C} {B} {E} {A'} {C'} {B'} {E'} h k G H K J e e' l m =
-    subst (λ (z : Float). Between z (unlike s t) G H K J) (sym (product (h .0) (k .0)))
-    (round-between (unlike s t) (num x * num y) (den x * den y) (mul-pos (den-pos x) (den-pos y)) G H K J e e'
+    subst₂ (λ (z : Float) (σ : Bool). Between z σ G H K J) (sym (mul-is binary64 x y (h .0 .fine) (k .0 .fine))) (ap₂ unlike (h .0 .sign) (k .0 .sign))
+    (round-between (unlike (negative x) (negative y)) (num x * num y) (den x * den y) (mul-pos (den-pos x) (den-pos y)) G H K J e e'
     (times-le (num x) (den x) A C (num y) (den y) A' C' G H (h .0 .over) (k .0 .over) (h .0 .most) (k .0 .most) (leb→le (A * A' * H) (G * (C * C')) l))
     (times-ge (num x) (den x) B E (num y) (den y) B' E' K J (h .1 .over) (k .1 .over) (h .1 .least) (k .1 .least) (leb→le (K * (E * E')) (B * B' * J) m)))
 
+pub mul-most : {x y : Float} {s t : Bool} {A C A' C' : ℕ} → Most x s A C → Most y t A' C' → (G H : ℕ) → T (exact G H) → T (leb (A * A' * H) (G * (C * C'))) → Most (x ⊗ y) (unlike s t) G H
+mul-most h k G H e l = mul-between (h, least-zero) (k, least-zero) G H 0 1 e tt l tt .0
+
 -- ---- ⊘ by a divisor that is B' / E' at least, above 0
-module _ {x y : Float} {s t : Bool} {A C A' C' B' E' : ℕ} (h : Most x s A C) (k : Between y t A' C' B' E') (p : 0 < B') where
-  divisor-pos : 0 < num y
-  divisor-pos = first-pos (num y) E' (lt-of-lt-of-le (mul-pos p (den-pos y)) (k .1 .least))
-
-  bound-pos : 0 < A'
-  bound-pos = first-pos A' (den y) (lt-of-lt-of-le (mul-pos divisor-pos (k .0 .over)) (k .0 .most))
-
-  quotient : x ⊘ y ≡ round binary64 (unlike s t) (num x * den y) (num y * den x)
-  quotient = subst₂ (λ (a b : Bool). x ⊘ y ≡ round binary64 (unlike a b) (num x * den y) (num y * den x)) (h .sign) (k .0 .sign) (div-is binary64 x y (h .fine) (k .0 .fine) divisor-pos)
-
-  quotient-le : (G H : ℕ) → T (leb (A * E' * H) (G * (C * B'))) → num x * den y * H ≤ G * (num y * den x)
-  quotient-le G H l =
-      subst (λ (z : ℕ). num x * den y * H ≤ G * z) (mul-comm (den x) (num y))
-      (times-le (num x) (den x) A C (den y) (num y) E' B' G H (h .over) p (h .most) (le-trans (le-of-eq (mul-comm (den y) B')) (le-trans (k .1 .least) (le-of-eq (mul-comm (num y) E')))) (leb→le (A * E' * H) (G * (C * B')) l))
-
-div-most-at : {x y : Float} {s t : Bool} {A C A' C' B' E' : ℕ} → Most x s A C → Between y t A' C' B' E' → 0 < B' → (G H : ℕ) → T (exact G H) → T (leb (A * E' * H) (G * (C * B'))) → Most (x ⊘ y) (unlike s t) G H
-div-most-at {x} {y} {s} {t} h k p G H e l =
-    subst (λ (z : Float). Most z (unlike s t) G H) (sym (quotient h k p))
-    (round-most (unlike s t) (num x * den y) (num y * den x) (mul-pos (divisor-pos h k p) (den-pos x)) G H e (quotient-le h k p G H l))
-
-pub div-most : {x y : Float} {s t : Bool} {A C A' C' B' E' : ℕ} → Most x s A C → Between y t A' C' B' E' → (G H : ℕ) → T (ltb 0 B') → T (exact G H) → T (leb (A * E' * H) (G * (C * B'))) → Most (x ⊘ y) (unlike s t) G H
-div-most {B' = B'} h k G H p e l = div-most-at h k (ltb→lt 0 B' p) G H e l
-
 pub div-between : {x y : Float} {s t : Bool} {A C B E A' C' B' E' : ℕ} → Between x s A C B E → Between y t A' C' B' E' → (G H K J : ℕ) → T (ltb 0 B') → T (exact G H) → T (exact K J)
     → T (leb (A * E' * H) (G * (C * B'))) → T (leb (K * (E * A')) (B * C' * J)) → Between (x ⊘ y) (unlike s t) G H K J
 div-between {x} {y} {s} {t} {A} {C} {B} {E} {A'} {C'} {B'} {E'} h k G H K J z e e' l m =
     let p : 0 < B' = ltb→lt 0 B' z in
-    subst (λ (z : Float). Between z (unlike s t) G H K J) (sym (quotient (h .0) k p))
-    (round-between (unlike s t) (num x * den y) (num y * den x) (mul-pos (divisor-pos (h .0) k p) (den-pos x)) G H K J e e' (quotient-le (h .0) k p G H l)
-    (subst (λ (z : ℕ). K * z ≤ num x * den y * J) (mul-comm (den x) (num y))
-    (times-ge (num x) (den x) B E (den y) (num y) C' A' K J (h .1 .over) (bound-pos (h .0) k p) (h .1 .least) (le-trans (le-of-eq (mul-comm C' (num y))) (le-trans (k .0 .most) (le-of-eq (mul-comm A' (den y))))) (leb→le (K * (E * A')) (B * C' * J) m))))
+    let n : 0 < num y = first-pos (num y) E' (lt-of-lt-of-le (mul-pos p (den-pos y)) (k .1 .least)) in
+    let a : 0 < A' = first-pos A' (den y) (lt-of-lt-of-le (mul-pos n (k .0 .over)) (k .0 .most)) in
+    subst₂ (λ (z : Float) (σ : Bool). Between z σ G H K J) (sym (div-is binary64 x y (h .0 .fine) (k .0 .fine) n)) (ap₂ unlike (h .0 .sign) (k .0 .sign))
+    (round-between (unlike (negative x) (negative y)) (num x * den y) (num y * den x) (mul-pos n (den-pos x)) G H K J e e'
+    (rw (mul-comm (num y) (den x)) (times-le (num x) (den x) A C (den y) (num y) E' B' G H (h .0 .over) p (h .0 .most) (simp mul-comm (simp mul-comm at (k .1 .least))) (leb→le (A * E' * H) (G * (C * B')) l)))
+    (rw (mul-comm (num y) (den x)) (times-ge (num x) (den x) B E (den y) (num y) C' A' K J (h .1 .over) a (h .1 .least) (simp mul-comm (simp mul-comm at (k .0 .most))) (leb→le (K * (E * A')) (B * C' * J) m))))
+
+pub div-most : {x y : Float} {s t : Bool} {A C A' C' B' E' : ℕ} → Most x s A C → Between y t A' C' B' E' → (G H : ℕ) → T (ltb 0 B') → T (exact G H) → T (leb (A * E' * H) (G * (C * B'))) → Most (x ⊘ y) (unlike s t) G H
+div-most {A' = A'} {C'} h k G H z e l = div-between (h, least-zero) k G H 0 1 z e tt l (le→leb (0 * (1 * A')) (0 * C' * 1) (le-trans (le-of-eq (zero-mul (1 * A'))) zero-le)) .0
 
 -- ---- ⊕
 -- the size of the sum is at most that of both together; and at least that of the first less that of the second, of the first's sign, where the second is no larger
-size-le : (s t σ : Bool) (p q n : ℕ) → plus s p + plus t q + minus σ n ≡ minus s p + minus t q + plus σ n → n ≤ p + q
-size-le false false false p q n e = omega arith
-size-le false false true p q n e = omega arith
-size-le false true false p q n e = omega arith
-size-le false true true p q n e = omega arith
-size-le true false false p q n e = omega arith
-size-le true false true p q n e = omega arith
-size-le true true false p q n e = omega arith
-size-le true true true p q n e = omega arith
-
-size-ge : (s t σ : Bool) (p q n : ℕ) → plus s p + plus t q + minus σ n ≡ minus s p + minus t q + plus σ n → p ≤ n + q
-size-ge false false false p q n e = omega arith
-size-ge false false true p q n e = omega arith
-size-ge false true false p q n e = omega arith
-size-ge false true true p q n e = omega arith
-size-ge true false false p q n e = omega arith
-size-ge true false true p q n e = omega arith
-size-ge true true false p q n e = omega arith
-size-ge true true true p q n e = omega arith
+sizes : (s t σ : Bool) (p q n : ℕ) → plus s p + plus t q + minus σ n ≡ minus s p + minus t q + plus σ n → (n ≤ p + q) × (p ≤ n + q)
+sizes false false false p q n e = (omega arith, omega arith)
+sizes false false true p q n e = (omega arith, omega arith)
+sizes false true false p q n e = (omega arith, omega arith)
+sizes false true true p q n e = (omega arith, omega arith)
+sizes true false false p q n e = (omega arith, omega arith)
+sizes true false true p q n e = (omega arith, omega arith)
+sizes true true false p q n e = (omega arith, omega arith)
+sizes true true true p q n e = (omega arith, omega arith)
 
 size-alike : (s : Bool) (p q n : ℕ) → plus s p + plus s q + minus s n ≡ minus s p + minus s q + plus s n → p + q ≤ n
 size-alike false p q n e = omega arith
@@ -176,7 +145,7 @@ module _ {x y : Float} {s t : Bool} {A C A' C' : ℕ} (h : Most x s A C) (k : Mo
 
   total-le : (G H : ℕ) → T (leb ((A * C' + A' * C) * H) (G * (C * C'))) → summed .size * H ≤ G * (den x * den y)
   total-le G H l =
-      le-trans (mul-le-mul-right H (size-le s t (summed .sign) (num x * den y) (num y * den x) (summed .size) (summed .adds)))
+      le-trans (mul-le-mul-right H (sizes s t (summed .sign) (num x * den y) (num y * den x) (summed .size) (summed .adds) .0))
       (sum-le (num x) (den x) A C (num y) (den y) A' C' G H (h .over) (k .over) (h .most) (k .most) (leb→le ((A * C' + A' * C) * H) (G * (C * C')) l))
 
   -- of any signs
@@ -193,6 +162,28 @@ add-alike {x} {y} {s} {A} {C} {B} {E} {A'} {C'} {B'} {E'} h k G H K J e e' l m =
     (le-trans (sum-ge (num x) (den x) B E (num y) (den y) B' E' K J (h .1 .over) (k .1 .over) (h .1 .least) (k .1 .least) (leb→le (K * (E * E')) ((B * E' + B' * E) * J) m))
     (mul-le-mul-right J (size-alike s (num x * den y) (num y * den x) (w .size) (subst (λ (σ : Bool). plus s (num x * den y) + plus s (num y * den x) + minus σ (w .size) ≡ minus s (num x * den y) + minus s (num y * den x) + plus σ (w .size)) (w .alike refl) (w .adds))))))
 
+-- of opposite signs: the difference of the sizes, either way round
+unlike-size : (s σ : Bool) (p q n : ℕ) → plus s p + plus (not s) q + minus σ n ≡ minus s p + minus (not s) q + plus σ n → (n + q ≤ p) ⊎ (n + p ≤ q)
+unlike-size false false p q n e = inl (omega arith)
+unlike-size false true p q n e = inr (omega arith)
+unlike-size true false p q n e = inr (omega arith)
+unlike-size true true p q n e = inl (omega arith)
+
+drop : (n p q H B : ℕ) → n + q ≤ p → p * H ≤ B + q * H → n * H ≤ B
+drop n p q H B h k = let a = simp add-mul at (mul-le-mul-right H h) in omega arith
+
+pub add-unlike : {x y : Float} {s : Bool} {A C B E A' C' B' E' : ℕ} → Between x s A C B E → Between y (not s) A' C' B' E' → (G H : ℕ) → T (exact G H)
+    → T (leb (A * (H * E')) ((G * E' + B' * H) * C)) → T (leb (A' * (H * E)) ((G * E + B * H) * C')) → Sized (x ⊕ y) G H
+add-unlike {x} {y} {s} {A} {C} {B} {E} {A'} {C'} {B'} {E'} h k G H e l m =
+    let w = summed (h .0) (k .0) in
+    sized (subst (λ (z : Float). Most z (w .sign) G H) (sym (w .is)) (round-most (w .sign) (w .size) (den x * den y) (dens (h .0) (k .0)) G H e
+    (elim (unlike-size s (w .sign) (num x * den y) (num y * den x) (w .size) (w .adds)) [
+      | inl g ↦ drop (w .size) (num x * den y) (num y * den x) H (G * (den x * den y)) g
+          (rest-le (num x) (den x) A C (num y) (den y) B' E' G H (h .0 .over) (k .1 .over) (h .0 .most) (k .1 .least) (leb→le (A * (H * E')) ((G * E' + B' * H) * C) l))
+      | inr g ↦ drop (w .size) (num y * den x) (num x * den y) H (G * (den x * den y)) g
+          (rw (mul-comm (den x) (den y)) (rest-le (num y) (den y) A' C' (num x) (den x) B E G H (k .0 .over) (h .1 .over) (k .0 .most) (h .1 .least) (leb→le (A' * (H * E)) ((G * E + B * H) * C') m)))
+    ])))
+
 -- a second operand of any sign that is no larger than the first: K / J is what it leaves, above 0 where the first is negative
 pub add-over : {x y : Float} {s t : Bool} {A C B E A' C' : ℕ} → Between x s A C B E → Most y t A' C' → (G H K J : ℕ) → T (ltb 0 K || not s) → T (exact G H) → T (exact K J)
     → T (leb ((A * C' + A' * C) * H) (G * (C * C'))) → T (leb ((K * C' + A' * J) * E) (B * (J * C'))) → Between (x ⊕ y) s G H K J
@@ -202,7 +193,7 @@ add-over {x} {y} {s} {t} {A} {C} {B} {E} {A'} {C'} h k G H K J z e e' l m =
     let o = first-over s K J (den x * den y) (num x * den y) (num y * den x) (dens (h .0) k) (exact-over K J e') z r in
     subst₂ (λ (z : Float) (σ : Bool). Between z σ G H K J) (sym (w .is)) (over-sign s t (w .sign) (num x * den y) (num y * den x) (w .size) (w .adds) (w .alike) (w .zero-sign) (o .0) (o .1))
     (round-between (w .sign) (w .size) (den x * den y) (dens (h .0) k) G H K J e e' (total-le (h .0) k G H l)
-    (left K J (den x * den y) (num x * den y) (num y * den x) (w .size) r (size-ge s t (w .sign) (num x * den y) (num y * den x) (w .size) (w .adds))))
+    (left K J (den x * den y) (num x * den y) (num y * den x) (w .size) r (sizes s t (w .sign) (num x * den y) (num y * den x) (w .size) (w .adds) .1)))
 
 -- ---- ⊖ is ⊕ of the negative
 pub sub-most : {x y : Float} {s t : Bool} {A C A' C' : ℕ} → Most x s A C → Most y t A' C' → (G H : ℕ) → T (exact G H) → T (leb ((A * C' + A' * C) * H) (G * (C * C'))) → Sized (x ⊖ y) G H
@@ -217,25 +208,18 @@ pub sub-unlike : {x y : Float} {s : Bool} {A C B E A' C' B' E' : ℕ} → Betwee
     → T (leb ((A * C' + A' * C) * H) (G * (C * C'))) → T (leb (K * (E * E')) ((B * E' + B' * E) * J)) → Between (x ⊖ y) s G H K J
 sub-unlike {x} {y} {s} {A' = A'} {C'} {B'} {E'} h k G H K J e e' l m =
     subst (λ (w : Float). Between w s G H K J) (sym (sub-is binary64 x y))
-    (add-alike h (subst (λ (b : Bool). Most (neg y) b A' C') (twice s) (neg-most (k .0)), neg-least (k .1)) G H K J e e' l m)
+    (add-alike h (subst (λ (b : Bool). Most (neg y) b A' C') (not-not s) (neg-most (k .0)), neg-least (k .1)) G H K J e e' l m)
   where
-    twice : (s : Bool) → not (not s) ≡ s
-    twice true = refl
-    twice false = refl
+    not-not : (s : Bool) → not (not s) ≡ s
+    not-not true = refl
+    not-not false = refl
 
--- ---- whole numbers up to 2 ^ 53, and quotients by them
-whole-within : (x : Float) (k A B : ℕ) → HasValue x false k 1 → k ≤ A → B ≤ k → Within x A 1 B 1
-whole-within nan k A B v h l = absurd v
-whole-within (inf s) k A B v h l = absurd v
-whole-within (fin s m e) k A B v h l = (
-  record { over = zero-lt-suc 0; fine = tt; sign = v .0; most = le-trans (le-of-eq (v .1)) (mul-le-mul-right (down e) h) },
-  record { over = zero-lt-suc 0; least = le-trans (mul-le-mul-right (down e) l) (le-of-eq (sym (v .1))) },
-)
+-- of one sign
+pub sub-alike : {x y : Float} {s : Bool} {A C B E A' C' B' E' : ℕ} → Between x s A C B E → Between y s A' C' B' E' → (G H : ℕ) → T (exact G H)
+    → T (leb (A * (H * E')) ((G * E' + B' * H) * C)) → T (leb (A' * (H * E)) ((G * E + B * H) * C')) → Sized (x ⊖ y) G H
+sub-alike {x} {y} h k G H e l m = subst (λ (w : Float). Sized w G H) (sym (sub-is binary64 x y)) (add-unlike h (neg-most (k .0), neg-least (k .1)) G H e l m)
 
-pub count-within : (k A B : ℕ) → k ≤ A → B ≤ k → k ≤ 2 ^ 53 → Within (count k) A 1 B 1
-unfolding ofInt
-count-within k A B h l m = whole-within (round binary64 false k 1) k A B (round-whole binary64 false k m) h l
-
+-- ---- quotients by whole numbers
 unlike-plus : (s : Bool) → unlike s false ≡ s
 unlike-plus true = refl
 unlike-plus false = refl
@@ -243,40 +227,3 @@ unlike-plus false = refl
 -- by a whole number k that is B at least
 pub div-count : {x : Float} {s : Bool} {A C : ℕ} → Most x s A C → (k B G H : ℕ) → B ≤ k → k ≤ 2 ^ 53 → T (ltb 0 B) → T (exact G H) → T (leb (A * 1 * H) (G * (C * B))) → Most (x ⊘ count k) s G H
 div-count {x} {s} h k B G H l m p e n = subst (λ (b : Bool). Most (x ⊘ count k) b G H) (unlike-plus s) (div-most h (count-within k k B (le-refl k) l m) G H p e n)
-
--- ---- ranges from what a program tests, and of closed floats
-positive-sign : (x : Float) → T (positive x) → negative x ≡ false
-positive-sign nan p = absurd p
-positive-sign (inf s) p = absurd p
-positive-sign (fin true m e) p = absurd p
-positive-sign (fin false m e) p = refl
-
-pub tested-within : (lo x hi : Float) → T (positive lo) → T (positive hi) → T (le lo x) → T (le x hi) → Within x (num hi) (den hi) (num lo) (den lo)
-tested-within lo x hi p q h k =
-    let r = between lo x hi p q h k in
-    let s = positive-sign x r in
-    (most-of-le x hi (num hi) (den hi) s (den-pos hi) (own-value hi q) k, least-of-le lo x (num lo) (den lo) s (positive-finite x r) (den-pos lo) (own-value lo p) h)
-
-pub tested-sized : (x hi : Float) → T (positive hi) → T (le (neg hi) x) → T (le x hi) → Sized x (num hi) (den hi)
-tested-sized x hi q h k =
-    let p = positive-finite hi q in
-    let n : T (finite (neg hi)) = rw (neg-finite hi) p in
-    let r = between-finite (neg hi) x hi n p h k in
-    let lo : Below true (num hi * den x) (negative x) (num x * den hi) =
-    rw (neg-num hi, neg-den hi) at (rw (neg-sign hi p, positive-sign hi q) at (le→below (neg hi) x n r h)) in
-    let up : Below (negative x) (num x * den hi) false (num hi * den x) = rw (positive-sign hi q) at (le→below x hi r p k) in
-    record { over = den-pos hi; fine = r; sign = refl; most = both (negative x) (num x * den hi) (num hi * den x) lo up }
-  where
-    both : (s : Bool) (a b : ℕ) → Below true b s a → Below s a false b → a ≤ b
-    both true a b h k = h
-    both false a b h k = k
-
-pub literal : (x : Float) (A C B E : ℕ) → T (finite x) → T (ltb 0 C) → T (ltb 0 E) → T (leb (num x * C) (A * den x)) → T (leb (B * den x) (num x * E)) → Between x (negative x) A C B E
-literal x A C B E p c e h k = (
-  record { over = ltb→lt 0 C c; fine = p; sign = refl; most = leb→le (num x * C) (A * den x) h },
-  record { over = ltb→lt 0 E e; least = leb→le (B * den x) (num x * E) k },
-)
-
--- a size is 0 at least
-pub least-zero : {x : Float} → Least x 0 1
-least-zero {x} = record { over = zero-lt-suc 0; least = le-trans (le-of-eq (zero-mul (den x))) zero-le }

@@ -1,24 +1,23 @@
 -- The value of a float as a fraction. The order of finite floats is that of their values. Assumes nothing.
 use mathlib.Core.Path.{_≡_, ap}
 use mathlib.Core.List.{[], _∷_}
-use Prim.Native.Nat.{ℕ, _+_, _*_, _^_, _≤_, _<_, zero-le}
+use Prim.Native.Nat.{ℕ, suc, _+_, _*_, _^_, _≤_, _<_, zero-le}
 use native.Mathlib.Nat.{le-trans, le-of-eq, mul-one, zero-mul, zero-lt-suc}
 use native.Mathlib.Bridge.{le-prop}
 use mathlib.Core.Bool.{Bool, true, false}
 use lib.Dec.{T}
-use lib.IntN.{pos}
+use lib.IntN.{ℤ, pos, negsuc, natAbs}
 use lib.Ieee.{Float, nan, inf, fin, binary64, up, down, le, lt, neg, ofInt}
-use lib.Ieee.Back.{round-whole}
 use lib.Ieee.Exact.{HasValue}
 use lib.Ieee.Fits.{down-pos}
 use lib.Ieee.Positive.{num, den, den-pos}
 use lib.Ieee.Scale.{finite}
 use Rattle.fraction.specs.Fraction.{Fraction, whole, nat, _+F_, negF, _-F_, _≈F_, _≤F_, _<F_, _within_}
 use Rattle.fraction.specs.Field.{≈F-refl, negF-cong, lt-not-le, lt-of-not-le}
-use Rattle.fraction.specs.Certificate.{quote, ring, le-by, up as gap, _⊞_}
+use Rattle.fraction.specs.Certificate.{quote, ring, le-by, up as gap, lo, _⊞_}
 use Rattle.fraction.specs.Within.{within-neg}
-use Rattle.binary64.specs.Operators.{negative, count}
-use Rattle.binary64.specs.Order.{Below, le→below, below→le, lt→not, not→lt, value-finite, value-sign, value-cross}
+use Rattle.binary64.specs.Operators.{negative}
+use Rattle.binary64.specs.Order.{Below, le→below, below→le, lt→not, not→lt, value-finite, value-sign, value-cross, below-zero, int-value}
 
 -- a / c
 abbrev pub ratio : (a c : ℕ) → 0 < c → Fraction
@@ -59,6 +58,10 @@ signed-cong true e = negF-cong e
 pub signed-within : (s : Bool) {q e : Fraction} → q within e → signed s q within e
 signed-within false h = h
 signed-within true h = within-neg h
+
+pub signed-size : (s : Bool) (q A : Fraction) → signed s q within A → q ≤F A
+signed-size false q A h = h .hi
+signed-size true q A h = le-by (q ∷ A ∷ []) 0 (lo h) (search quote depth 24) tt
 
 pub signed-sub : (s : Bool) (p q : Fraction) → signed s p -F signed s q ≈F signed s (p -F q)
 signed-sub false p q = ≈F-refl
@@ -114,13 +117,10 @@ val-neg (inf s) = ring [] (search quote depth 24) tt
 val-neg (fin false m e) = ≈F-refl
 val-neg (fin true m e) = ring (ratio (m * up e) (down e) (down-pos e) ∷ []) (search quote depth 24) tt
 
-count-value : (n : ℕ) → n ≤ 2 ^ 53 → HasValue (count n) false n 1
-unfolding ofInt
-count-value n h = round-whole binary64 false n h
+pub int-finite : (z : ℤ) → natAbs z ≤ 2 ^ 53 → T (finite (ofInt binary64 z))
+int-finite z h = value-finite (ofInt binary64 z) (below-zero z) (natAbs z) 1 (int-value z h)
 
-pub count-finite : (n : ℕ) → n ≤ 2 ^ 53 → T (finite (count n))
-count-finite n h = value-finite (count n) false n 1 (count-value n h)
-
-pub count-val : (n : ℕ) → n ≤ 2 ^ 53 → val (count n) ≈F nat n
-unfolding whole
-count-val n h = value-is (count n) false n 1 (zero-lt-suc 0) (count-value n h)
+pub int-val : (z : ℤ) → natAbs z ≤ 2 ^ 53 → val (ofInt binary64 z) ≈F whole z
+unfolding whole negF
+int-val (pos n) h = value-is (ofInt binary64 (pos n)) false n 1 (zero-lt-suc 0) (int-value (pos n) h)
+int-val (negsuc n) h = value-is (ofInt binary64 (negsuc n)) true (suc n) 1 (zero-lt-suc 0) (int-value (negsuc n) h)

@@ -5,3 +5,7 @@ pub mod SignLaws
 pub mod CountLaws
 pub mod BenchCells
 pub mod Literals
+pub mod ExpRange
+pub mod LnRange
+pub mod PowRange
+pub mod AsinhRange

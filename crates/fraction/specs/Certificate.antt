@@ -1,36 +1,53 @@
 -- One line for an identity or an inequality of fractions; specs/Lib.antt says how it is written.
-use mathlib.Core.Path.{_≡_, refl, ap, ap₂}
 use mathlib.Core.List.{List, [], _∷_}
-use mathlib.Core.Logic.{_⊎_, inl, inr}
-use Prim.Native.Nat.{ℕ, suc}
+use mathlib.Core.Logic.{inl, inr}
+use Prim.Native.Nat.{ℕ, _+_, _*_}
+use lib.Dec.{T, leb}
 use lib.IntN.{ℤ, pos, negsuc}
-use Rattle.fraction.specs.Ring.{Ex, con, _⊕_, _⊖_, _⊗_, ⊝, len, Vanish, norm}
-use Rattle.fraction.specs.Quote.{At, Quoted, Quoted₂, Quoted₃, Quoted₄, variable, variables, solved, Fits, fits, certified, Balances, balanced, multiple, both}
-use Rattle.fraction.specs.Fraction.{Fraction, whole, nat, _+F_, negF, _-F_, _*F_, _≈F_, _≤F_, _<F_, _within_}
-use Rattle.fraction.specs.Field.{Fring, Ford, ≤F-of-≈F, to-gap, nn-addF, nn-mulF, nn-natF, lt-not-le, le-or-lt, lt-of-not-le, le-of-lt}
+use Rattle.fraction.specs.Ring.{con, _⊕_, _⊖_, _⊗_, ⊝, len, Vanish, norm}
+use Rattle.fraction.specs.Quote.{At, Quoted, Quoted₂, Quoted₃, Quoted₄, variable, variables, solved, Fits, certified, Balances, balanced, multiple, both}
+use Rattle.fraction.specs.Fraction.{Fraction, whole, nat, _+F_, negF, _-F_, _*F_, _≈F_, _≤F_, _within_}
+use Rattle.fraction.specs.Field.{Fring, Ford, ≈F-refl, ≈F-sym, ≈F-trans, +F-cong, *F-cong, negF-cong, whole-+, whole-*, ≤F-of-≈F, to-gap, nn-addF, nn-mulF, nn-natF, le-or-lt, le-of-lt}
 
 -- ---- reading a fraction's expression back
--- (a whole number takes as many rules as a variable does, which stands before it: `nat n` with n open can be a variable)
-pub data Number (z : ℤ) : Type 0 where
-  number : Number z
+-- (a number that is written out, for which this test computes; any other is a variable, or a sum or product of such)
+abbrev pub Written : ℤ → Type 0
+Written (pos n) = T (leb n n)
+Written (negsuc n) = T (leb n n)
 
 module _ {ρ : List Fraction} where
   abbrev pub q-var : {x : Fraction} → At ρ x → Quoted Fring ρ x
   q-var a = variable {A = Fring} a
 
   abbrev pub q-add : {x y : Fraction} → Quoted Fring ρ x → Quoted Fring ρ y → Quoted Fring ρ (x +F y)
-  q-add p q = record { ex = p .ex ⊕ q .ex; is = ap₂ _+F_ (p .is) (q .is) }
+  q-add p q = record { ex = p .ex ⊕ q .ex; is = +F-cong (p .is) (q .is) }
 
   abbrev pub q-mul : {x y : Fraction} → Quoted Fring ρ x → Quoted Fring ρ y → Quoted Fring ρ (x *F y)
-  q-mul p q = record { ex = p .ex ⊗ q .ex; is = ap₂ _*F_ (p .is) (q .is) }
+  q-mul p q = record { ex = p .ex ⊗ q .ex; is = *F-cong (p .is) (q .is) }
 
   abbrev pub q-neg : {x : Fraction} → Quoted Fring ρ x → Quoted Fring ρ (negF x)
-  q-neg p = record { ex = ⊝ (p .ex); is = ap negF (p .is) }
+  q-neg p = record { ex = ⊝ (p .ex); is = negF-cong (p .is) }
 
-  abbrev pub q-whole : {z : ℤ} → Number z → Quoted Fring ρ (whole z)
-  q-whole {z} n = record { ex = con z; is = refl }
+  abbrev pub q-whole : (z : ℤ) → Written z → Quoted Fring ρ (whole z)
+  q-whole z t = record { ex = con z; is = ≈F-refl }
 
-pub ruleset quote = (q-var, variables, q-add, q-mul, q-neg, q-whole, number)
+  -- sums and products of natural numbers
+  abbrev pub q-nat-+ : (a b : ℕ) → Quoted Fring ρ (nat a) → Quoted Fring ρ (nat b) → Quoted Fring ρ (nat (a + b))
+  q-nat-+ a b p q = record { ex = p .ex ⊕ q .ex; is = ≈F-trans (+F-cong (p .is) (q .is)) (≈F-sym (whole-+ (pos a) (pos b))) }
+
+  abbrev pub q-nat-* : (a b : ℕ) → Quoted Fring ρ (nat a) → Quoted Fring ρ (nat b) → Quoted Fring ρ (nat (a * b))
+  q-nat-* a b p q = record { ex = p .ex ⊗ q .ex; is = ≈F-trans (*F-cong (p .is) (q .is)) (≈F-sym (whole-* (pos a) (pos b))) }
+
+  abbrev pub q₂ : {x y : Fraction} → Quoted Fring ρ x → Quoted Fring ρ y → Quoted₂ Fring ρ x y
+  q₂ p q = record { one = p; two = q }
+
+  abbrev pub q₃ : {x y z : Fraction} → Quoted Fring ρ x → Quoted Fring ρ y → Quoted Fring ρ z → Quoted₃ Fring ρ x y z
+  q₃ p q r = record { one = p; two = q; three = r }
+
+  abbrev pub q₄ : {x y z w : Fraction} → Quoted Fring ρ x → Quoted Fring ρ y → Quoted Fring ρ z → Quoted Fring ρ w → Quoted₄ Fring ρ x y z w
+  q₄ p q r s = record { one = p; two = q; three = r; four = s }
+
+pub ruleset quote = (q₂, q₃, q₄, q-var, variables, q-add, q-mul, q-neg, q-nat-+, q-nat-*, q-whole, tt)
 
 -- ---- an identity
 pub ring : (ρ : List Fraction) {x y : Fraction} (s : Quoted₂ Fring ρ x y) → Vanish (len ρ) (norm (len ρ) (s .one .ex ⊖ s .two .ex)) → x ≈F y
@@ -72,7 +89,7 @@ sq x = elim (le-or-lt (nat 0) x) [
 pub within-by : (ρ : List Fraction) (k : ℕ) {c d x b : Fraction} → nat 0 ≤F c → nat 0 ≤F d → (s : Quoted₄ Fring ρ c d x b)
     → Fits Fring (len ρ) k (s .one .ex) (s .three .ex) (s .four .ex) → Fits Fring (len ρ) k (s .two .ex) (⊝ (s .four .ex)) (s .three .ex) → x within b
 within-by ρ k h l s t u = record {
-  lo = le-by ρ k l (record { one = s .two; two = record { ex = ⊝ (s .four .ex); is = ap negF (s .four .is) }; three = s .three }) u;
+  lo = le-by ρ k l (record { one = s .two; two = record { ex = ⊝ (s .four .ex); is = negF-cong (s .four .is) }; three = s .three }) u;
   hi = le-by ρ k h (record { one = s .one; two = s .three; three = s .four }) t;
 }
 
@@ -90,8 +107,3 @@ eq-by ρ h s t = balanced Fring ρ h s t
 
 pub eqn : {c : Fraction} → nat 0 ≈F c → nat 0 ≤F c
 eqn h = ≤F-of-≈F h
-
--- ---- x < y: (k + 1) · (y − x) is above 0
-pub lt-by : (ρ : List Fraction) (k : ℕ) {c x y : Fraction} → nat 0 <F c → (s : Quoted₃ Fring ρ c x y) → Fits Fring (len ρ) k (s .one .ex) (s .two .ex) (s .three .ex) → x <F y
-lt-by ρ k {c} {x} {y} h s t = lt-of-not-le (λ (l : y ≤F x). lt-not-le h
-    (le-by (c ∷ x ∷ y ∷ nat (suc k) ∷ []) 0 (num (suc k) ⊠ up l ⊞ eqn (nat 1 · fits Fring ρ k s t)) (search quote depth 24) tt))

@@ -1,10 +1,10 @@
 -- The lesser, the greater and the clamp: they are bounds and the best ones, keep the order, and never widen a distance.
 use mathlib.Core.Bool.{Bool, true, false, not, cond}
-use mathlib.Core.List.{List, [], _∷_}
+use mathlib.Core.List.{[], _∷_}
 use lib.Dec.{T}
 use lib.IntN.{_*ℤ_}
 use Rattle.fraction.specs.Integer.{leℤ-true, leℤ-false}
-use Rattle.fraction.specs.Fraction.{Fraction, below, nat, _+F_, negF, _-F_, _≤?_, minF, maxF, clampF, _≈F_, _≤F_, _<F_, _within_, _from_to_}
+use Rattle.fraction.specs.Fraction.{Fraction, below, nat, _+F_, _-F_, _≤?_, minF, maxF, clampF, _≈F_, _≤F_, _within_, _from_to_}
 use Rattle.fraction.specs.Field.{≤F-trans, le-of-lt}
 use Rattle.fraction.specs.Order.{≤F-refl, ≤F-antisym}
 use Rattle.fraction.specs.Within.{within-nn, apart}

@@ -1,12 +1,11 @@
 -- The fractions are an ordered commutative ring, each law by cross products over the whole numbers.
-use mathlib.Core.Path.{_≡_, refl, sym}
+use mathlib.Core.Path.{refl, sym}
 use mathlib.Core.List.{List, [], _∷_}
 use mathlib.Core.Logic.{_⊎_, inl, inr}
-use Prim.Native.Nat.{ℕ, zero, suc, _+_, _*_, _<_, _≤_}
+use Prim.Native.Nat.{ℕ, suc}
 use native.Mathlib.Nat.{zero-lt-suc}
-use native.Mathlib.Omega.{arith}
-use lib.IntN.{ℤ, pos, negsuc, _+ℤ_, _*ℤ_, negℤ}
-use Rattle.fraction.specs.Integer.{_≤ℤ_, ≤ℤ-cancel, nn-div, <ℤ-not, ≤ℤ-or, <ℤ-≤ℤ}
+use lib.IntN.{ℤ, pos, _+ℤ_, _*ℤ_, negℤ}
+use Rattle.fraction.specs.Integer.{≤ℤ-cancel, nn-div, <ℤ-not, ≤ℤ-or, <ℤ-≤ℤ}
 use Rattle.fraction.specs.Ring.{CRing}
 use Rattle.fraction.specs.Quote.{Ordered}
 use Rattle.fraction.specs.IntegerRing.{zquote, zring, zle-by, Nonneg, up, natural, _⊞_, _⊠_, zeq-by, _·_, _&_, zcancel, ≤ℤ-of-≡}
@@ -89,6 +88,10 @@ whole-* a b = record { cross = refl }
 pub whole-neg : (a : ℤ) → whole (negℤ a) ≈F negF (whole a)
 unfolding negF whole
 whole-neg a = record { cross = refl }
+
+pub mul-bottom : (x : Fraction) → x *F nat (x .bottom) ≈F whole (x .top)
+unfolding _*F_ whole
+mul-bottom x = record { cross = zring (parts x []) (search zquote depth 24) tt }
 
 abbrev pub Fring : CRing
 Fring = record {
@@ -177,6 +180,10 @@ le-or-lt x y = elim (≤ℤ-or (x .top *ℤ below y) (y .top *ℤ below x)) [ in
 
 pub lt-of-not-le : {x y : Fraction} → (y ≤F x → ⊥) → x <F y
 lt-of-not-le {x} {y} n = elim (le-or-lt y x) [ inl h ↦ absurd (n h) | inr h ↦ h ]
+
+-- x < y, if y ≤ x would undo another z < w
+pub lt-from : {x y z w : Fraction} → z <F w → (y ≤F x → w ≤F z) → x <F y
+lt-from h f = lt-of-not-le (λ l. lt-not-le h (f l))
 
 pub le-of-lt : {x y : Fraction} → x <F y → x ≤F y
 le-of-lt {x} {y} h = record { cross = <ℤ-≤ℤ (x .top *ℤ below y) (y .top *ℤ below x) (h .cross) }

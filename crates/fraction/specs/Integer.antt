@@ -72,37 +72,37 @@ sub-ind a b P f g = cond-ind (ltb a b) (negsuc (b - suc a)) (pos (a - b)) P
     (λ t. let h : b ≤ a = nltb→le a b t in g (a - b) (omega arith))
 
 -- a − b, shut
-pub diff : ℕ → ℕ → ℤ
+diff : ℕ → ℕ → ℤ
 diff a b = subℕ a b
 
 -- both numbers vary with the case
-pub diff-view : (Q : ℕ → ℕ → ℤ → Type 0) → ((b k : ℕ) → Q (b + k) b (pos k)) → ((a k : ℕ) → Q a (a + suc k) (negsuc k)) → (a b : ℕ) → Q a b (diff a b)
+diff-view : (Q : ℕ → ℕ → ℤ → Type 0) → ((b k : ℕ) → Q (b + k) b (pos k)) → ((a k : ℕ) → Q a (a + suc k) (negsuc k)) → (a b : ℕ) → Q a b (diff a b)
 unfolding diff
 diff-view Q f g a b = sub-ind a b (Q a b)
     (λ k e. subst (λ (n : ℕ). Q a n (negsuc k)) (sym e) (g a k))
     (λ k e. subst (λ (n : ℕ). Q n b (pos k)) (sym e) (f b k))
 
-pub pos-is : (k a b : ℕ) → a ≡ b + k → pos k ≡ diff a b
+pos-is : (k a b : ℕ) → a ≡ b + k → pos k ≡ diff a b
 unfolding diff
 pos-is k a b h = sub-ind a b (λ z. pos k ≡ z) (λ l e. absurd (omega arith)) (λ l e. ap pos (omega arith))
 
-pub negsuc-is : (k a b : ℕ) → b ≡ a + suc k → negsuc k ≡ diff a b
+negsuc-is : (k a b : ℕ) → b ≡ a + suc k → negsuc k ≡ diff a b
 unfolding diff
 negsuc-is k a b h = sub-ind a b (λ z. negsuc k ≡ z) (λ l e. ap negsuc (omega arith)) (λ l e. absurd (omega arith))
 
-pub negpos-is : (m a b : ℕ) → b ≡ a + m → negℤ (pos m) ≡ diff a b
+negpos-is : (m a b : ℕ) → b ≡ a + m → negℤ (pos m) ≡ diff a b
 negpos-is zero a b h = pos-is 0 a b (omega arith)
 negpos-is (suc m) a b h = negsuc-is m a b h
 
 -- two differences are equal where the cross sums are
-pub diff-eq : (a b c d : ℕ) → a + d ≡ c + b → diff a b ≡ diff c d
+diff-eq : (a b c d : ℕ) → a + d ≡ c + b → diff a b ≡ diff c d
 diff-eq = diff-view (λ a b z. (c d : ℕ) → a + d ≡ c + b → z ≡ diff c d)
     (λ b k c d h. pos-is k c d (omega arith)) (λ a k c d h. negsuc-is k c d (omega arith))
 
-pub neg-diff : (a b : ℕ) → negℤ (diff a b) ≡ diff b a
+neg-diff : (a b : ℕ) → negℤ (diff a b) ≡ diff b a
 neg-diff = diff-view (λ a b z. negℤ z ≡ diff b a) (λ b k. negpos-is k b (b + k) refl) (λ a k. pos-is (suc k) (a + suc k) a refl)
 
-pub add-diff : (a b c d : ℕ) → diff a b +ℤ diff c d ≡ diff (a + c) (b + d)
+add-diff : (a b c d : ℕ) → diff a b +ℤ diff c d ≡ diff (a + c) (b + d)
 unfolding diff
 add-diff = diff-view (λ a b z. (c d : ℕ) → z +ℤ diff c d ≡ diff (a + c) (b + d))
     (λ b k. diff-view (λ c d w. pos k +ℤ w ≡ diff ((b + k) + c) (b + d))
@@ -112,7 +112,7 @@ add-diff = diff-view (λ a b z. (c d : ℕ) → z +ℤ diff c d ≡ diff (a + c)
     (λ d l. diff-eq l (suc k) (a + (d + l)) ((a + suc k) + d) (omega arith))
     (λ c l. negsuc-is (suc (k + l)) (a + c) ((a + suc k) + (c + suc l)) (omega arith)))
 
-pub mul-diff : (a b c d : ℕ) → diff a b *ℤ diff c d ≡ diff (a * c + b * d) (a * d + b * c)
+mul-diff : (a b c d : ℕ) → diff a b *ℤ diff c d ≡ diff (a * c + b * d) (a * d + b * c)
 mul-diff = diff-view (λ a b z. (c d : ℕ) → z *ℤ diff c d ≡ diff (a * c + b * d) (a * d + b * c))
     (λ b k. diff-view (λ c d w. pos k *ℤ w ≡ diff ((b + k) * c + b * d) ((b + k) * d + b * c))
     (λ d l. pos-is (k * l) ((b + k) * (d + l) + b * d) ((b + k) * d + b * (d + l)) (omega arith))
@@ -122,24 +122,24 @@ mul-diff = diff-view (λ a b z. (c d : ℕ) → z *ℤ diff c d ≡ diff (a * c 
     (λ c l. pos-is (suc k * suc l) (a * c + (a + suc k) * (c + suc l)) (a * (c + suc l) + (a + suc k) * c) (omega arith)))
 
 -- every integer is a difference
-pub by-diff : (P : ℤ → Type 0) → ((a b : ℕ) → P (diff a b)) → (z : ℤ) → P z
+by-diff : (P : ℤ → Type 0) → ((a b : ℕ) → P (diff a b)) → (z : ℤ) → P z
 by-diff P f (pos n) = subst P (sym (pos-is n n 0 (omega arith))) (f n 0)
 by-diff P f (negsuc n) = subst P (sym (negsuc-is n 0 (suc n) (omega arith))) (f 0 (suc n))
 
+by-diff₂ : (P : ℤ → ℤ → Type 0) → ((a b c d : ℕ) → P (diff a b) (diff c d)) → (x y : ℤ) → P x y
+by-diff₂ P f x y = by-diff (λ x. P x y) (λ a b. by-diff (λ y. P (diff a b) y) (λ c d. f a b c d) y) x
+
+by-diff₃ : (P : ℤ → ℤ → ℤ → Type 0) → ((a b c d e f : ℕ) → P (diff a b) (diff c d) (diff e f)) → (x y z : ℤ) → P x y z
+by-diff₃ P f x y z = by-diff₂ (λ x y. P x y z) (λ a b c d. by-diff (λ z. P (diff a b) (diff c d) z) (λ e g. f a b c d e g) z) x y
+
 pub *ℤ-assoc : (x y z : ℤ) → (x *ℤ y) *ℤ z ≡ x *ℤ (y *ℤ z)
-*ℤ-assoc x y z = by-diff (λ x. (x *ℤ y) *ℤ z ≡ x *ℤ (y *ℤ z))
-    (λ a b. by-diff (λ y. (diff a b *ℤ y) *ℤ z ≡ diff a b *ℤ (y *ℤ z))
-    (λ c d. by-diff (λ z. (diff a b *ℤ diff c d) *ℤ z ≡ diff a b *ℤ (diff c d *ℤ z))
-    (λ e f. simp mul-diff (diff-eq _ _ _ _ (omega arith))) z) y) x
+*ℤ-assoc = by-diff₃ (λ x y z. (x *ℤ y) *ℤ z ≡ x *ℤ (y *ℤ z)) (λ a b c d e f. simp mul-diff (diff-eq _ _ _ _ (omega arith)))
 
 pub *ℤ-+ℤ : (x y z : ℤ) → x *ℤ (y +ℤ z) ≡ x *ℤ y +ℤ x *ℤ z
-*ℤ-+ℤ x y z = by-diff (λ x. x *ℤ (y +ℤ z) ≡ x *ℤ y +ℤ x *ℤ z)
-    (λ a b. by-diff (λ y. diff a b *ℤ (y +ℤ z) ≡ diff a b *ℤ y +ℤ diff a b *ℤ z)
-    (λ c d. by-diff (λ z. diff a b *ℤ (diff c d +ℤ z) ≡ diff a b *ℤ diff c d +ℤ diff a b *ℤ z)
-    (λ e f. simp (mul-diff, add-diff) (diff-eq _ _ _ _ (omega arith))) z) y) x
+*ℤ-+ℤ = by-diff₃ (λ x y z. x *ℤ (y +ℤ z) ≡ x *ℤ y +ℤ x *ℤ z) (λ a b c d e f. simp (mul-diff, add-diff) (diff-eq _ _ _ _ (omega arith)))
 
 -- ---- laws of the order
-pub ≤-diff : (a b c d : ℕ) → a + d ≤ c + b → diff a b ≤ℤ diff c d
+≤-diff : (a b c d : ℕ) → a + d ≤ c + b → diff a b ≤ℤ diff c d
 ≤-diff = diff-view (λ a b z. (c d : ℕ) → a + d ≤ c + b → z ≤ℤ diff c d)
     (λ b k. diff-view (λ c d w. (b + k) + d ≤ c + b → pos k ≤ℤ w)
     (λ d l h. omega arith)
@@ -148,7 +148,7 @@ pub ≤-diff : (a b c d : ℕ) → a + d ≤ c + b → diff a b ≤ℤ diff c d
     (λ d l h. tt)
     (λ c l h. omega arith))
 
-pub diff-≤ : (a b c d : ℕ) → diff a b ≤ℤ diff c d → a + d ≤ c + b
+diff-≤ : (a b c d : ℕ) → diff a b ≤ℤ diff c d → a + d ≤ c + b
 diff-≤ = diff-view (λ a b z. (c d : ℕ) → z ≤ℤ diff c d → a + d ≤ c + b)
     (λ b k. diff-view (λ c d w. pos k ≤ℤ w → (b + k) + d ≤ c + b)
     (λ d l h. omega arith)
@@ -156,12 +156,6 @@ diff-≤ = diff-view (λ a b z. (c d : ℕ) → z ≤ℤ diff c d → a + d ≤ 
     (λ a k. diff-view (λ c d w. negsuc k ≤ℤ w → a + d ≤ c + (a + suc k))
     (λ d l h. omega arith)
     (λ c l h. omega arith))
-
-pub by-diff₂ : (P : ℤ → ℤ → Type 0) → ((a b c d : ℕ) → P (diff a b) (diff c d)) → (x y : ℤ) → P x y
-by-diff₂ P f x y = by-diff (λ x. P x y) (λ a b. by-diff (λ y. P (diff a b) y) (λ c d. f a b c d) y) x
-
-pub by-diff₃ : (P : ℤ → ℤ → ℤ → Type 0) → ((a b c d e f : ℕ) → P (diff a b) (diff c d) (diff e f)) → (x y z : ℤ) → P x y z
-by-diff₃ P f x y z = by-diff₂ (λ x y. P x y z) (λ a b c d. by-diff (λ z. P (diff a b) (diff c d) z) (λ e g. f a b c d e g) z) x y
 
 pub ≤ℤ-refl : (x : ℤ) → x ≤ℤ x
 ≤ℤ-refl (pos n) = le-refl n

@@ -1,21 +1,21 @@
 -- The inverse and the quotient.
 use mathlib.Core.Path.{_≡_, refl, sym, ap}
-use mathlib.Core.List.{List, [], _∷_}
+use mathlib.Core.List.{[], _∷_}
 use mathlib.Core.Logic.{inl, inr}
-use Prim.Native.Nat.{ℕ, zero, suc, _*_, _<_}
+use Prim.Native.Nat.{ℕ, zero, suc, _<_}
 use native.Mathlib.Omega.{arith}
 use lib.IntN.{ℤ, pos, negsuc, _*ℤ_, negℤ, negℤ-negℤ}
 use Rattle.fraction.specs.Integer.{_<ℤ_, ≤ℤ-or}
 use Rattle.fraction.specs.IntegerRing.{zquote, zle-by}
 use Rattle.fraction.specs.IntegerRing as Z
 use Rattle.fraction.specs.Fraction.{Fraction, below, whole, nat, _+F_, negF, _-F_, _*F_, _/F_, inv, turned, _≈F_, _≤F_, _<F_, _within_}
-use Rattle.fraction.specs.Field.{≈F-refl, ≤F-of-≈F, ≤F-trans, lt-not-le, lt-of-not-le, le-of-lt}
-use Rattle.fraction.specs.Order.{lt-le-trans, nat-lt}
+use Rattle.fraction.specs.Field.{≤F-of-≈F, lt-not-le, lt-from, le-of-lt}
+use Rattle.fraction.specs.Order.{lt-le-trans, pos-of-one}
 use Rattle.fraction.specs.Within.{within-resp, within-add, within-mul, within-neg}
-use Rattle.fraction.specs.Certificate.{quote, ring, le-by, lt-by, within-by, eq-by, up, hi, lo, num, sq, eqn, _⊞_, _⊠_, _·_, _&_}
+use Rattle.fraction.specs.Certificate.{quote, le-by, eq-by, up, eqn, _⊞_, _⊠_, _·_, _&_}
 
 -- above 0: so is the number above
-pub top-pos : {x : Fraction} → nat 0 <F x → pos 0 <ℤ x .top
+top-pos : {x : Fraction} → nat 0 <F x → pos 0 <ℤ x .top
 unfolding whole
 top-pos {x} h = elim (≤ℤ-or (x .top) (pos 0)) [
   | inl k ↦ absurd (lt-not-le h (record { cross = zle-by (x .top ∷ below x ∷ []) (Z.up (x .top) (pos 0) k) (x .top *ℤ pos 1) (pos 0 *ℤ below x) (search zquote depth 24) tt }))
@@ -44,7 +44,7 @@ unfolding inv negF
 inv-neg x = turned-neg (x .top) (x .bottom) (x .above)
 
 pub inv-pos : {x : Fraction} → nat 0 <F x → nat 0 <F inv x
-inv-pos {x} h = lt-of-not-le (λ (l : inv x ≤F nat 0). lt-not-le (nat-lt 0 1 (omega arith)) (le-by (x ∷ inv x ∷ []) 0 (le-of-lt h ⊠ up l ⊞ eqn (negF (nat 1) · mul-inv h)) (search quote depth 24) tt))
+inv-pos {x} h = pos-of-one (inv x) x (le-by (x ∷ inv x ∷ []) 0 (eqn (negF (nat 1) · mul-inv h)) (search quote depth 24) tt) (le-of-lt h)
 
 pub inv-nn : {x : Fraction} → nat 0 <F x → nat 0 ≤F inv x
 inv-nn h = le-of-lt (inv-pos h)
@@ -54,7 +54,7 @@ pub mul-cancel : (x y : Fraction) {c : Fraction} → nat 0 <F c → x *F c ≤F 
 mul-cancel x y {c} p h = le-by (x ∷ y ∷ c ∷ inv c ∷ []) 0 (up h ⊠ inv-nn p ⊞ eqn ((y -F x) · mul-inv p)) (search quote depth 24) tt
 
 pub mul-pos : {x y : Fraction} → nat 0 <F x → nat 0 <F y → nat 0 <F x *F y
-mul-pos {x} {y} p q = lt-of-not-le (λ (l : x *F y ≤F nat 0). lt-not-le q (le-by (x ∷ y ∷ inv x ∷ []) 0 (up l ⊠ inv-nn p ⊞ eqn (negF y · mul-inv p)) (search quote depth 24) tt))
+mul-pos {x} {y} p q = lt-from q (λ (l : x *F y ≤F nat 0). le-by (x ∷ y ∷ inv x ∷ []) 0 (up l ⊠ inv-nn p ⊞ eqn (negF y · mul-inv p)) (search quote depth 24) tt)
 
 pub inv-cong : {x y : Fraction} → nat 0 <F x → x ≈F y → inv x ≈F inv y
 inv-cong {x} {y} p e =

@@ -1,7 +1,7 @@
 -- Weighted means, written as moves from x: x + w·(y − x) has the weights 1 − w and w, x + v·(y − x) + w·(z − x) has 1 − v − w, v and w.
 -- Where no weight is below 0 a mean keeps bounds, order and distances.
-use mathlib.Core.List.{List, [], _∷_}
-use Rattle.fraction.specs.Fraction.{Fraction, nat, _+F_, negF, _-F_, _*F_, _≤F_, _within_, _from_to_}
+use mathlib.Core.List.{[], _∷_}
+use Rattle.fraction.specs.Fraction.{Fraction, nat, _+F_, _-F_, _*F_, _≤F_, _within_, _from_to_}
 use Rattle.fraction.specs.Certificate.{quote, le-by, within-by, up, hi, lo, _⊞_, _⊠_}
 
 abbrev pub mean₂ : (w x y : Fraction) → Fraction

@@ -1,16 +1,16 @@
 -- Laws of the order: ≤ and <, sums, products, natural numbers, powers of 2, closed fractions.
-use mathlib.Core.Path.{_≡_, refl, ap}
-use mathlib.Core.List.{List, [], _∷_}
+use mathlib.Core.Path.{_≡_, ap}
+use mathlib.Core.List.{[], _∷_}
 use mathlib.Core.Bool.{not}
-use Prim.Native.Nat.{ℕ, zero, suc, _+_, _*_, _^_, _<_, _≤_}
+use Prim.Native.Nat.{ℕ, suc, _+_, _*_, _^_, _<_, _≤_}
 use native.Mathlib.Omega.{arith}
 use lib.Dec.{T}
 use lib.Pow.{pow-add, pow-pos, pow-mono}
-use lib.IntN.{ℤ, pos, _+ℤ_, _*ℤ_}
+use lib.IntN.{pos, _*ℤ_}
 use Rattle.fraction.specs.Integer.{≤ℤ-antisym, leℤ, leℤ-true, leℤ-false}
-use Rattle.fraction.specs.Fraction.{Fraction, below, whole, nat, pow2, _+F_, negF, _-F_, _*F_, _≈F_, _≤F_, _<F_}
-use Rattle.fraction.specs.Field.{≈F-refl, ≈F-sym, ≤F-of-≈F, ≤F-trans, whole-+, whole-*, lt-not-le, lt-of-not-le, le-of-lt}
-use Rattle.fraction.specs.Certificate.{quote, ring, le-by, lt-by, within-by, eq-by, up, hi, lo, num, sq, eqn, _⊞_, _⊠_, _·_, _&_}
+use Rattle.fraction.specs.Fraction.{Fraction, below, whole, nat, pow2, _+F_, negF, _*F_, _≈F_, _≤F_, _<F_}
+use Rattle.fraction.specs.Field.{≈F-refl, ≈F-sym, ≤F-of-≈F, ≤F-trans, whole-+, whole-*, lt-from}
+use Rattle.fraction.specs.Certificate.{quote, le-by, up, _⊞_, _⊠_}
 
 -- ---- ≤
 pub ≤F-refl : {x : Fraction} → x ≤F x
@@ -34,13 +34,13 @@ mul-mono {x} {y} {z} {w} p h q k = le-by (x ∷ y ∷ z ∷ w ∷ []) 0 (up h �
 
 -- ---- <
 pub lt-le-trans : {x y z : Fraction} → x <F y → y ≤F z → x <F z
-lt-le-trans h k = lt-of-not-le (λ l. lt-not-le h (≤F-trans k l))
+lt-le-trans h k = lt-from h (λ l. ≤F-trans k l)
 
 pub le-lt-trans : {x y z : Fraction} → x ≤F y → y <F z → x <F z
-le-lt-trans h k = lt-of-not-le (λ l. lt-not-le k (≤F-trans l h))
+le-lt-trans h k = lt-from k (λ l. ≤F-trans l h)
 
 pub add-lt : {x y z w : Fraction} → x <F y → z ≤F w → x +F z <F y +F w
-add-lt {x} {y} {z} {w} h k = lt-of-not-le (λ (l : y +F w ≤F x +F z). lt-not-le h (le-by (x ∷ y ∷ z ∷ w ∷ []) 0 (up k ⊞ up l) (search quote depth 24) tt))
+add-lt {x} {y} {z} {w} h k = lt-from h (λ (l : y +F w ≤F x +F z). le-by (x ∷ y ∷ z ∷ w ∷ []) 0 (up k ⊞ up l) (search quote depth 24) tt)
 
 -- ---- natural numbers
 pub nat-le : (a b : ℕ) → a ≤ b → nat a ≤F nat b
@@ -53,7 +53,7 @@ nat-lt a b h = record { cross = omega arith }
 
 -- what a factor at least 0 brings to 1 is above 0
 pub pos-of-one : (x p : Fraction) → nat 1 ≤F x *F p → nat 0 ≤F p → nat 0 <F x
-pos-of-one x p h n = lt-of-not-le (λ (l : x ≤F nat 0). lt-not-le (nat-lt 0 1 (omega arith)) (le-by (x ∷ p ∷ []) 0 (up h ⊞ up l ⊠ n) (search quote depth 24) tt))
+pos-of-one x p h n = lt-from (nat-lt 0 1 (omega arith)) (λ (l : x ≤F nat 0). le-by (x ∷ p ∷ []) 0 (up h ⊞ up l ⊠ n) (search quote depth 24) tt)
 
 pub nat-+ : (a b : ℕ) → nat (a + b) ≈F nat a +F nat b
 nat-+ a b = whole-+ (pos a) (pos b)
@@ -81,3 +81,6 @@ lit≤F {x} {y} t = record { cross = leℤ-true (x .top *ℤ below y) (y .top *�
 
 pub lit<F : {x y : Fraction} → T (not (leℤ (y .top *ℤ below x) (x .top *ℤ below y))) → x <F y
 lit<F {x} {y} t = record { cross = leℤ-false (y .top *ℤ below x) (x .top *ℤ below y) t }
+
+pub lit≈F : {x y : Fraction} → x .top *ℤ below y ≡ y .top *ℤ below x → x ≈F y
+lit≈F e = record { cross = e }

@@ -1,10 +1,10 @@
 -- Reading a term of a ring back as a polynomial in named terms ("variables"): `search` finds the polynomial, so that a proof does not write it.
 -- Then an equation is shown by the solver, and x ≤ y by a certificate: a term c, shown to be at least 0, that is a multiple of y − x.
-use mathlib.Core.Path.{_≡_, refl, ap, ap₂, subst₂}
+use mathlib.Core.Path.{_≡_, refl, subst}
 use mathlib.Core.List.{List, [], _∷_}
 use Prim.Native.Nat.{ℕ, suc}
-use lib.IntN.{ℤ, pos}
-use Rattle.fraction.specs.Ring.{CRing, Ex, var, con, _⊕_, _⊖_, _⊗_, ⊝, len, nth, den, Vanish, norm, solve}
+use lib.IntN.{pos}
+use Rattle.fraction.specs.Ring.{CRing, Ex, var, con, _⊕_, _⊖_, _⊗_, len, nth, den, Vanish, norm, solve}
 
 pub record Ordered (A : CRing) : Type 1 where
   pub le : A .R → A .R → Type 0
@@ -16,7 +16,7 @@ pub record Ordered (A : CRing) : Type 1 where
 -- x is the polynomial ex in the variables ρ
 pub record Quoted (A : CRing) (ρ : List (A .R)) (x : A .R) : Type 0 where
   pub ex : Ex
-  pub is : den A ρ ex ≡ x
+  pub is : A .eq (den A ρ ex) x
 
 -- two, three and four terms
 pub record Quoted₂ (A : CRing) (ρ : List (A .R)) (x y : A .R) : Type 0 where
@@ -40,96 +40,74 @@ pub record At {R : Type 0} (ρ : List R) (x : R) : Type 0 where
   pub is : (z : R) → nth z ρ place ≡ x
 
 abbrev pub variable : {A : CRing} {ρ : List (A .R)} {x : A .R} → At ρ x → Quoted A ρ x
-variable {A} a = record { ex = var (a .place); is = a .is (A .of (pos 0)) }
+variable {A} {ρ} a = record { ex = var (a .place); is = subst (λ (y : A .R). A .eq (nth (A .of (pos 0)) ρ (a .place)) y) (a .is (A .of (pos 0))) (A .rfl) }
 
-abbrev pub at0 : {R : Type 0} {x0 : R} {ρ : List R} → At (x0 ∷ ρ) x0
-at0 = record { place = 0; is = λ z. refl }
+module _ {R : Type 0} {x : R} {ρ : List R} where
+  abbrev pub at0 : At (x ∷ ρ) x
+  at0 = record { place = 0; is = λ z. refl }
 
-abbrev pub at1 : {R : Type 0} {x0 x1 : R} {ρ : List R} → At (x0 ∷ x1 ∷ ρ) x1
-at1 = record { place = 1; is = λ z. refl }
+  abbrev pub at1 : {a : R} → At (a ∷ x ∷ ρ) x
+  at1 = record { place = 1; is = λ z. refl }
 
-abbrev pub at2 : {R : Type 0} {x0 x1 x2 : R} {ρ : List R} → At (x0 ∷ x1 ∷ x2 ∷ ρ) x2
-at2 = record { place = 2; is = λ z. refl }
+  abbrev pub at2 : {a b : R} → At (a ∷ b ∷ x ∷ ρ) x
+  at2 = record { place = 2; is = λ z. refl }
 
-abbrev pub at3 : {R : Type 0} {x0 x1 x2 x3 : R} {ρ : List R} → At (x0 ∷ x1 ∷ x2 ∷ x3 ∷ ρ) x3
-at3 = record { place = 3; is = λ z. refl }
+  abbrev pub at3 : {a b c : R} → At (a ∷ b ∷ c ∷ x ∷ ρ) x
+  at3 = record { place = 3; is = λ z. refl }
 
-abbrev pub at4 : {R : Type 0} {x0 x1 x2 x3 x4 : R} {ρ : List R} → At (x0 ∷ x1 ∷ x2 ∷ x3 ∷ x4 ∷ ρ) x4
-at4 = record { place = 4; is = λ z. refl }
+  abbrev pub at4 : {a b c d : R} → At (a ∷ b ∷ c ∷ d ∷ x ∷ ρ) x
+  at4 = record { place = 4; is = λ z. refl }
 
-abbrev pub at5 : {R : Type 0} {x0 x1 x2 x3 x4 x5 : R} {ρ : List R} → At (x0 ∷ x1 ∷ x2 ∷ x3 ∷ x4 ∷ x5 ∷ ρ) x5
-at5 = record { place = 5; is = λ z. refl }
+  abbrev pub at5 : {a b c d e : R} → At (a ∷ b ∷ c ∷ d ∷ e ∷ x ∷ ρ) x
+  at5 = record { place = 5; is = λ z. refl }
 
-abbrev pub at6 : {R : Type 0} {x0 x1 x2 x3 x4 x5 x6 : R} {ρ : List R} → At (x0 ∷ x1 ∷ x2 ∷ x3 ∷ x4 ∷ x5 ∷ x6 ∷ ρ) x6
-at6 = record { place = 6; is = λ z. refl }
+  abbrev pub at6 : {a b c d e f : R} → At (a ∷ b ∷ c ∷ d ∷ e ∷ f ∷ x ∷ ρ) x
+  at6 = record { place = 6; is = λ z. refl }
 
-abbrev pub at7 : {R : Type 0} {x0 x1 x2 x3 x4 x5 x6 x7 : R} {ρ : List R} → At (x0 ∷ x1 ∷ x2 ∷ x3 ∷ x4 ∷ x5 ∷ x6 ∷ x7 ∷ ρ) x7
-at7 = record { place = 7; is = λ z. refl }
+  abbrev pub at7 : {a b c d e f g : R} → At (a ∷ b ∷ c ∷ d ∷ e ∷ f ∷ g ∷ x ∷ ρ) x
+  at7 = record { place = 7; is = λ z. refl }
 
-abbrev pub at8 : {R : Type 0} {x0 x1 x2 x3 x4 x5 x6 x7 x8 : R} {ρ : List R} → At (x0 ∷ x1 ∷ x2 ∷ x3 ∷ x4 ∷ x5 ∷ x6 ∷ x7 ∷ x8 ∷ ρ) x8
-at8 = record { place = 8; is = λ z. refl }
+  abbrev pub at8 : {a b c d e f g h : R} → At (a ∷ b ∷ c ∷ d ∷ e ∷ f ∷ g ∷ h ∷ x ∷ ρ) x
+  at8 = record { place = 8; is = λ z. refl }
 
-abbrev pub at9 : {R : Type 0} {x0 x1 x2 x3 x4 x5 x6 x7 x8 x9 : R} {ρ : List R} → At (x0 ∷ x1 ∷ x2 ∷ x3 ∷ x4 ∷ x5 ∷ x6 ∷ x7 ∷ x8 ∷ x9 ∷ ρ) x9
-at9 = record { place = 9; is = λ z. refl }
+  abbrev pub at9 : {a b c d e f g h i : R} → At (a ∷ b ∷ c ∷ d ∷ e ∷ f ∷ g ∷ h ∷ i ∷ x ∷ ρ) x
+  at9 = record { place = 9; is = λ z. refl }
 
-abbrev pub at10 : {R : Type 0} {x0 x1 x2 x3 x4 x5 x6 x7 x8 x9 x10 : R} {ρ : List R} → At (x0 ∷ x1 ∷ x2 ∷ x3 ∷ x4 ∷ x5 ∷ x6 ∷ x7 ∷ x8 ∷ x9 ∷ x10 ∷ ρ) x10
-at10 = record { place = 10; is = λ z. refl }
+  abbrev pub at10 : {a b c d e f g h i j : R} → At (a ∷ b ∷ c ∷ d ∷ e ∷ f ∷ g ∷ h ∷ i ∷ j ∷ x ∷ ρ) x
+  at10 = record { place = 10; is = λ z. refl }
 
-abbrev pub at11 : {R : Type 0} {x0 x1 x2 x3 x4 x5 x6 x7 x8 x9 x10 x11 : R} {ρ : List R} → At (x0 ∷ x1 ∷ x2 ∷ x3 ∷ x4 ∷ x5 ∷ x6 ∷ x7 ∷ x8 ∷ x9 ∷ x10 ∷ x11 ∷ ρ) x11
-at11 = record { place = 11; is = λ z. refl }
+  abbrev pub at11 : {a b c d e f g h i j k : R} → At (a ∷ b ∷ c ∷ d ∷ e ∷ f ∷ g ∷ h ∷ i ∷ j ∷ k ∷ x ∷ ρ) x
+  at11 = record { place = 11; is = λ z. refl }
 
-abbrev pub at12 : {R : Type 0} {x0 x1 x2 x3 x4 x5 x6 x7 x8 x9 x10 x11 x12 : R} {ρ : List R} → At (x0 ∷ x1 ∷ x2 ∷ x3 ∷ x4 ∷ x5 ∷ x6 ∷ x7 ∷ x8 ∷ x9 ∷ x10 ∷ x11 ∷ x12 ∷ ρ) x12
-at12 = record { place = 12; is = λ z. refl }
+  abbrev pub at12 : {a b c d e f g h i j k l : R} → At (a ∷ b ∷ c ∷ d ∷ e ∷ f ∷ g ∷ h ∷ i ∷ j ∷ k ∷ l ∷ x ∷ ρ) x
+  at12 = record { place = 12; is = λ z. refl }
 
-abbrev pub at13 : {R : Type 0} {x0 x1 x2 x3 x4 x5 x6 x7 x8 x9 x10 x11 x12 x13 : R} {ρ : List R} → At (x0 ∷ x1 ∷ x2 ∷ x3 ∷ x4 ∷ x5 ∷ x6 ∷ x7 ∷ x8 ∷ x9 ∷ x10 ∷ x11 ∷ x12 ∷ x13 ∷ ρ) x13
-at13 = record { place = 13; is = λ z. refl }
+  abbrev pub at13 : {a b c d e f g h i j k l m : R} → At (a ∷ b ∷ c ∷ d ∷ e ∷ f ∷ g ∷ h ∷ i ∷ j ∷ k ∷ l ∷ m ∷ x ∷ ρ) x
+  at13 = record { place = 13; is = λ z. refl }
 
-abbrev pub at14 : {R : Type 0} {x0 x1 x2 x3 x4 x5 x6 x7 x8 x9 x10 x11 x12 x13 x14 : R} {ρ : List R} → At (x0 ∷ x1 ∷ x2 ∷ x3 ∷ x4 ∷ x5 ∷ x6 ∷ x7 ∷ x8 ∷ x9 ∷ x10 ∷ x11 ∷ x12 ∷ x13 ∷ x14 ∷ ρ) x14
-at14 = record { place = 14; is = λ z. refl }
+  abbrev pub at14 : {a b c d e f g h i j k l m n : R} → At (a ∷ b ∷ c ∷ d ∷ e ∷ f ∷ g ∷ h ∷ i ∷ j ∷ k ∷ l ∷ m ∷ n ∷ x ∷ ρ) x
+  at14 = record { place = 14; is = λ z. refl }
 
-abbrev pub at15 : {R : Type 0} {x0 x1 x2 x3 x4 x5 x6 x7 x8 x9 x10 x11 x12 x13 x14 x15 : R} {ρ : List R} → At (x0 ∷ x1 ∷ x2 ∷ x3 ∷ x4 ∷ x5 ∷ x6 ∷ x7 ∷ x8 ∷ x9 ∷ x10 ∷ x11 ∷ x12 ∷ x13 ∷ x14 ∷ x15 ∷ ρ) x15
-at15 = record { place = 15; is = λ z. refl }
-
-abbrev pub at16 : {R : Type 0} {x0 x1 x2 x3 x4 x5 x6 x7 x8 x9 x10 x11 x12 x13 x14 x15 x16 : R} {ρ : List R} → At (x0 ∷ x1 ∷ x2 ∷ x3 ∷ x4 ∷ x5 ∷ x6 ∷ x7 ∷ x8 ∷ x9 ∷ x10 ∷ x11 ∷ x12 ∷ x13 ∷ x14 ∷ x15 ∷ x16 ∷ ρ) x16
-at16 = record { place = 16; is = λ z. refl }
-
-abbrev pub at17 : {R : Type 0} {x0 x1 x2 x3 x4 x5 x6 x7 x8 x9 x10 x11 x12 x13 x14 x15 x16 x17 : R} {ρ : List R} → At (x0 ∷ x1 ∷ x2 ∷ x3 ∷ x4 ∷ x5 ∷ x6 ∷ x7 ∷ x8 ∷ x9 ∷ x10 ∷ x11 ∷ x12 ∷ x13 ∷ x14 ∷ x15 ∷ x16 ∷ x17 ∷ ρ) x17
-at17 = record { place = 17; is = λ z. refl }
-
-abbrev pub at18 : {R : Type 0} {x0 x1 x2 x3 x4 x5 x6 x7 x8 x9 x10 x11 x12 x13 x14 x15 x16 x17 x18 : R} {ρ : List R} → At (x0 ∷ x1 ∷ x2 ∷ x3 ∷ x4 ∷ x5 ∷ x6 ∷ x7 ∷ x8 ∷ x9 ∷ x10 ∷ x11 ∷ x12 ∷ x13 ∷ x14 ∷ x15 ∷ x16 ∷ x17 ∷ x18 ∷ ρ) x18
-at18 = record { place = 18; is = λ z. refl }
-
-abbrev pub at19 : {R : Type 0} {x0 x1 x2 x3 x4 x5 x6 x7 x8 x9 x10 x11 x12 x13 x14 x15 x16 x17 x18 x19 : R} {ρ : List R} → At (x0 ∷ x1 ∷ x2 ∷ x3 ∷ x4 ∷ x5 ∷ x6 ∷ x7 ∷ x8 ∷ x9 ∷ x10 ∷ x11 ∷ x12 ∷ x13 ∷ x14 ∷ x15 ∷ x16 ∷ x17 ∷ x18 ∷ x19 ∷ ρ) x19
-at19 = record { place = 19; is = λ z. refl }
-
-abbrev pub at20 : {R : Type 0} {x0 x1 x2 x3 x4 x5 x6 x7 x8 x9 x10 x11 x12 x13 x14 x15 x16 x17 x18 x19 x20 : R} {ρ : List R} → At (x0 ∷ x1 ∷ x2 ∷ x3 ∷ x4 ∷ x5 ∷ x6 ∷ x7 ∷ x8 ∷ x9 ∷ x10 ∷ x11 ∷ x12 ∷ x13 ∷ x14 ∷ x15 ∷ x16 ∷ x17 ∷ x18 ∷ x19 ∷ x20 ∷ ρ) x20
-at20 = record { place = 20; is = λ z. refl }
-
-abbrev pub at21 : {R : Type 0} {x0 x1 x2 x3 x4 x5 x6 x7 x8 x9 x10 x11 x12 x13 x14 x15 x16 x17 x18 x19 x20 x21 : R} {ρ : List R} → At (x0 ∷ x1 ∷ x2 ∷ x3 ∷ x4 ∷ x5 ∷ x6 ∷ x7 ∷ x8 ∷ x9 ∷ x10 ∷ x11 ∷ x12 ∷ x13 ∷ x14 ∷ x15 ∷ x16 ∷ x17 ∷ x18 ∷ x19 ∷ x20 ∷ x21 ∷ ρ) x21
-at21 = record { place = 21; is = λ z. refl }
-
-abbrev pub at22 : {R : Type 0} {x0 x1 x2 x3 x4 x5 x6 x7 x8 x9 x10 x11 x12 x13 x14 x15 x16 x17 x18 x19 x20 x21 x22 : R} {ρ : List R} → At (x0 ∷ x1 ∷ x2 ∷ x3 ∷ x4 ∷ x5 ∷ x6 ∷ x7 ∷ x8 ∷ x9 ∷ x10 ∷ x11 ∷ x12 ∷ x13 ∷ x14 ∷ x15 ∷ x16 ∷ x17 ∷ x18 ∷ x19 ∷ x20 ∷ x21 ∷ x22 ∷ ρ) x22
-at22 = record { place = 22; is = λ z. refl }
-
-abbrev pub at23 : {R : Type 0} {x0 x1 x2 x3 x4 x5 x6 x7 x8 x9 x10 x11 x12 x13 x14 x15 x16 x17 x18 x19 x20 x21 x22 x23 : R} {ρ : List R} → At (x0 ∷ x1 ∷ x2 ∷ x3 ∷ x4 ∷ x5 ∷ x6 ∷ x7 ∷ x8 ∷ x9 ∷ x10 ∷ x11 ∷ x12 ∷ x13 ∷ x14 ∷ x15 ∷ x16 ∷ x17 ∷ x18 ∷ x19 ∷ x20 ∷ x21 ∷ x22 ∷ x23 ∷ ρ) x23
-at23 = record { place = 23; is = λ z. refl }
+  abbrev pub at15 : {a b c d e f g h i j k l m n o : R} → At (a ∷ b ∷ c ∷ d ∷ e ∷ f ∷ g ∷ h ∷ i ∷ j ∷ k ∷ l ∷ m ∷ n ∷ o ∷ x ∷ ρ) x
+  at15 = record { place = 15; is = λ z. refl }
 
 -- (the variables stand first in each list of rules: a number or a product may itself be a variable)
-pub ruleset variables = (at0, at1, at2, at3, at4, at5, at6, at7, at8, at9, at10, at11, at12, at13, at14, at15, at16, at17, at18, at19, at20, at21, at22, at23)
+pub ruleset variables = (at0, at1, at2, at3, at4, at5, at6, at7, at8, at9, at10, at11, at12, at13, at14, at15)
 
 module _ (A : CRing) where
-  open CRing A using (R, eq, add, mul, neg, of, rfl, symm, trans, add-cong, mul-cong, add-zero)
+  open CRing A using (R, eq, add, mul, neg, of, rfl, symm, trans, add-cong, mul-cong, neg-cong, add-zero)
 
   -- x ≈ y by the solver
   pub solved : (ρ : List R) {x y : R} (s : Quoted₂ A ρ x y) → Vanish (len ρ) (norm (len ρ) (s .one .ex ⊖ s .two .ex)) → eq x y
-  solved ρ s t = subst₂ eq (s .one .is) (s .two .is) (solve A ρ (s .one .ex) (s .two .ex) t)
+  solved ρ s t = trans (symm (s .one .is)) (trans (solve A ρ (s .one .ex) (s .two .ex) t) (s .two .is))
 
   -- the test that C is (k + 1) · (Q − P)
   abbrev pub Fits : ℕ → ℕ → Ex → Ex → Ex → Type 0
   Fits n k C P Q = Vanish n (norm n (C ⊖ con (pos (suc k)) ⊗ (Q ⊖ P)))
 
-  pub fits : (ρ : List R) (k : ℕ) {c x y : R} (s : Quoted₃ A ρ c x y) → Fits (len ρ) k (s .one .ex) (s .two .ex) (s .three .ex) → eq c (mul (of (pos (suc k))) (add y (neg x)))
-  fits ρ k s t = subst₂ eq (s .one .is) (ap₂ (λ (a b : R). mul (of (pos (suc k))) (add a (neg b))) (s .three .is) (s .two .is)) (solve A ρ (s .one .ex) (con (pos (suc k)) ⊗ (s .three .ex ⊖ s .two .ex)) t)
+  fits : (ρ : List R) (k : ℕ) {c x y : R} (s : Quoted₃ A ρ c x y) → Fits (len ρ) k (s .one .ex) (s .two .ex) (s .three .ex) → eq c (mul (of (pos (suc k))) (add y (neg x)))
+  fits ρ k s t = trans (symm (s .one .is)) (trans (solve A ρ (s .one .ex) (con (pos (suc k)) ⊗ (s .three .ex ⊖ s .two .ex)) t)
+      (mul-cong rfl (add-cong (s .three .is) (neg-cong (s .two .is)))))
 
   -- x ≤ y by a certificate
   pub certified : (O : Ordered A) (ρ : List R) (k : ℕ) {c x y : R} → O .le (of (pos 0)) c → (s : Quoted₃ A ρ c x y) → Fits (len ρ) k (s .one .ex) (s .two .ex) (s .three .ex) → O .le x y
@@ -147,4 +125,4 @@ module _ (A : CRing) where
 
   pub balanced : (ρ : List R) {c x y : R} → eq (of (pos 0)) c → (s : Quoted₃ A ρ c x y) → Balances (len ρ) (s .one .ex) (s .two .ex) (s .three .ex) → eq x y
   balanced ρ {c} {x} {y} h s t = trans (symm (add-zero x)) (trans (add-cong rfl h)
-      (subst₂ eq (ap₂ add (s .two .is) (s .one .is)) (s .three .is) (solve A ρ (s .two .ex ⊕ s .one .ex) (s .three .ex) t)))
+      (trans (add-cong (symm (s .two .is)) (symm (s .one .is))) (trans (solve A ρ (s .two .ex ⊕ s .one .ex) (s .three .ex) t) (s .three .is))))

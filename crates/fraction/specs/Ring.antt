@@ -1,6 +1,4 @@
 -- A commutative ring up to an equivalence, and a solver: an equation between two polynomials holds if the normal form of their difference is 0.
--- Assumes nothing.
-use mathlib.Core.Path.{_≡_, refl, sym, _∙_, ap, ap₂, subst}
 use mathlib.Core.List.{List, [], _∷_}
 use mathlib.Core.Bool.{Bool, true, false, _&&_}
 use Prim.Native.Nat.{ℕ, zero, suc}
@@ -309,6 +307,6 @@ module _ (A : CRing) where
   vanish : (ρ : List R) (p : Poly (len ρ)) → Vanish (len ρ) p → eq (ev ρ p) 0#
   vanish ρ p g = ev-isz ρ p (gone (pisz (len ρ) p) (terms (len ρ) p) g)
 
-  -- THE SOLVER
+  -- the solver
   pub solve : (ρ : List R) (e₁ e₂ : Ex) → Vanish (len ρ) (norm (len ρ) (e₁ ⊖ e₂)) → eq (den ρ e₁) (den ρ e₂)
   solve ρ e₁ e₂ t = sub-zero (den ρ e₁) (den ρ e₂) (trans (sound ρ (e₁ ⊖ e₂)) (vanish ρ (norm (len ρ) (e₁ ⊖ e₂)) t))

@@ -1,11 +1,11 @@
 -- The size of a scale by powers of 2: `Size x e f` says 2 ^ -e ≤ x ≤ 2 ^ f.
-use mathlib.Core.List.{List, [], _∷_}
-use Prim.Native.Nat.{ℕ, _+_, _*_, _^_, _≤_}
-use Rattle.fraction.specs.Fraction.{Fraction, nat, pow2, _+F_, negF, _-F_, _*F_, inv, _≈F_, _≤F_, _<F_}
+use mathlib.Core.List.{[], _∷_}
+use Prim.Native.Nat.{ℕ, _+_, _^_, _≤_}
+use Rattle.fraction.specs.Fraction.{Fraction, nat, pow2, negF, _*F_, inv, _≤F_, _<F_}
 use Rattle.fraction.specs.Field.{≤F-trans, nn-natF, le-of-lt}
 use Rattle.fraction.specs.Order.{mul-mono, ≤F-refl, pos-of-one, nat-le, pow2-add, pow2-mono}
 use Rattle.fraction.specs.Inverse.{mul-inv, inv-nn}
-use Rattle.fraction.specs.Certificate.{quote, le-by, up, eqn, _⊞_, _⊠_, _·_, _&_}
+use Rattle.fraction.specs.Certificate.{quote, le-by, up, eqn, _⊞_, _⊠_, _·_}
 
 pub record Size (x : Fraction) (e f : ℕ) : Type 0 where
   pub low : nat 1 ≤F x *F pow2 e

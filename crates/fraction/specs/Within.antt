@@ -1,16 +1,16 @@
 -- ∣x∣ ≤ b, `x within b`, and the distance ∣x − q∣ ≤ e, `x -F q within e`.
 use mathlib.Core.Path.{_≡_, refl, ap}
-use mathlib.Core.List.{List, [], _∷_}
+use mathlib.Core.List.{[], _∷_}
 use mathlib.Core.Logic.{_⊎_, inl, inr, ⊎-elim}
-use Prim.Native.Nat.{ℕ, zero, suc}
+use Prim.Native.Nat.{zero, suc}
 use native.Mathlib.Omega.{arith}
-use lib.IntN.{ℤ, pos, negsuc, _+ℤ_, _*ℤ_, negℤ, natAbs}
+use lib.IntN.{ℤ, pos, negsuc, _*ℤ_, negℤ, natAbs}
 use Rattle.fraction.specs.Integer.{_≤ℤ_}
 use Rattle.fraction.specs.IntegerRing.{zquote, zle-by}
 use Rattle.fraction.specs.IntegerRing as Z
-use Rattle.fraction.specs.Fraction.{Fraction, below, whole, nat, _+F_, negF, _-F_, _*F_, _≈F_, _≤F_, _within_, ∣_∣}
+use Rattle.fraction.specs.Fraction.{Fraction, below, nat, _+F_, negF, _-F_, _*F_, _≈F_, _≤F_, _within_, ∣_∣}
 use Rattle.fraction.specs.Field.{≈F-sym}
-use Rattle.fraction.specs.Certificate.{quote, ring, le-by, lt-by, within-by, eq-by, up, hi, lo, num, sq, eqn, _⊞_, _⊠_, _·_, _&_}
+use Rattle.fraction.specs.Certificate.{quote, ring, le-by, within-by, up, hi, lo, num, eqn, _⊞_, _⊠_, _·_}
 
 pub within-nn : {x b : Fraction} → x within b → nat 0 ≤F b
 within-nn {x} {b} h = le-by (x ∷ b ∷ []) 1 (hi h ⊞ lo h) (search quote depth 24) tt
@@ -40,6 +40,9 @@ apart-sym x y {e} h = within-by (x ∷ y ∷ e ∷ []) 0 (lo h) (hi h) (search q
 
 pub apart-trans : (x y z : Fraction) {e f : Fraction} → x -F y within e → y -F z within f → x -F z within e +F f
 apart-trans x y z {e} {f} h k = within-by (x ∷ y ∷ z ∷ e ∷ f ∷ []) 0 (hi h ⊞ hi k) (lo h ⊞ lo k) (search quote depth 24) tt tt
+
+pub apart-add : (x y z : Fraction) {e : Fraction} → x -F y within e → x +F z -F (y +F z) within e
+apart-add x y z h = within-resp (ring (x ∷ y ∷ z ∷ []) (search quote depth 24) tt) h
 
 -- each is at most the other and e
 pub apart : {x y e : Fraction} → x ≤F y +F e → y ≤F x +F e → x -F y within e

@@ -1,4 +1,1 @@
-// This crate holds definitions and laws of specs/ only; a crate has at least one function.
-pub fn one() -> u64 {
-    1
-}
+// Definitions and laws only: specs/Lib.antt says what is here.

@@ -3,6 +3,7 @@
 
 ghost use mathlib.Core.Path.{_≡_};
 ghost use Rattle.refusal.specs.Numbers.{refusalUnless, firstMet};
+ghost use Rattle.refusal.specs.Answers.{said, finiteOutcome};
 ghost use Rattle.refusal.specs.Ranges.{inRange, countInRange, finite, plusZero, loadFits, intervalFits, temperatureFits, clockFits};
 
 // A node count or a matrix order outside its limits.
@@ -94,4 +95,18 @@ pub fn clock_fits(time_s: f64) -> bool
     ensures { λ r. ⌜ r ≡ clockFits «time_s» ⌝ }
 {
     is_finite(time_s) & (0.0 <= time_s)
+}
+
+// What a call that gives a number answers.
+pub enum Answer {
+    Value(f64),
+    Refused(u64),
+}
+
+// The answer of a call whose tests met `refusal`, 0 for none, and whose value is x: 8 where that is not finite.
+pub fn answered(refusal: u64, x: f64) -> Answer
+    ensures { λ r. ⌜ said r ≡ finiteOutcome refusal x ⌝ }
+{
+    let number = first_met(refusal, refusal_unless(is_finite(x), NOT_FINITE));
+    if number == 0 { Answer::Value(x) } else { Answer::Refused(number) }
 }

@@ -6,3 +6,5 @@ pub mod Rounding
 pub mod Units
 pub mod Spacing
 pub mod Standard
+pub mod Monotone
+pub mod Unique

@@ -1,0 +1,91 @@
+// The lists of the electrode sheet's calls.
+use crate::list::{next_word, next_u64, next_f64, is_f64, is_answer, verdict, OVER};
+use electrode::ElectrodeParams;
+
+// A sheet whose chemistry is read already.
+pub(crate) fn next_sheet(fd: i32, electrode_type: u64) -> ElectrodeParams {
+    let r_particle = next_f64(fd);
+    let d_s_ref = next_f64(fd);
+    let c_s_max = next_f64(fd);
+    let theta_init = next_f64(fd);
+    let thickness = next_f64(fd);
+    let epsilon_s = next_f64(fd);
+    let area = next_f64(fd);
+    let e_a_ds = next_f64(fd);
+    let k_bv = next_f64(fd);
+    ElectrodeParams {
+        electrode_type,
+        r_particle,
+        d_s_ref,
+        c_s_max,
+        theta_init,
+        thickness,
+        epsilon_s,
+        area,
+        e_a_ds,
+        k_bv,
+    }
+}
+
+pub(crate) fn is_sheet(fd: i32, chemistry: u64, p: ElectrodeParams) -> bool {
+    (chemistry == p.electrode_type)
+        & is_f64(fd, p.r_particle)
+        & is_f64(fd, p.d_s_ref)
+        & is_f64(fd, p.c_s_max)
+        & is_f64(fd, p.theta_init)
+        & is_f64(fd, p.thickness)
+        & is_f64(fd, p.epsilon_s)
+        & is_f64(fd, p.area)
+        & is_f64(fd, p.e_a_ds)
+        & is_f64(fd, p.k_bv)
+}
+
+pub(crate) fn ready_line(fd: i32) -> u64 {
+    let first = next_word(fd);
+    if first.end == 0 {
+        return OVER;
+    }
+    let graphite = is_sheet(fd, first.value, ElectrodeParams::graphite_anode());
+    let lfp = is_sheet(fd, next_u64(fd), ElectrodeParams::lfp_cathode());
+    let nmc = is_sheet(fd, next_u64(fd), ElectrodeParams::nmc_cathode());
+    verdict(graphite & lfp & nmc)
+}
+
+pub(crate) fn d_s_line(fd: i32) -> u64 {
+    let first = next_word(fd);
+    if first.end == 0 {
+        return OVER;
+    }
+    let p = next_sheet(fd, first.value);
+    let temp_k = next_f64(fd);
+    verdict(is_answer(fd, p.d_s(temp_k)))
+}
+
+pub(crate) fn area_line(fd: i32) -> u64 {
+    let first = next_word(fd);
+    if first.end == 0 {
+        return OVER;
+    }
+    let p = next_sheet(fd, first.value);
+    verdict(is_answer(fd, p.specific_area()))
+}
+
+pub(crate) fn ocp_line(fd: i32) -> u64 {
+    let first = next_word(fd);
+    if first.end == 0 {
+        return OVER;
+    }
+    let p = next_sheet(fd, first.value);
+    let theta = next_f64(fd);
+    let ocp = is_answer(fd, p.ocp(theta));
+    let slope = is_answer(fd, p.docp_dtheta(theta));
+    verdict(ocp & slope)
+}
+
+pub(crate) fn volume_line(fd: i32) -> u64 {
+    let first = next_word(fd);
+    if first.end == 0 {
+        return OVER;
+    }
+    verdict(is_answer(fd, electrode::sphere_volume(words::from_bits(first.value))))
+}

@@ -1,0 +1,22 @@
+-- `electrode::ElectrodeParams::open_circuit_slope` meets its contract. Assumes nothing.
+use borrow.Author.Needs.{needs}
+use Rattle.electrode.specs.Curves.{openCircuitSlope}
+use Rattle.electrode.proofs.ElectrodeParams.open_circuit_slope.Statement.{statement}
+use Rattle.electrode.proofs.ElectrodeParams.open_circuit_slope.Tie as tie
+
+clamp-requires : tie.Need-clamp-requires
+clamp-requires c κs = search needs
+
+open-circuit-requires : tie.Need-open-circuit-requires
+open-circuit-requires c κs = search needs
+
+open-circuit-requires-2 : tie.Need-open-circuit-requires-2
+open-circuit-requires-2 c κs = search needs
+
+returns : tie.Need-returns
+unfolding openCircuitSlope
+returns c = cc
+
+pub open-circuit-slope-spec : {M : Type 1} → statement M
+open-circuit-slope-spec =
+    tie.close (tie.spec clamp-requires open-circuit-requires open-circuit-requires-2 returns)

@@ -1,0 +1,25 @@
+-- `electrode::ocp_graphite` meets its contract. Assumes nothing.
+use borrow.Author.Needs.{needs}
+use Rattle.electrode.specs.Curves.{graphiteCurve}
+use Rattle.electrode.proofs.ocp_graphite.Statement.{statement}
+use Rattle.electrode.proofs.ocp_graphite.Tie as tie
+
+powf-requires : tie.Need-powf-requires
+powf-requires c κs = search needs
+
+powf-requires-2 : tie.Need-powf-requires-2
+powf-requires-2 c κs = search needs
+
+exp-requires : tie.Need-exp-requires
+exp-requires c κs = search needs
+
+exp-requires-2 : tie.Need-exp-requires-2
+exp-requires-2 c κs = search needs
+
+returns : tie.Need-returns
+unfolding graphiteCurve
+returns c = cc
+
+pub ocp-graphite-spec : {M : Type 1} → statement M
+ocp-graphite-spec =
+    tie.close (tie.spec powf-requires powf-requires-2 exp-requires exp-requires-2 returns)

@@ -1,0 +1,25 @@
+-- `electrode::ocp_nmc` meets its contract. Assumes nothing.
+use borrow.Author.Needs.{needs}
+use Rattle.electrode.specs.Curves.{nmcCurve}
+use Rattle.electrode.proofs.ocp_nmc.Statement.{statement}
+use Rattle.electrode.proofs.ocp_nmc.Tie as tie
+
+clamp-requires : tie.Need-clamp-requires
+clamp-requires c κs = search needs
+
+square-requires : tie.Need-square-requires
+square-requires c κs = search needs
+
+cube-requires : tie.Need-cube-requires
+cube-requires c κs = search needs
+
+exp-requires : tie.Need-exp-requires
+exp-requires c κs = search needs
+
+returns : tie.Need-returns
+unfolding nmcCurve
+returns c = cc
+
+pub ocp-nmc-spec : {M : Type 1} → statement M
+ocp-nmc-spec =
+    tie.close (tie.spec clamp-requires square-requires cube-requires exp-requires returns)

@@ -1,0 +1,211 @@
+// The electrode sheet: nine numbers and a chemistry, and what is worked out from them.
+// A changed translation of src/battery/p2d/electrode.rs (without its particle).
+
+ghost use mathlib.Core.Path.{_≡_};
+ghost use Rattle.refusal.specs.Numbers.{refusalUnless, sheet};
+ghost use Rattle.refusal.specs.Answers.{said};
+ghost use Rattle.electrode.specs.Sheet.{sheetFits, graphiteAnode, lfpCathode, nmcCathode, diffusivityAt, specificArea};
+ghost use Rattle.electrode.specs.Curves.{graphiteCurve, lfpCurve, nmcCurve, openCircuit, openCircuitSlope};
+ghost use Rattle.electrode.specs.Calls.{dS, specificAreaCall, ocpCall, slopeCall, volumeCall};
+
+pub struct ElectrodeParams {
+    // The chemistry: 1 graphite, 2 LFP, 3 NMC.
+    pub electrode_type: u64,
+    // Particle radius, m.
+    pub r_particle: f64,
+    // Diffusivity in the solid at the reference temperature, m^2/s.
+    pub d_s_ref: f64,
+    // Largest concentration of lithium in the solid, mol/m^3.
+    pub c_s_max: f64,
+    // Stoichiometry at the start.
+    pub theta_init: f64,
+    // Thickness, m.
+    pub thickness: f64,
+    // Volume fraction of active material.
+    pub epsilon_s: f64,
+    // Area, m^2.
+    pub area: f64,
+    // Activation energy of the diffusivity, J/mol.
+    pub e_a_ds: f64,
+    // Factor of the exchange current density.
+    pub k_bv: f64,
+}
+
+impl ElectrodeParams {
+    // Graphite anode of a cell of about 3 Ah.
+    pub fn graphite_anode() -> ElectrodeParams
+        ensures { λ r. ⌜ r ≡ graphiteAnode ⌝ }
+    {
+        ElectrodeParams {
+            electrode_type: 1,
+            r_particle: 12.5e-6,
+            d_s_ref: 3.9e-14,
+            c_s_max: 31833.0,
+            theta_init: 0.80,
+            thickness: 100e-6,
+            epsilon_s: 0.60,
+            area: 0.0626,
+            e_a_ds: 35000.0,
+            k_bv: 2.0e-11,
+        }
+    }
+
+    // LiFePO4 cathode of a cell of about 3 Ah.
+    pub fn lfp_cathode() -> ElectrodeParams
+        ensures { λ r. ⌜ r ≡ lfpCathode ⌝ }
+    {
+        ElectrodeParams {
+            electrode_type: 2,
+            r_particle: 2.5e-6,
+            d_s_ref: 1.0e-14,
+            c_s_max: 22806.0,
+            theta_init: 0.20,
+            thickness: 80e-6,
+            epsilon_s: 0.50,
+            area: 0.0626,
+            e_a_ds: 20000.0,
+            k_bv: 2.0e-11,
+        }
+    }
+
+    // NMC811 cathode.
+    pub fn nmc_cathode() -> ElectrodeParams
+        ensures { λ r. ⌜ r ≡ nmcCathode ⌝ }
+    {
+        ElectrodeParams {
+            electrode_type: 3,
+            r_particle: 5.0e-6,
+            d_s_ref: 1.5e-14,
+            c_s_max: 49000.0,
+            theta_init: 0.15,
+            thickness: 90e-6,
+            epsilon_s: 0.55,
+            area: 0.0626,
+            e_a_ds: 25000.0,
+            k_bv: 2.0e-11,
+        }
+    }
+
+    // Whether every field is in its range.
+    pub fn fits(self) -> bool
+        ensures { λ r. ⌜ r ≡ sheetFits self ⌝ }
+    {
+        (1 <= self.electrode_type) & (self.electrode_type <= 3)
+            & (1e-8 <= self.r_particle) & (self.r_particle <= 1e-3)
+            & (1e-20 <= self.d_s_ref) & (self.d_s_ref <= 1e-8)
+            & (1.0 <= self.c_s_max) & (self.c_s_max <= 131072.0)
+            & (0.0 <= self.theta_init) & (self.theta_init <= 1.0)
+            & (1e-7 <= self.thickness) & (self.thickness <= 1e-2)
+            & (0.01 <= self.epsilon_s) & (self.epsilon_s <= 1.0)
+            & (1e-6 <= self.area) & (self.area <= 1e4)
+            & (0.0 <= self.e_a_ds) & (self.e_a_ds <= 1e5)
+            & (1e-16 <= self.k_bv) & (self.k_bv <= 1.0)
+    }
+
+    // The diffusivity at a temperature, by Arrhenius.
+    pub fn diffusivity_at(self, temp_k: f64) -> f64
+        ensures { λ r. ⌜ r ≡ diffusivityAt self «temp_k» ⌝ }
+    {
+        self.d_s_ref * elementary::exp(self.e_a_ds / 8.314 * (1.0 / 298.15 - 1.0 / temp_k))
+    }
+
+    // The interfacial area of a volume.
+    pub fn area_per_volume(self) -> f64
+        ensures { λ r. ⌜ r ≡ specificArea self ⌝ }
+    {
+        3.0 * self.epsilon_s / self.r_particle
+    }
+
+    // The open-circuit potential at a stoichiometry, by the chemistry's curve; +0 where no chemistry has the number.
+    pub fn open_circuit(self, theta: f64) -> f64
+        ensures { λ r. ⌜ r ≡ openCircuit self theta ⌝ }
+    {
+        let x = elementary::clamp(theta, 0.01, 0.99);
+        let chemistry = self.electrode_type;
+        match chemistry {
+            1 => ocp_graphite(x),
+            2 => ocp_lfp(x),
+            3 => ocp_nmc(x),
+            _ => 0.0,
+        }
+    }
+
+    // The slope of the open-circuit potential, by a difference of 1e-4 to both sides.
+    pub fn open_circuit_slope(self, theta: f64) -> f64
+        ensures { λ r. ⌜ r ≡ openCircuitSlope self theta ⌝ }
+    {
+        let t = elementary::clamp(theta, 1e-4, 1.0 - 1e-4);
+        (self.open_circuit(t + 1e-4) - self.open_circuit(t - 1e-4)) / (2.0 * 1e-4)
+    }
+
+    // The diffusivity corrected for the temperature, m^2/s.
+    pub fn d_s(self, temp_k: f64) -> refusal::Answer
+        ensures { λ r. ⌜ said r ≡ dS self «temp_k» ⌝ }
+    {
+        let unfit = refusal::refusal_unless(self.fits(), refusal::SHEET);
+        let out = refusal::refusal_unless(refusal::temperature_fits(temp_k), refusal::TEMPERATURE);
+        refusal::answered(refusal::first_met(unfit, out), self.diffusivity_at(temp_k))
+    }
+
+    // Interfacial area of a volume of electrode, 1/m.
+    pub fn specific_area(self) -> refusal::Answer
+        ensures { λ r. ⌜ said r ≡ specificAreaCall self ⌝ }
+    {
+        let unfit = refusal::refusal_unless(self.fits(), refusal::SHEET);
+        refusal::answered(unfit, self.area_per_volume())
+    }
+
+    // Open-circuit potential at a stoichiometry, V.
+    pub fn ocp(self, theta: f64) -> refusal::Answer
+        ensures { λ r. ⌜ said r ≡ ocpCall self theta ⌝ }
+    {
+        let unfit = refusal::refusal_unless(self.fits() & refusal::is_finite(theta), refusal::SHEET);
+        refusal::answered(unfit, self.open_circuit(theta))
+    }
+
+    // Slope of the open-circuit potential, V.
+    pub fn docp_dtheta(self, theta: f64) -> refusal::Answer
+        ensures { λ r. ⌜ said r ≡ slopeCall self theta ⌝ }
+    {
+        let unfit = refusal::refusal_unless(self.fits() & refusal::is_finite(theta), refusal::SHEET);
+        refusal::answered(unfit, self.open_circuit_slope(theta))
+    }
+}
+
+// Graphite.
+fn ocp_graphite(x: f64) -> f64
+    ensures { λ r. ⌜ r ≡ graphiteCurve x ⌝ }
+{
+    0.7222 + 0.1387 * x + 0.029 * elementary::powf(x, 0.5) - 0.0172 / x
+        + 0.0019 / elementary::powf(x, 1.5)
+        + 0.2808 * elementary::exp(-0.9 / x)
+        - 0.7984 * elementary::exp(0.4465 * x - 0.4108)
+}
+
+// LiFePO4: a flat plateau, with a logistic term at each end.
+fn ocp_lfp(x0: f64) -> f64
+    ensures { λ r. ⌜ r ≡ lfpCurve x0 ⌝ }
+{
+    let x = elementary::clamp(x0, 0.01, 0.99);
+    let backbone = 3.414 + 0.12 * elementary::square(x) - 0.17 * elementary::cube(x) + 0.05 * elementary::fourth(x);
+    let low_soc = 0.20 / (1.0 + elementary::exp(80.0 * (x - 0.08)));
+    let high_soc = 0.15 / (1.0 + elementary::exp(80.0 * (0.92 - x)));
+    backbone - low_soc + high_soc
+}
+
+// NMC811: a polynomial for 0.1 to 0.9, and a bounded logistic term.
+fn ocp_nmc(x0: f64) -> f64
+    ensures { λ r. ⌜ r ≡ nmcCurve x0 ⌝ }
+{
+    let x = elementary::clamp(x0, 0.1, 0.9);
+    4.20 - 1.50 * x + 1.20 * elementary::square(x) - 0.60 * elementary::cube(x)
+        + 0.08 / (1.0 + elementary::exp(30.0 * (x - 0.85)))
+}
+
+// Volume of a sphere of a particle's radius, m^3.
+pub fn sphere_volume(r: f64) -> refusal::Answer
+    ensures { λ a. ⌜ said a ≡ volumeCall r ⌝ }
+{
+    let unfit = refusal::refusal_unless(refusal::within(r, 1e-8, 1e-3), refusal::SHEET);
+    refusal::answered(unfit, 4.0 / 3.0 * 3.141592653589793 * r * r * r)
+}

@@ -1,0 +1,18 @@
+-- A power x ^ b for x from 1/128 to 1 and an exponent of at most 4 in size is finite and above zero: for porosities, and for stoichiometries to 0.5 and 1.5. Assumes nothing.
+use mathlib.Core.Path.{_≡_, refl}
+use mathlib.Core.Bool.{false}
+use Prim.Native.Nat.{ℕ, _^_}
+use native.Mathlib.Nat.{zero-lt-suc}
+use lib.Dec.{T}
+use lib.Ieee.{Float, unlike}
+use Rattle.binary64.specs.Operators.{_⊗_, negative}
+use Rattle.binary64.specs.Range.{Most, Within, Sized}
+use Rattle.binary64.specs.RangeOps.{mul-most}
+use Rattle.elementary.specs.Ln.{lnOf}
+use Rattle.elementary.specs.Power.{powfOf}
+use Rattle.elementary.proofs.ExpRange.{within-positive, exp-22}
+use Rattle.elementary.proofs.LnRange.{ln-part}
+
+pub powf-within : (x b : Float) → Within x 1 1 1 128 → Sized b 4 1 → Within (powfOf x b) (2 ^ 33) 1 1 (2 ^ 34)
+unfolding powfOf
+powf-within x b w h = exp-22 (b ⊗ lnOf x) (unlike (negative b) (negative (lnOf x))) (mul-most h (ln-part x (within-positive x 1 1 1 128 (zero-lt-suc 0) w) w) 45 2 tt tt)

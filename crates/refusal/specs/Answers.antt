@@ -1,0 +1,28 @@
+-- What the answer of a call that gives a number says, in document 01's terms: the number of the refusal and no value, or 0 and the value.
+-- Definitions only.
+use Prim.Native.Nat.{ℕ}
+use mathlib.Core.Bool.{cond}
+use mathlib.Core.List.{List, [], _∷_}
+use lib.Dec.{eqb}
+use lib.Ieee.{Float}
+use Rattle.refusal.specs.Numbers.{firstMet, refusalUnless, notFinite}
+use Rattle.refusal.specs.Ranges.{finite}
+use Rattle.refusal.specs.declared.Answer.{Answer}
+use Rattle.refusal.specs.declared.Answer.the-variants.{Value, Refused}
+
+pub record Said : Type 0 where
+  pub number : ℕ
+  pub values : List Float
+
+-- each case of the enum
+abbrev pub said : Answer → Said
+said (Value x) = record { number = 0; values = x ∷ [] }
+said (Refused k) = record { number = k; values = [] }
+
+-- a call that meets the number n, 0 for none, and whose value is x
+unfoldable pub outcome : ℕ → Float → Said
+outcome n x = cond (eqb n 0) (record { number = 0; values = x ∷ [] }) (record { number = n; values = [] })
+
+-- the same where 8 is still to be tested: "the returned number would hold a NaN or infinity"
+abbrev pub finiteOutcome : ℕ → Float → Said
+finiteOutcome n x = outcome (firstMet n (refusalUnless (finite x) notFinite)) x
