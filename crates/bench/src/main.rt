@@ -4,6 +4,7 @@ mod list;
 mod ranges;
 mod functions;
 mod sheets;
+mod systems;
 
 use libc::STDOUT_FILENO;
 use list::{OVER, AGREES};
@@ -19,6 +20,7 @@ const D_S: u64 = 6;
 const SPECIFIC_AREA: u64 = 7;
 const OCP: u64 = 8;
 const SPHERE_VOLUME: u64 = 9;
+const SOLVE_DENSE: u64 = 10;
 
 fn line(which: u64, fd: i32) -> u64 {
     match which {
@@ -32,6 +34,7 @@ fn line(which: u64, fd: i32) -> u64 {
         SPECIFIC_AREA => sheets::area_line(fd),
         OCP => sheets::ocp_line(fd),
         SPHERE_VOLUME => sheets::volume_line(fd),
+        SOLVE_DENSE => systems::line(fd),
         _ => OVER,
     }
 }
@@ -76,4 +79,5 @@ fn main() {
     replay(SPECIFIC_AREA, b"specific_area.txt");
     replay(OCP, b"ocp.txt");
     replay(SPHERE_VOLUME, b"sphere_volume.txt");
+    replay(SOLVE_DENSE, b"solve_dense.txt");
 }
