@@ -1,7 +1,7 @@
 -- `for i in from..to { x = f(i, x) }` as a value, and the same for a turn that can refuse, with the laws that loops are proved by. Assumes nothing.
 use Prim.Native.Nat.{ℕ, zero, suc, _+_, _-_, _≤_, _<_}
-use mathlib.Core.Path.{_≡_, sym, _∙_, ap}
-use mathlib.Core.Bool.{cond}
+use mathlib.Core.Path.{_≡_, refl, sym, _∙_, ap}
+use mathlib.Core.Bool.{Bool, true, false, cond}
 use native.Mathlib.Omega.{arith}
 use native.Mathlib.Nat.{sub-self, add-zero}
 use lib.Dec.{eqb}
@@ -27,6 +27,17 @@ module _ {A : Type 0} where
       let e : i + 1 - from ≡ suc (i - from) = omega arith in
       let g : from + (i - from) ≡ i = omega arith in
       rw (e, g)
+
+  -- what every turn keeps
+  module _ (P : A → Type 0) (from to : ℕ) (f : ℕ → A → A) (x : A) (keeps : (i : ℕ) (y : A) → from ≤ i → i < to → P y → P (f i y)) where
+    turns-keep : (k : ℕ) → k ≤ to - from → P x → P (turnsFrom from k f x)
+    unfolding turnsFrom
+    turns-keep zero l p = p
+    turns-keep (suc k) l p = keeps (from + k) _ (omega arith) (omega (arith, l)) (turns-keep k (omega (arith, l)) p)
+
+    pub range-keeps : P x → P (forRange from to f x)
+    unfolding forRange
+    range-keeps p = turns-keep (to - from) (omega arith) p
 
 -- a value with the number of a refusal, 0 for none
 pub record Tried (A : Type 0) : Type 0 where
@@ -67,3 +78,14 @@ module _ {A : Type 0} where
         let q : tryRange (k + 1) f x ≡ outcome r y = try-next k y e ∙ g in
         let w : k + 1 + (n - (k + 1)) ≡ n = omega arith in
         sym (rw w at (try-stays (k + 1) (n - (k + 1)) (λ z. h (sym (ap (λ (t : Tried A). t .refusal) q) ∙ z))) ∙ q)
+
+  -- what every turn keeps
+  module _ (P : A → Type 0) (n : ℕ) (f : ℕ → A → Tried A) (x : A) (keeps : (i : ℕ) (y : A) → i < n → P y → P (f i y .value)) where
+    turn-keeps : (i : ℕ) (t : Tried A) (b : Bool) → i < n → eqb (t .refusal) 0 ≡ b → P (t .value) → P (unlessRefused f i t .value)
+    unfolding unlessRefused
+    turn-keeps i t true l e p = rw e (keeps i (t .value) l p)
+    turn-keeps i t false l e p = rw e p
+
+    pub try-keeps : P x → P (tryRange n f x .value)
+    unfolding tryRange
+    try-keeps p = range-keeps (λ (t : Tried A). P (t .value)) 0 n (unlessRefused f) (outcome 0 x) (λ i t _ l q. turn-keeps i t _ l refl q) p
