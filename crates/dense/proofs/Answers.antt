@@ -1,7 +1,6 @@
 -- What every answer holds: +0 at the unused places and at all places beside a refusal, and a finite number at each place. Assumes nothing.
 use Prim.Native.Nat.{ℕ, zero, suc, _+_, _-_, _≤_, _<_}
 use mathlib.Core.Path.{_≡_, refl}
-use mathlib.Core.Bool.{Bool, true, false, cond}
 use mathlib.Core.List.{List}
 use native.Mathlib.Omega.{arith}
 use native.Mathlib.Nat.{ne-of-gt}
@@ -15,7 +14,7 @@ use Rattle.elementary.specs.Choice.{absOf}
 use Rattle.refusal.specs.Numbers.{none-met, passed}
 use Rattle.refusal.specs.Ranges.{finite}
 use Rattle.turns.specs.Turns.{firstBy, first-above, all-at}
-use Rattle.dense.specs.Loops.{Tried, range-keeps, try-keeps}
+use Rattle.dense.specs.Loops.{Tried, either, range-keeps, try-keeps}
 use Rattle.dense.specs.Places.{at, entry, zeros, firstFinite}
 use Rattle.dense.specs.Elimination.{System, swapped, rowLess, rowCleared, columnCleared, pivotTaken, pivotOf, columnWith, columnDone, eliminated, tiny}
 use Rattle.dense.specs.Substitution.{takenOut, columnSolved, substituted}
@@ -26,10 +25,6 @@ zeros-at : (k i : ℕ) → i < k → at (zeros k) i ≡ f64 0
 zeros-at zero i l = absurd (omega (arith, l))
 zeros-at (suc k) zero l = refl
 zeros-at (suc k) (suc i) l = zeros-at k i (omega (arith, l))
-
-either : {A : Type 0} (P : A → Type 0) (b : Bool) (x y : A) → P x → P y → P (cond b x y)
-either P true x y p q = p
-either P false x y p q = q
 
 -- place i of l is +0
 record ZeroAt (i : ℕ) (l : List Float) : Type 0 where

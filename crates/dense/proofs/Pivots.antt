@@ -1,16 +1,16 @@
 -- Laws of the search for a pivot, and of a column by its pivot. Assumes nothing.
-use Prim.Native.Nat.{ℕ, zero, suc, _+_, _-_, _*_, _≤_, _<_}
+use Prim.Native.Nat.{ℕ, _+_, _-_, _*_, _≤_, _<_}
 use mathlib.Core.Path.{_≡_, refl, sym}
-use mathlib.Core.Bool.{Bool, true, false}
+use mathlib.Core.Bool.{true, false}
 use mathlib.Core.List.{List}
 use mathlib.Core.Logic.{⊎-elim}
 use native.Mathlib.Omega.{arith}
-use native.Mathlib.Nat.{eq-or-lt-of-le, le-refl, add-suc}
+use native.Mathlib.Nat.{eq-or-lt-of-le, le-refl}
 use lib.Ieee.{Float, nan, inf, fin, lt, up, down}
 use borrow.Author.Tests.{le-ltb}
 use Rattle.refusal.specs.Numbers.{singular}
 use Rattle.dense.specs.declared.Pivot.{Pivot}
-use Rattle.dense.specs.Loops.{turnsFrom, forRange, range-none, range-next, outcome}
+use Rattle.dense.specs.Loops.{turnsFrom, forRange, range-none, range-next, range-keeps, either, outcome}
 use Rattle.dense.specs.Elimination.{candidate, larger, pivotOf, tiny, System, pivotTaken, columnWith, columnDone}
 
 -- nothing is below itself
@@ -25,11 +25,6 @@ lt-self (fin false m e) = le-ltb (m * up e * down e) (m * up e * down e) (le-ref
 larger-self : (p : Pivot) → larger p p ≡ p
 unfolding larger
 larger-self p = rw (lt-self (p .val))
-
-larger-row : (n : ℕ) (p q : Pivot) (b : Bool) → lt (p .val) (q .val) ≡ b → p .row < n → q .row < n → larger p q .row < n
-unfolding larger
-larger-row n p q true e l m = rw e m
-larger-row n p q false e l m = rw e l
 
 module _ (a : List Float) (col : ℕ) where
   -- on the diagonal nothing has been compared yet
@@ -56,16 +51,12 @@ module _ (a : List Float) (col : ℕ) where
       (eq-or-lt-of-le h)
 
   -- the pivot's row is one of those looked at
-  turns-row : (n k : ℕ) → col < n → col + 1 + k ≤ n → turnsFrom (col + 1) k (λ row p. larger p (candidate a row col)) (candidate a col col) .row < n
-  unfolding turnsFrom candidate
-  turns-row n zero l m = l
-  turns-row n (suc k) l m =
-      let e : col + 1 + suc k ≡ suc (col + 1 + k) = add-suc (col + 1) k in
-      larger-row n _ _ _ refl (turns-row n k l (omega (arith, e))) (omega (arith, e))
-
   pub pivot-row : (n : ℕ) → col < n → pivotOf a col n .row < n
-  unfolding pivotOf forRange
-  pivot-row n l = turns-row n (n - (col + 1)) l (omega arith)
+  unfolding pivotOf larger candidate
+  pivot-row n l =
+      range-keeps (λ (p : Pivot). p .row < n) (col + 1) n _ (candidate a col col)
+      (λ row p _ m q. either (λ (r : Pivot). r .row < n) (lt (p .val) (candidate a row col .val)) (candidate a row col) p m q)
+      l
 
 module _ (n col : ℕ) (s : System) (p : Pivot) (e : p ≡ pivotOf (s .matrix) col n) where
   pub column-none : tiny (p .val) ≡ true → columnDone n col s ≡ outcome singular s

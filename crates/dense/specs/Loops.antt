@@ -1,11 +1,16 @@
 -- `for i in from..to { x = f(i, x) }` as a value, and the same for a turn that can refuse, with the laws that loops are proved by. Assumes nothing.
 use Prim.Native.Nat.{ℕ, zero, suc, _+_, _-_, _≤_, _<_}
-use mathlib.Core.Path.{_≡_, refl, sym, _∙_, ap}
+use mathlib.Core.Path.{_≡_, sym, _∙_, ap}
 use mathlib.Core.Bool.{Bool, true, false, cond}
 use native.Mathlib.Omega.{arith}
 use native.Mathlib.Nat.{sub-self, add-zero}
 use lib.Dec.{eqb}
 use borrow.Author.Tests.{ne-eqb}
+
+-- what both arms of a choice have
+pub either : {A : Type 0} (P : A → Type 0) (b : Bool) (x y : A) → P x → P y → P (cond b x y)
+either P true x y p q = p
+either P false x y p q = q
 
 module _ {A : Type 0} where
   -- k turns, i being from, from + 1, ..
@@ -81,11 +86,8 @@ module _ {A : Type 0} where
 
   -- what every turn keeps
   module _ (P : A → Type 0) (n : ℕ) (f : ℕ → A → Tried A) (x : A) (keeps : (i : ℕ) (y : A) → i < n → P y → P (f i y .value)) where
-    turn-keeps : (i : ℕ) (t : Tried A) (b : Bool) → i < n → eqb (t .refusal) 0 ≡ b → P (t .value) → P (unlessRefused f i t .value)
-    unfolding unlessRefused
-    turn-keeps i t true l e p = rw e (keeps i (t .value) l p)
-    turn-keeps i t false l e p = rw e p
-
     pub try-keeps : P x → P (tryRange n f x .value)
-    unfolding tryRange
-    try-keeps p = range-keeps (λ (t : Tried A). P (t .value)) 0 n (unlessRefused f) (outcome 0 x) (λ i t _ l q. turn-keeps i t _ l refl q) p
+    unfolding tryRange unlessRefused
+    try-keeps =
+        range-keeps (λ (t : Tried A). P (t .value)) 0 n _ (outcome 0 x)
+        (λ i t _ l p. either (λ (u : Tried A). P (u .value)) (eqb (t .refusal) 0) (f i (t .value)) t (keeps i (t .value) l p) p)
