@@ -4,6 +4,7 @@ mod list;
 mod ranges;
 mod functions;
 mod sheets;
+mod particles;
 mod systems;
 
 use libc::STDOUT_FILENO;
@@ -20,7 +21,11 @@ const D_S: u64 = 6;
 const SPECIFIC_AREA: u64 = 7;
 const OCP: u64 = 8;
 const SPHERE_VOLUME: u64 = 9;
-const SOLVE_DENSE: u64 = 10;
+const PARTICLE_NEW: u64 = 10;
+const PARTICLE_STEP: u64 = 11;
+const PARTICLE_DT_STABLE: u64 = 12;
+const PARTICLE_NUMBERS: u64 = 13;
+const SOLVE_DENSE: u64 = 14;
 
 fn line(which: u64, fd: i32) -> u64 {
     match which {
@@ -34,6 +39,10 @@ fn line(which: u64, fd: i32) -> u64 {
         SPECIFIC_AREA => sheets::area_line(fd),
         OCP => sheets::ocp_line(fd),
         SPHERE_VOLUME => sheets::volume_line(fd),
+        PARTICLE_NEW => particles::new_line(fd),
+        PARTICLE_STEP => particles::step_line(fd),
+        PARTICLE_DT_STABLE => particles::dt_stable_line(fd),
+        PARTICLE_NUMBERS => particles::number_line(fd),
         SOLVE_DENSE => systems::line(fd),
         _ => OVER,
     }
@@ -79,5 +88,9 @@ fn main() {
     replay(SPECIFIC_AREA, b"specific_area.txt");
     replay(OCP, b"ocp.txt");
     replay(SPHERE_VOLUME, b"sphere_volume.txt");
+    replay(PARTICLE_NEW, b"particle_new.txt");
+    replay(PARTICLE_STEP, b"particle_step.txt");
+    replay(PARTICLE_DT_STABLE, b"particle_dt_stable.txt");
+    replay(PARTICLE_NUMBERS, b"particle_numbers.txt");
     replay(SOLVE_DENSE, b"solve_dense.txt");
 }

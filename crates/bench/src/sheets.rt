@@ -40,6 +40,23 @@ pub(crate) fn is_sheet(fd: i32, chemistry: u64, p: ElectrodeParams) -> bool {
         & is_f64(fd, p.k_bv)
 }
 
+fn same(a: f64, b: f64) -> bool {
+    words::to_bits(a) == words::to_bits(b)
+}
+
+pub(crate) fn same_sheet(a: ElectrodeParams, b: ElectrodeParams) -> bool {
+    (a.electrode_type == b.electrode_type)
+        & same(a.r_particle, b.r_particle)
+        & same(a.d_s_ref, b.d_s_ref)
+        & same(a.c_s_max, b.c_s_max)
+        & same(a.theta_init, b.theta_init)
+        & same(a.thickness, b.thickness)
+        & same(a.epsilon_s, b.epsilon_s)
+        & same(a.area, b.area)
+        & same(a.e_a_ds, b.e_a_ds)
+        & same(a.k_bv, b.k_bv)
+}
+
 pub(crate) fn ready_line(fd: i32) -> u64 {
     let first = next_word(fd);
     if first.end == 0 {

@@ -1,6 +1,8 @@
 -- What the answer of a call that gives a number says, in document 01's terms: the number of the refusal and no value, or 0 and the value.
--- Definitions only.
+-- Definitions, and one law. Assumes nothing.
 use Prim.Native.Nat.{ℕ}
+use mathlib.Core.Path.{_≡_}
+use borrow.Author.Tests.{ne-eqb}
 use mathlib.Core.Bool.{cond}
 use mathlib.Core.List.{List, [], _∷_}
 use lib.Dec.{eqb}
@@ -26,3 +28,8 @@ outcome n x = cond (eqb n 0) (record { number = 0; values = x ∷ [] }) (record 
 -- the same where 8 is still to be tested: "the returned number would hold a NaN or infinity"
 abbrev pub finiteOutcome : ℕ → Float → Said
 finiteOutcome n x = outcome (firstMet n (refusalUnless (finite x) notFinite)) x
+
+-- beside a refusal the value does not matter
+pub refused-outcome : (k : ℕ) (x y : Float) → (k ≡ 0 → ⊥) → finiteOutcome k x ≡ finiteOutcome k y
+unfolding outcome firstMet
+refused-outcome k x y h = rw (ne-eqb k 0 h, ne-eqb k 0 h)

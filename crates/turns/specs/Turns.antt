@@ -33,6 +33,11 @@ allBelow zero f = true
 allBelow (suc k) f = allBelow k f && f k
 
 module _ {A : Type 0} (f : ℕ → A) (l : List A) where
+  -- the last turn
+  pub first-suc : (n k : ℕ) → n ≡ suc k → firstBy n f l ≡ set (firstBy k f l) k (f k)
+  unfolding firstBy
+  first-suc n k e = rw e
+
   pub first-length : (k : ℕ) → length (firstBy k f l) ≡ length l
   unfolding firstBy
   first-length zero = refl
@@ -54,6 +59,18 @@ module _ {A : Type 0} (f : ℕ → A) (l : List A) where
   unfolding firstBy
   first-above zero i d h = refl
   first-above (suc k) i d h = rw (getD-set-other (firstBy k f l) k i (f k) d (ne-of-gt h)) (first-above k i d (omega arith))
+
+-- places that are made alike
+pub first-cong : {A : Type 0} (f g : ℕ → A) (l : List A) (k : ℕ) → ((i : ℕ) → i < k → f i ≡ g i) → firstBy k f l ≡ firstBy k g l
+unfolding firstBy
+first-cong f g l zero h = refl
+first-cong f g l (suc k) h = rw (first-cong f g l k (λ i q. h i (omega arith)), h k (omega arith))
+
+-- steps that are made alike
+pub times-cong : {A : Type 0} (f g : A → A) (k : ℕ) → ((x : A) → f x ≡ g x) → (x : A) → times k f x ≡ times k g x
+unfolding times
+times-cong f g zero h x = refl
+times-cong f g (suc k) h x = rw (times-cong f g k h x) (h (times k g x))
 
 module _ (f : ℕ → Bool) where
   -- what holds below k holds of each such number

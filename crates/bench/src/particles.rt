@@ -1,0 +1,121 @@
+// The lists of the particle's calls.
+use crate::list::{next_word, next_u64, next_f64, is_answer, verdict, OVER};
+use crate::sheets::{next_sheet, same_sheet};
+use electrode::ElectrodeParams;
+use particle::{ParticleAnswer, ParticleDiffusion};
+
+// A profile: how many places are listed, then these; the others are +0.
+pub(crate) fn next_places(fd: i32) -> [f64; 64] {
+    let listed = next_u64(fd);
+    let mut c = [0.0; 64];
+    for i in 0..64 {
+        if (i as u64) < listed {
+            c[i] = next_f64(fd);
+        }
+    }
+    c
+}
+
+// Whether the next profile is c, by its bits.
+pub(crate) fn is_places(fd: i32, c: [f64; 64]) -> bool {
+    let listed = next_u64(fd);
+    let mut same = true;
+    for i in 0..64 {
+        let mut expected: u64 = 0;
+        if (i as u64) < listed {
+            expected = next_u64(fd);
+        }
+        same = same & (words::to_bits(c[i]) == expected);
+    }
+    same
+}
+
+fn same_places(a: [f64; 64], b: [f64; 64]) -> bool {
+    let mut same = true;
+    for i in 0..64 {
+        same = same & (words::to_bits(a[i]) == words::to_bits(b[i]));
+    }
+    same
+}
+
+pub(crate) fn same_particle(a: ParticleDiffusion, b: ParticleDiffusion) -> bool {
+    let p = a.params;
+    let q = b.params;
+    let c = a.c_s;
+    let d = b.c_s;
+    same_sheet(p, q) & (a.n_nodes == b.n_nodes) & same_places(c, d)
+}
+
+// A particle whose chemistry is read already.
+pub(crate) fn next_particle(fd: i32, electrode_type: u64) -> ParticleDiffusion {
+    let params = next_sheet(fd, electrode_type);
+    let n_nodes = next_u64(fd) as usize;
+    let c_s = next_places(fd);
+    ParticleDiffusion { params, n_nodes, c_s }
+}
+
+// Whether the next answer is a: of an accepted call the profile beside the old fields, of a refused one the particle as it was.
+fn is_particle_answer(fd: i32, before: ParticleDiffusion, a: ParticleAnswer) -> bool {
+    let number = next_u64(fd);
+    let p = a.particle;
+    if number != 0 {
+        return (a.refusal == number) & same_particle(before, p);
+    }
+    let c_s = p.c_s;
+    let params = p.params;
+    let old = before.params;
+    (a.refusal == 0) & same_sheet(params, old) & (p.n_nodes == before.n_nodes) & is_places(fd, c_s)
+}
+
+pub(crate) fn new_line(fd: i32) -> u64 {
+    let first = next_word(fd);
+    if first.end == 0 {
+        return OVER;
+    }
+    let params = next_sheet(fd, first.value);
+    let n = next_u64(fd) as usize;
+    let number = next_u64(fd);
+    let a = ParticleDiffusion::new(params, n);
+    let p = a.particle;
+    let c_s = p.c_s;
+    let made = p.params;
+    if number != 0 {
+        return verdict((a.refusal == number) & (p.n_nodes == 0) & (words::to_bits(c_s[0]) == 0));
+    }
+    verdict((a.refusal == 0) & same_sheet(made, params) & (p.n_nodes == n) & is_places(fd, c_s))
+}
+
+pub(crate) fn step_line(fd: i32) -> u64 {
+    let first = next_word(fd);
+    if first.end == 0 {
+        return OVER;
+    }
+    let p = next_particle(fd, first.value);
+    let j_n = next_f64(fd);
+    let dt = next_f64(fd);
+    let temp_k = next_f64(fd);
+    verdict(is_particle_answer(fd, p, p.step(j_n, dt, temp_k)))
+}
+
+pub(crate) fn dt_stable_line(fd: i32) -> u64 {
+    let first = next_word(fd);
+    if first.end == 0 {
+        return OVER;
+    }
+    let p = next_particle(fd, first.value);
+    let temp_k = next_f64(fd);
+    verdict(is_answer(fd, p.dt_stable(temp_k)))
+}
+
+pub(crate) fn number_line(fd: i32) -> u64 {
+    let first = next_word(fd);
+    if first.end == 0 {
+        return OVER;
+    }
+    let p = next_particle(fd, first.value);
+    let surface = is_answer(fd, p.theta_surface());
+    let average = is_answer(fd, p.theta_avg());
+    let concentration = is_answer(fd, p.c_avg());
+    let potential = is_answer(fd, p.ocp_surface());
+    verdict(surface & average & concentration & potential)
+}

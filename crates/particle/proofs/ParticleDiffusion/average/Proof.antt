@@ -1,0 +1,30 @@
+-- `particle::ParticleDiffusion::average` meets its contract: the two sums are those of the definition. Assumes nothing.
+use mathlib.Core.Path.{_≡_}
+use Rattle.profile.specs.Sums.{sumsAfter}
+use Rattle.particle.specs.Particle.{spacing, average-by}
+use borrow.Author.Needs.{needs}
+use Rattle.particle.proofs.ParticleDiffusion.average.Statement.{statement}
+use Rattle.particle.proofs.ParticleDiffusion.average.Tie as tie
+
+spacing-requires : tie.Need-spacing-requires
+spacing-requires c κs = search needs
+
+sums-of-requires : tie.Need-sums-of-requires
+sums-of-requires c κs = search needs
+
+array-read-result : tie.Need-array-read-result
+array-read-result c = search needs
+
+returns : tie.Need-returns
+returns c = let p = c .before .before .before .before .before .args .self in
+    let e : c .before .before .sums-of .result ≡ sumsAfter (p .«c_s») (p .«n_nodes») (spacing p) (p .«n_nodes») = rw (c .before .before .sums-of .ensures, c .before .before .before .before .spacing .ensures) in
+    rw (average-by p (c .before .before .sums-of .result) e, c .if1 .taken)
+
+returns-2 : tie.Need-returns-2
+returns-2 c = let p = c .before .before .before .before .before .before .args .self in
+    let e : c .before .before .before .sums-of .result ≡ sumsAfter (p .«c_s») (p .«n_nodes») (spacing p) (p .«n_nodes») = rw (c .before .before .before .sums-of .ensures, c .before .before .before .before .before .spacing .ensures) in
+    rw (average-by p (c .before .before .before .sums-of .result) e, c .before .if1 .left, c .before .before .before .before .before .spacing .ensures)
+
+pub average-spec : {M : Type 1} → statement M
+average-spec =
+    tie.close (tie.spec spacing-requires sums-of-requires array-read-result returns returns-2)

@@ -1,0 +1,66 @@
+-- `particle::ParticleDiffusion::dt_stable` meets its contract. Assumes nothing.
+use mathlib.Core.Path.{_≡_, sym, _∙_}
+use Rattle.refusal.specs.Numbers.{firstMet, refusalUnless, none-met, temperature}
+use Rattle.refusal.specs.Ranges.{temperatureFits}
+use Rattle.binary64.specs.Operators.{f64}
+use Rattle.refusal.specs.Answers.{refused-outcome}
+use Rattle.electrode.specs.Sheet.{diffusivityAt}
+use Rattle.particle.specs.Checks.{particleRefusal, nodes-of}
+use Rattle.particle.specs.Particle.{stableStep}
+use Rattle.particle.specs.Calls.{dtStable}
+use borrow.Author.Needs.{needs}
+use Rattle.particle.proofs.ParticleDiffusion.dt_stable.Statement.{statement}
+use Rattle.particle.proofs.ParticleDiffusion.dt_stable.Tie as tie
+
+temperature-fits-requires : tie.Need-temperature-fits-requires
+temperature-fits-requires c κs = search needs
+
+refusal-unless-requires : tie.Need-refusal-unless-requires
+refusal-unless-requires c κs = search needs
+
+refusal-requires : tie.Need-refusal-requires
+refusal-requires c κs = search needs
+
+first-met-requires : tie.Need-first-met-requires
+first-met-requires c κs = search needs
+
+answered-requires : tie.Need-answered-requires
+answered-requires c κs = search needs
+
+returns : tie.Need-returns
+unfolding dtStable
+returns c = let a = c .before .before .before .before .before .before .args in
+    let e : c .before .before .first-met .result ≡ firstMet (particleRefusal (a .self)) (refusalUnless (temperatureFits (a .temp-k)) temperature) = cc in
+    rw (← e, c .answered .ensures) (refused-outcome _ (f64 0) (stableStep (a .self) (diffusivityAt (a .self .params) (a .temp-k))) (c .before .if1 .taken))
+
+diffusivity-at-requires : tie.Need-diffusivity-at-requires
+diffusivity-at-requires c κs = search needs
+
+stable-step-requires : tie.Need-stable-step-requires
+stable-step-requires c κs = let a = c .before .before .before .before .before .before .before .args in
+    let e : firstMet (particleRefusal (a .self)) (refusalUnless (temperatureFits (a .temp-k)) temperature) ≡ 0 = cc in
+    nodes-of (a .self) (none-met _ _ e .0)
+
+answered-requires-2 : tie.Need-answered-requires-2
+answered-requires-2 c κs = search needs
+
+returns-2 : tie.Need-returns-2
+unfolding dtStable
+returns-2 c = let a = c .before .before .before .before .before .before .before .before .before .args in
+    let e : c .before .before .before .before .before .first-met .result ≡ firstMet (particleRefusal (a .self)) (refusalUnless (temperatureFits (a .temp-k)) temperature) = cc in
+    rw (← e, c .answered2 .ensures, c .before .stable-step .ensures, c .before .before .diffusivity-at .ensures)
+
+pub dt-stable-spec : {M : Type 1} → statement M
+dt-stable-spec =
+    tie.close
+    (tie.spec
+    temperature-fits-requires
+    refusal-unless-requires
+    refusal-requires
+    first-met-requires
+    answered-requires
+    returns
+    diffusivity-at-requires
+    stable-step-requires
+    answered-requires-2
+    returns-2)

@@ -1,0 +1,59 @@
+-- `particle::ParticleDiffusion::new` meets its contract. Assumes nothing.
+use mathlib.Core.Path.{_≡_}
+use borrow.Author.Tests.{eq-eqb, ne-eqb}
+use Rattle.refusal.specs.Numbers.{none-met}
+use Rattle.particle.specs.Checks.{nodes-met}
+use Rattle.particle.specs.Calls.{newRefusal, fresh, made}
+use borrow.Author.Needs.{needs}
+use Rattle.particle.proofs.ParticleDiffusion.new.Statement.{statement}
+use Rattle.particle.proofs.ParticleDiffusion.new.Tie as tie
+
+count-within-requires : tie.Need-count-within-requires
+count-within-requires c κs = search needs
+
+refusal-unless-requires : tie.Need-refusal-unless-requires
+refusal-unless-requires c κs = search needs
+
+fits-requires : tie.Need-fits-requires
+fits-requires c κs = search needs
+
+refusal-unless-requires-2 : tie.Need-refusal-unless-requires-2
+refusal-unless-requires-2 c κs = search needs
+
+first-met-requires : tie.Need-first-met-requires
+first-met-requires c κs = search needs
+
+no-particle-requires : tie.Need-no-particle-requires
+no-particle-requires c κs = search needs
+
+returns : tie.Need-returns
+unfolding made newRefusal
+returns c = let a = c .before .before .before .before .before .before .before .args in
+    let e : c .before .before .first-met .result ≡ newRefusal (a .params) (a .n-nodes) = cc in
+    rw (← e, ne-eqb _ _ (c .before .if1 .taken), c .no-particle .ensures)
+
+uniform-requires : tie.Need-uniform-requires
+unfolding newRefusal
+uniform-requires c κs = let a = c .before .before .before .before .before .before .before .args in
+    let e : newRefusal (a .params) (a .n-nodes) ≡ 0 = cc in
+    nodes-met (a .n-nodes) (none-met _ _ e .0) .1
+
+returns-2 : tie.Need-returns-2
+unfolding made newRefusal fresh
+returns-2 c = let a = c .before .before .before .before .before .before .before .before .args in
+    let e : c .before .before .before .first-met .result ≡ newRefusal (a .params) (a .n-nodes) = cc in
+    rw (← e, eq-eqb _ _ (c .before .before .if1 .left), c .uniform .ensures)
+
+pub new-spec : {M : Type 1} → statement M
+new-spec =
+    tie.close
+    (tie.spec
+    count-within-requires
+    refusal-unless-requires
+    fits-requires
+    refusal-unless-requires-2
+    first-met-requires
+    no-particle-requires
+    returns
+    uniform-requires
+    returns-2)

@@ -1,0 +1,41 @@
+-- `particle::ParticleDiffusion::theta_surface` meets its contract. Assumes nothing.
+use mathlib.Core.Path.{sym, _∙_}
+use Rattle.binary64.specs.Operators.{f64}
+use Rattle.refusal.specs.Answers.{refused-outcome}
+use Rattle.particle.specs.Checks.{nodes-of}
+use Rattle.particle.specs.Particle.{surfaceTheta}
+use Rattle.particle.specs.Calls.{thetaSurface}
+use borrow.Author.Needs.{needs}
+use Rattle.particle.proofs.ParticleDiffusion.theta_surface.Statement.{statement}
+use Rattle.particle.proofs.ParticleDiffusion.theta_surface.Tie as tie
+
+refusal-requires : tie.Need-refusal-requires
+refusal-requires c κs = search needs
+
+answered-requires : tie.Need-answered-requires
+answered-requires c κs = search needs
+
+returns : tie.Need-returns
+unfolding thetaSurface
+returns c = rw (← c .before .before .refusal .ensures, c .answered .ensures) (refused-outcome _ (f64 0) (surfaceTheta (c .before .before .before .args .self)) (c .before .if1 .taken))
+
+surface-theta-requires : tie.Need-surface-theta-requires
+surface-theta-requires c κs = nodes-of (c .before .before .args .self) (sym (c .before .refusal .ensures) ∙ c .if1 .left)
+
+answered-requires-2 : tie.Need-answered-requires-2
+answered-requires-2 c κs = search needs
+
+returns-2 : tie.Need-returns-2
+unfolding thetaSurface
+returns-2 c = rw (c .answered2 .ensures, c .before .before .before .refusal .ensures, c .before .surface-theta .ensures)
+
+pub theta-surface-spec : {M : Type 1} → statement M
+theta-surface-spec =
+    tie.close
+    (tie.spec
+    refusal-requires
+    answered-requires
+    returns
+    surface-theta-requires
+    answered-requires-2
+    returns-2)

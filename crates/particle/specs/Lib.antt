@@ -1,0 +1,9 @@
+-- A particle and the diffusion in it, from document 01 and electrode.rs.
+--
+-- Checks: what a particle that is handed in is checked for.
+-- Particle: spacing, stoichiometries, average, stable interval.
+-- Calls: what each public call answers, refusals included. `stepped` is what the third demand folds.
+pub mod Checks
+pub mod Particle
+pub mod Calls
+pub mod Literals

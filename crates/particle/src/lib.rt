@@ -1,0 +1,246 @@
+// A particle of an electrode and the diffusion in it. A changed translation of src/battery/p2d/electrode.rs (its
+// `ParticleDiffusion`). The spacing of the nodes is worked out; what does not change within a call is worked out once.
+use electrode::ElectrodeParams;
+use profile::{profile_finite, profile_fits, sums_of, uniform};
+use refusal::Answer;
+use sub_step::{count_f64, inverse_radii, prepare, sub_steps};
+
+ghost use mathlib.Core.Path.{_≡_};
+ghost use Prim.Native.Nat.{_≤_};
+ghost use Rattle.refusal.specs.Answers.{said};
+ghost use Rattle.turns.specs.Turns.{times};
+ghost use Rattle.diffusion.specs.SubStep.{subStep};
+ghost use Rattle.particle.specs.Checks.{fieldsFit, particleRefusal};
+ghost use Rattle.particle.specs.Particle.{spacing, driveWith, surfaceTheta, surfacePotential, stableStep, average, averageTheta};
+ghost use Rattle.particle.specs.Calls.{fresh, noParticle, made, stepRefusal, accepted, stepped, dtStable, thetaSurface, thetaAvg, cAvg, ocpSurface};
+
+pub struct ParticleDiffusion {
+    pub params: ElectrodeParams,
+    // How many nodes: 0 is the centre, n_nodes - 1 the surface.
+    pub n_nodes: usize,
+    // Concentration of lithium at each node, mol/m^3; the places from n_nodes on are +0.
+    pub c_s: [f64; 64],
+}
+
+// A particle, and 0 or the number of the refusal.
+pub struct ParticleAnswer {
+    pub refusal: u64,
+    pub particle: ParticleDiffusion,
+}
+
+impl ParticleDiffusion {
+    // ---- parts of a particle that fits
+
+    // Whether the sheet and the profile are as they must be.
+    pub fn fields_fit(self) -> bool
+        ensures { λ r. ⌜ r ≡ fieldsFit self ⌝ }
+    {
+        let params = self.params;
+        let c_s = self.c_s;
+        params.fits() & profile_fits(c_s, self.n_nodes, params.c_s_max)
+    }
+
+    // The number of the table that the particle meets, 0 for none.
+    pub fn refusal(self) -> u64
+        ensures { λ r. ⌜ r ≡ particleRefusal self ⌝ }
+    {
+        let few = refusal::refusal_unless(refusal::count_within(self.n_nodes as u64, 3, 64), refusal::GRID);
+        refusal::first_met(few, refusal::refusal_unless(self.fields_fit(), refusal::SHEET))
+    }
+
+    // The distance between two nodes.
+    pub fn spacing(self) -> f64
+        requires { ⌜ (3 ≤ self .«n_nodes») × (self .«n_nodes» ≤ 64) ⌝ }
+        ensures { λ r. ⌜ r ≡ spacing self ⌝ }
+    {
+        self.params.r_particle / count_f64(self.n_nodes - 1)
+    }
+
+    // The stoichiometry at the surface.
+    pub fn surface_theta(self) -> f64
+        requires { ⌜ (3 ≤ self .«n_nodes») × (self .«n_nodes» ≤ 64) ⌝ }
+        ensures { λ r. ⌜ r ≡ surfaceTheta self ⌝ }
+    {
+        let last = self.n_nodes - 1;
+        self.c_s[last] / self.params.c_s_max
+    }
+
+    // The open-circuit potential at the surface.
+    pub fn surface_potential(self) -> f64
+        requires { ⌜ (3 ≤ self .«n_nodes») × (self .«n_nodes» ≤ 64) ⌝ }
+        ensures { λ r. ⌜ r ≡ surfacePotential self ⌝ }
+    {
+        let params = self.params;
+        params.open_circuit(self.surface_theta())
+    }
+
+    // The longest stable interval at a diffusivity.
+    pub fn stable_step(self, d_s: f64) -> f64
+        requires { ⌜ (3 ≤ self .«n_nodes») × (self .«n_nodes» ≤ 64) ⌝ }
+        ensures { λ r. ⌜ r ≡ stableStep self «d_s» ⌝ }
+    {
+        let dr = self.spacing();
+        0.5 * dr * dr / d_s
+    }
+
+    // The average concentration.
+    pub fn average(self) -> f64
+        requires { ⌜ (3 ≤ self .«n_nodes») × (self .«n_nodes» ≤ 64) ⌝ }
+        ensures { λ r. ⌜ r ≡ average self ⌝ }
+    {
+        let r_max = self.params.r_particle;
+        let dr = self.spacing();
+        let c_s = self.c_s;
+        let s = sums_of(c_s, self.n_nodes, dr);
+        if s.shares < 1e-30 {
+            return c_s[0];
+        }
+        3.0 * s.content / (r_max * r_max * r_max) * dr / 3.0
+    }
+
+    // The average stoichiometry.
+    pub fn average_theta(self) -> f64
+        requires { ⌜ (3 ≤ self .«n_nodes») × (self .«n_nodes» ≤ 64) ⌝ }
+        ensures { λ r. ⌜ r ≡ averageTheta self ⌝ }
+    {
+        self.average() / self.params.c_s_max
+    }
+
+    // The profile after so many sub-steps of the length dt.
+    pub fn after(self, d_s: f64, j_n: f64, dt: f64, turns: usize) -> [f64; 64]
+        requires { ⌜ (3 ≤ self .«n_nodes») × (self .«n_nodes» ≤ 64) ⌝ }
+        ensures { λ r. ⌜ r ≡ times turns (subStep (driveWith self «d_s» «j_n» dt)) (self .«c_s») ⌝ }
+    {
+        let n = self.n_nodes;
+        let dr = self.spacing();
+        let v = prepare(n, dr, d_s, self.params.c_s_max, j_n, dt);
+        let w = inverse_radii(n, dr);
+        let c_s = self.c_s;
+        sub_steps(v, &w, c_s, turns)
+    }
+
+    // ---- calls
+
+    // A particle with the same stoichiometry at all nodes.
+    pub fn new(params: ElectrodeParams, n_nodes: usize) -> ParticleAnswer
+        ensures { λ r. ⌜ r ≡ made params «n_nodes» ⌝ }
+    {
+        let few = refusal::refusal_unless(refusal::count_within(n_nodes as u64, 3, 64), refusal::GRID);
+        let refusal = refusal::first_met(few, refusal::refusal_unless(params.fits(), refusal::SHEET));
+        if refusal != 0 {
+            return ParticleAnswer { refusal, particle: no_particle() };
+        }
+        let c_s = uniform(params.theta_init * params.c_s_max, n_nodes);
+        ParticleAnswer { refusal: 0, particle: ParticleDiffusion { params, n_nodes, c_s } }
+    }
+
+    // The number of the table that a step meets before it is made.
+    pub fn step_refusal(self, j_n: f64, dt: f64, temp_k: f64) -> u64
+        ensures { λ r. ⌜ r ≡ stepRefusal self «j_n» dt «temp_k» ⌝ }
+    {
+        let load = refusal::refusal_unless(refusal::load_fits(j_n, 1e13), refusal::LOAD);
+        let interval = refusal::refusal_unless(refusal::interval_fits(dt), refusal::INTERVAL);
+        let temperature = refusal::refusal_unless(refusal::temperature_fits(temp_k), refusal::TEMPERATURE);
+        refusal::first_met(self.refusal(), refusal::first_met(load, refusal::first_met(interval, temperature)))
+    }
+
+    // The particle with a new profile, or 8 and the particle as it was.
+    fn accepted(self, c_s: [f64; 64]) -> ParticleAnswer
+        ensures { λ r. ⌜ r ≡ accepted self «c_s» ⌝ }
+    {
+        if profile_finite(c_s) {
+            let params = self.params;
+            return ParticleAnswer { refusal: 0, particle: ParticleDiffusion { params, n_nodes: self.n_nodes, c_s } };
+        }
+        ParticleAnswer { refusal: refusal::NOT_FINITE, particle: self }
+    }
+
+    // One explicit step: a flux into the particle, mol/(m^2 s), for an interval in s at a temperature in K.
+    pub fn step(self, j_n: f64, dt: f64, temp_k: f64) -> ParticleAnswer
+        ensures { λ r. ⌜ r ≡ stepped self «j_n» dt «temp_k» ⌝ }
+    {
+        let refusal = self.step_refusal(j_n, dt, temp_k);
+        if refusal != 0 {
+            return ParticleAnswer { refusal, particle: self };
+        }
+        let params = self.params;
+        let c_s = self.after(params.diffusivity_at(temp_k), j_n, dt, 1);
+        self.accepted(c_s)
+    }
+
+    // The longest stable interval at a temperature, s.
+    pub fn dt_stable(self, temp_k: f64) -> Answer
+        ensures { λ r. ⌜ said r ≡ dtStable self «temp_k» ⌝ }
+    {
+        let temperature = refusal::refusal_unless(refusal::temperature_fits(temp_k), refusal::TEMPERATURE);
+        let number = refusal::first_met(self.refusal(), temperature);
+        if number != 0 {
+            return refusal::answered(number, 0.0);
+        }
+        let params = self.params;
+        refusal::answered(number, self.stable_step(params.diffusivity_at(temp_k)))
+    }
+
+    // Stoichiometry at the surface.
+    pub fn theta_surface(self) -> Answer
+        ensures { λ r. ⌜ said r ≡ thetaSurface self ⌝ }
+    {
+        let number = self.refusal();
+        if number != 0 {
+            return refusal::answered(number, 0.0);
+        }
+        refusal::answered(number, self.surface_theta())
+    }
+
+    // Average stoichiometry.
+    pub fn theta_avg(self) -> Answer
+        ensures { λ r. ⌜ said r ≡ thetaAvg self ⌝ }
+    {
+        let number = self.refusal();
+        if number != 0 {
+            return refusal::answered(number, 0.0);
+        }
+        refusal::answered(number, self.average_theta())
+    }
+
+    // Average concentration, mol/m^3.
+    pub fn c_avg(self) -> Answer
+        ensures { λ r. ⌜ said r ≡ cAvg self ⌝ }
+    {
+        let number = self.refusal();
+        if number != 0 {
+            return refusal::answered(number, 0.0);
+        }
+        refusal::answered(number, self.average())
+    }
+
+    // Open-circuit potential at the surface, V.
+    pub fn ocp_surface(self) -> Answer
+        ensures { λ r. ⌜ said r ≡ ocpSurface self ⌝ }
+    {
+        let number = self.refusal();
+        if number != 0 {
+            return refusal::answered(number, 0.0);
+        }
+        refusal::answered(number, self.surface_potential())
+    }
+}
+
+// The particle beside a refused build: every number +0, every count 0.
+pub fn no_particle() -> ParticleDiffusion
+    ensures { λ r. ⌜ r ≡ noParticle ⌝ }
+{
+    let params = ElectrodeParams {
+        electrode_type: 0,
+        r_particle: 0.0,
+        d_s_ref: 0.0,
+        c_s_max: 0.0,
+        theta_init: 0.0,
+        thickness: 0.0,
+        epsilon_s: 0.0,
+        area: 0.0,
+        e_a_ds: 0.0,
+        k_bv: 0.0,
+    };
+    ParticleDiffusion { params, n_nodes: 0, c_s: [0.0; 64] }
+}

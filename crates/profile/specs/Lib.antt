@@ -1,0 +1,9 @@
+-- The profile of a particle, from document 01 and electrode.rs.
+--
+-- Places: what the places are checked for, and a uniform profile.
+-- Weights: the weights of the average and its two sums.
+-- Sums: the two sums made in one loop.
+pub mod Places
+pub mod Weights
+pub mod Sums
+pub mod Literals

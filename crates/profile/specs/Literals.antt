@@ -1,0 +1,15 @@
+-- Each literal of this crate's definitions is its decimal, rounded once. Assumes nothing.
+use mathlib.Core.List.{[], _∷_}
+use lib.Dec.{T}
+use lib.Ieee.{round, toBits}
+use Rattle.binary64.specs.Decimal.{literal, areDecimals}
+
+pub literals : T (areDecimals
+    (
+    literal 0 0 0 ∷  -- 0
+    literal 0x3ff0_0000_0000_0000 1 0 ∷  -- 1
+    literal 0x4000_0000_0000_0000 2 0 ∷  -- 2
+    literal 0x4010_0000_0000_0000 4 0 ∷  -- 4
+    []))
+unfolding areDecimals round toBits
+literals = tt

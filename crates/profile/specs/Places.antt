@@ -1,0 +1,25 @@
+-- The places of a profile. Definitions only.
+use Prim.Native.Nat.{ℕ}
+use mathlib.Core.Bool.{Bool, cond}
+use mathlib.Core.List.{List}
+use lib.Dec.{ltb}
+use lib.ListN.{getD, replicate}
+use lib.Ieee.{Float, nan}
+use Rattle.binary64.specs.Operators.{f64}
+use Rattle.refusal.specs.Ranges.{inRange, finite, plusZero}
+use Rattle.turns.specs.Turns.{firstBy, allBelow}
+
+-- a used place is in 0 to the sheet's largest concentration, an unused one is +0 by its bits
+unfoldable pub placeFits : Float → Bool → Float → Bool
+placeFits x used cmax = cond used (inRange x (f64 0) cmax) (plusZero x)
+
+unfoldable pub profileFits : List Float → ℕ → Float → Bool
+profileFits c n cmax = allBelow 64 (λ i. placeFits (getD c i nan) (ltb i n) cmax)
+
+-- every place a number
+unfoldable pub finiteProfile : List Float → Bool
+finiteProfile c = allBelow 64 (λ i. finite (getD c i nan))
+
+-- the first n places x, the others +0
+unfoldable pub filled : Float → ℕ → List Float
+filled x n = firstBy n (λ i. x) (replicate 64 (f64 0))

@@ -1,0 +1,24 @@
+-- The two sums of the average, place by place together. Definitions, then that they are the two sums. Assumes nothing.
+use Prim.Native.Nat.{ℕ, zero, suc}
+use mathlib.Core.Path.{_≡_, refl, ap}
+use mathlib.Core.List.{List}
+use lib.ListN.{getD}
+use lib.Ieee.{Float, nan}
+use Rattle.binary64.specs.Operators.{_⊕_, _⊗_, f64}
+use Rattle.profile.specs.Weights.{share, shares, content}
+use Rattle.profile.specs.declared.Sums.{Sums}
+
+abbrev pub bothSums : Float → Float → Sums
+bothSums s c = record { shares = s; content = c }
+
+abbrev pub addedTo : Sums → ℕ → Float → ℕ → Float → Sums
+addedTo s n dr i c = bothSums (s .shares ⊕ share n dr i) (s .content ⊕ share n dr i ⊗ c)
+
+unfoldable pub sumsAfter : List Float → ℕ → Float → ℕ → Sums
+sumsAfter c n dr zero = bothSums (f64 0) (f64 0)
+sumsAfter c n dr (suc k) = addedTo (sumsAfter c n dr k) n dr k (getD c k nan)
+
+pub sums-are : (c : List Float) (n : ℕ) (dr : Float) (k : ℕ) → sumsAfter c n dr k ≡ bothSums (shares n dr k) (content n dr (λ i. getD c i nan) k)
+unfolding sumsAfter shares content
+sums-are c n dr zero = refl
+sums-are c n dr (suc k) = ap (λ (s : Sums). addedTo s n dr k (getD c k nan)) (sums-are c n dr k)

@@ -1,0 +1,134 @@
+// One sub-step of the diffusion in a particle: the profile anew from the old one, by the explicit scheme. A changed
+// translation of src/battery/p2d/electrode.rs (`ParticleDiffusion::step`).
+
+ghost use mathlib.Core.Path.{_≡_};
+ghost use Prim.Native.Nat.{ℕ, _≤_, _<_, _-_};
+ghost use Rattle.binary64.specs.Operators.{count};
+ghost use Rattle.turns.specs.Turns.{times};
+ghost use Rattle.sub_step.specs.SubSteps.{prepared, inverseRadii, placesOf, centreBy, shellBy, movedBy, centreNode, shellNode, surfaceNode, subStepBy};
+
+// What does not change within a call.
+pub struct Drive {
+    pub n: usize,
+    // The diffusivity, and six times it.
+    pub d_s: f64,
+    pub six_d: f64,
+    // The spacing squared and twice the spacing.
+    pub dr_2: f64,
+    pub two_dr: f64,
+    // What the flux adds to the value beyond the surface.
+    pub push: f64,
+    pub c_max: f64,
+    pub dt: f64,
+}
+
+// The numbers of a call, of n nodes with the spacing dr.
+pub fn prepare(n: usize, dr: f64, d_s: f64, c_max: f64, j_n: f64, dt: f64) -> Drive
+    ensures { λ r. ⌜ r ≡ prepared n dr «d_s» «c_max» «j_n» dt ⌝ }
+{
+    Drive {
+        n,
+        d_s,
+        six_d: 6.0 * d_s,
+        dr_2: dr * dr,
+        two_dr: 2.0 * dr,
+        push: 2.0 * dr * j_n / d_s,
+        c_max,
+        dt,
+    }
+}
+
+// A count as a binary64, which holds it exactly.
+pub fn count_f64(n: usize) -> f64
+    requires { ⌜ n ≤ 64 ⌝ }
+    ensures { λ r. ⌜ r ≡ count n ⌝ }
+{
+    n as f64
+}
+
+// 2 / r for the radius r of each node but the centre's.
+pub fn inverse_radii(n: usize, dr: f64) -> [f64; 64]
+    requires { ⌜ n ≤ 64 ⌝ }
+    ensures { λ r. ⌜ r ≡ inverseRadii n dr ⌝ }
+{
+    let mut w = [0.0; 64];
+    for i in 0..n {
+        w[i] = 2.0 / (count_f64(i) * dr);
+    }
+    w
+}
+
+// The rate of change at the centre.
+fn centre_rate(v: Drive, c0: f64, c1: f64) -> f64
+    ensures { λ r. ⌜ r ≡ centreBy v c0 c1 ⌝ }
+{
+    v.six_d * (c1 - c0) / v.dr_2
+}
+
+// The rate of change at a node with w = 2 / r, between its neighbours.
+fn shell_rate(v: Drive, w: f64, before: f64, here: f64, after: f64) -> f64
+    ensures { λ r. ⌜ r ≡ shellBy v w before here after ⌝ }
+{
+    let d2c = (after - 2.0 * here + before) / v.dr_2;
+    let dc_dr = (after - before) / v.two_dr;
+    v.d_s * (d2c + w * dc_dr)
+}
+
+// A node after the sub-step.
+fn moved(v: Drive, here: f64, rate: f64) -> f64
+    ensures { λ r. ⌜ r ≡ movedBy v here rate ⌝ }
+{
+    elementary::clamp(here + v.dt * rate, 0.0, v.c_max)
+}
+
+// The centre after the sub-step.
+fn centre_node(v: Drive, c: &[f64; 64]) -> f64
+    ensures { λ r. ⌜ r ≡ centreNode v (placesOf (now (c .entry))) ⌝ }
+{
+    moved(v, c[0], centre_rate(v, c[0], c[1]))
+}
+
+// A node between the centre and the surface.
+fn shell_node(v: Drive, w: &[f64; 64], c: &[f64; 64], i: usize) -> f64
+    requires { ⌜ (0 < i) × (i < 63) ⌝ }
+    ensures { λ r. ⌜ r ≡ shellNode v (now (w .entry)) (placesOf (now (c .entry))) i ⌝ }
+{
+    moved(v, c[i], shell_rate(v, w[i], c[i - 1], c[i], c[i + 1]))
+}
+
+// The surface, which is node i: the flux gives it a neighbour outside.
+fn surface_node(v: Drive, w: &[f64; 64], c: &[f64; 64], i: usize) -> f64
+    requires { ⌜ (0 < i) × (i < 64) ⌝ }
+    ensures { λ r. ⌜ r ≡ surfaceNode v (now (w .entry)) (placesOf (now (c .entry))) i ⌝ }
+{
+    let inner = c[i - 1];
+    moved(v, c[i], shell_rate(v, w[i], inner, c[i], inner + v.push))
+}
+
+// The profile after a sub-step: all nodes from the old profile, the other places kept.
+pub fn sub_step(v: Drive, w: &[f64; 64], c: [f64; 64]) -> [f64; 64]
+    requires { ⌜ (3 ≤ v .n) × (v .n ≤ 64) ⌝ }
+    ensures { λ r. ⌜ r ≡ subStepBy v (now (w .entry)) c ⌝ }
+{
+    let last = v.n - 1;
+    let mut out = c;
+    out[0] = centre_node(v, &c);
+    for i in 1..last {
+        out[i] = shell_node(v, w, &c, i);
+    }
+    out[last] = surface_node(v, w, &c, last);
+    out
+}
+
+// The profile after so many sub-steps.
+pub fn sub_steps(v: Drive, w: &[f64; 64], c: [f64; 64], turns: usize) -> [f64; 64]
+    requires { ⌜ (3 ≤ v .n) × (v .n ≤ 64) ⌝ }
+    ensures { λ r. ⌜ r ≡ times turns (subStepBy v (now (w .entry))) c ⌝ }
+{
+    let mut out = c;
+    for k in 0..turns {
+        let next = sub_step(v, w, out);
+        out = next;
+    }
+    out
+}
