@@ -21,6 +21,6 @@ columnSolved a col x =
     cond (tiny (absOf (entry a col col))) (outcome singular x)
     (outcome 0 (forRange 0 col (takenOut a col) (set x col (at x col ⊘ entry a col col))))
 
--- `for col in (0..n).rev()`. Elimination leaves no pivot below 1e-14, so that no column refuses.
+-- `for col in (0..n).rev()`. A pivot's row is not touched after its column, so this second test should find nothing; no law relies on that.
 unfoldable pub substituted : List Float → ℕ → List Float → Tried (List Float)
 substituted a n x = tryRange n (λ k. columnSolved a (n - 1 - k)) x

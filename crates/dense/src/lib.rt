@@ -131,7 +131,7 @@ fn take_out(a: &[f64; 1024], x: &mut [f64; 32], col: usize)
     }
 }
 
-// From the last unknown to the first. SINGULAR where a pivot is below 1e-14, which elimination has left none of, else 0.
+// From the last unknown to the first. SINGULAR where a pivot is below 1e-14, else 0: the Rust's second test of the pivots.
 fn substitute(a: &[f64; 1024], x: &mut [f64; 32], n: usize) -> u64
     requires { ⌜ n ≤ 32 ⌝ }
     ensures { λ r. ⌜ outcome r (now (x .exit)) ≡ substituted (now (a .entry)) n (now (x .entry)) ⌝ }
