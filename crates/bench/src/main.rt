@@ -5,6 +5,7 @@ mod ranges;
 mod functions;
 mod sheets;
 mod particles;
+mod systems;
 
 use libc::STDOUT_FILENO;
 use list::{OVER, AGREES};
@@ -24,6 +25,7 @@ const PARTICLE_NEW: u64 = 10;
 const PARTICLE_STEP: u64 = 11;
 const PARTICLE_DT_STABLE: u64 = 12;
 const PARTICLE_NUMBERS: u64 = 13;
+const SOLVE_DENSE: u64 = 14;
 
 fn line(which: u64, fd: i32) -> u64 {
     match which {
@@ -41,6 +43,7 @@ fn line(which: u64, fd: i32) -> u64 {
         PARTICLE_STEP => particles::step_line(fd),
         PARTICLE_DT_STABLE => particles::dt_stable_line(fd),
         PARTICLE_NUMBERS => particles::number_line(fd),
+        SOLVE_DENSE => systems::line(fd),
         _ => OVER,
     }
 }
@@ -89,4 +92,5 @@ fn main() {
     replay(PARTICLE_STEP, b"particle_step.txt");
     replay(PARTICLE_DT_STABLE, b"particle_dt_stable.txt");
     replay(PARTICLE_NUMBERS, b"particle_numbers.txt");
+    replay(SOLVE_DENSE, b"solve_dense.txt");
 }

@@ -87,6 +87,12 @@ slice-aggregate-replay-14 c = search needs
 replay-requires-14 : tie.Need-replay-requires-14
 replay-requires-14 c κs = search needs
 
+slice-aggregate-replay-15 : tie.Need-slice-aggregate-replay-15
+slice-aggregate-replay-15 c = search needs
+
+replay-requires-15 : tie.Need-replay-requires-15
+replay-requires-15 c κs = search needs
+
 returns : tie.Need-returns
 returns c = search needs
 
@@ -122,4 +128,6 @@ main-spec =
     replay-requires-13
     slice-aggregate-replay-14
     replay-requires-14
+    slice-aggregate-replay-15
+    replay-requires-15
     returns)
