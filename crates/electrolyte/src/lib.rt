@@ -8,7 +8,7 @@ ghost use Rattle.refusal.specs.Answers.{said};
 ghost use Rattle.electrolyte.specs.Params.{paramsFit, lipf6EcDmc, atTemperature, diffusivityEff, conductivityEff};
 ghost use Rattle.electrolyte.specs.Profile.{total, countsFit, regionsFit, placeFits, profileFits, unfilled, noState, withProfile, uniformProfile, sumOf, averageOf, stableInterval};
 ghost use Rattle.electrolyte.specs.Step.{regionOf, driveOf, regionAt, leftOf, rightOf, nodeFrom, nodeNew, profileNew, allFinite};
-ghost use Rattle.electrolyte.specs.Calls.{counted, dE, kappaCall, dEEff, kappaEff, buildRefusal, stateRefusal, built, nTotal, cAvg, stepRefusal, stepped, dtStable};
+ghost use Rattle.electrolyte.specs.Calls.{counted, rateRefusal, dE, kappaCall, dEEff, kappaEff, buildRefusal, stateRefusal, built, nTotal, cAvg, stepRefusal, stepped, dtStable};
 
 pub struct ElectrolyteParams {
     // Diffusivity of the salt at the reference temperature, m^2/s.
@@ -32,6 +32,15 @@ fn at_temperature(at_ref: f64, e_a: f64, temp_k: f64) -> f64
     ensures { λ r. ⌜ r ≡ atTemperature «at_ref» «e_a» «temp_k» ⌝ }
 {
     at_ref * elementary::exp(e_a / 8.314 * (1.0 / 298.15 - 1.0 / temp_k))
+}
+
+// The number that a rate meets: 2 where the numbers that it is worked out from do not fit, then 5.
+fn rate_refusal(fits: bool, temp_k: f64) -> u64
+    ensures { λ r. ⌜ r ≡ rateRefusal fits «temp_k» ⌝ }
+{
+    let unfit = refusal::refusal_unless(fits, refusal::SHEET);
+    let out = refusal::refusal_unless(refusal::temperature_fits(temp_k), refusal::TEMPERATURE);
+    refusal::first_met(unfit, out)
 }
 
 impl ElectrolyteParams {
@@ -81,36 +90,30 @@ impl ElectrolyteParams {
     pub fn d_e(self, temp_k: f64) -> refusal::Answer
         ensures { λ r. ⌜ said r ≡ dE self «temp_k» ⌝ }
     {
-        let unfit = refusal::refusal_unless(self.fits(), refusal::SHEET);
-        let out = refusal::refusal_unless(refusal::temperature_fits(temp_k), refusal::TEMPERATURE);
-        refusal::answered(refusal::first_met(unfit, out), at_temperature(self.d_e_ref, self.e_a_de, temp_k))
+        refusal::answered(rate_refusal(self.fits(), temp_k), at_temperature(self.d_e_ref, self.e_a_de, temp_k))
     }
 
     // The conductivity corrected for the temperature, S/m.
     pub fn kappa(self, temp_k: f64) -> refusal::Answer
         ensures { λ r. ⌜ said r ≡ kappaCall self «temp_k» ⌝ }
     {
-        let unfit = refusal::refusal_unless(self.fits(), refusal::SHEET);
-        let out = refusal::refusal_unless(refusal::temperature_fits(temp_k), refusal::TEMPERATURE);
-        refusal::answered(refusal::first_met(unfit, out), at_temperature(self.kappa_ref, self.e_a_kappa, temp_k))
+        refusal::answered(rate_refusal(self.fits(), temp_k), at_temperature(self.kappa_ref, self.e_a_kappa, temp_k))
     }
 
     // The effective diffusivity in a porous medium, m^2/s.
     pub fn d_e_eff(self, porosity: f64, temp_k: f64) -> refusal::Answer
         ensures { λ r. ⌜ said r ≡ dEEff self porosity «temp_k» ⌝ }
     {
-        let unfit = refusal::refusal_unless(self.fits() & refusal::within(porosity, 0.01, 1.0), refusal::SHEET);
-        let out = refusal::refusal_unless(refusal::temperature_fits(temp_k), refusal::TEMPERATURE);
-        refusal::answered(refusal::first_met(unfit, out), self.diffusivity_eff(porosity, temp_k))
+        let fits = self.fits() & refusal::within(porosity, 0.01, 1.0);
+        refusal::answered(rate_refusal(fits, temp_k), self.diffusivity_eff(porosity, temp_k))
     }
 
     // The effective conductivity in a porous medium, S/m.
     pub fn kappa_eff(self, porosity: f64, temp_k: f64) -> refusal::Answer
         ensures { λ r. ⌜ said r ≡ kappaEff self porosity «temp_k» ⌝ }
     {
-        let unfit = refusal::refusal_unless(self.fits() & refusal::within(porosity, 0.01, 1.0), refusal::SHEET);
-        let out = refusal::refusal_unless(refusal::temperature_fits(temp_k), refusal::TEMPERATURE);
-        refusal::answered(refusal::first_met(unfit, out), self.conductivity_eff(porosity, temp_k))
+        let fits = self.fits() & refusal::within(porosity, 0.01, 1.0);
+        refusal::answered(rate_refusal(fits, temp_k), self.conductivity_eff(porosity, temp_k))
     }
 
     // What a step works with in a region of the length l with n nodes.

@@ -19,7 +19,7 @@ exp-requires c κs = search needs
 -- src/lib.rt:31:1
 returns : tie.Need-returns
 unfolding atTemperature
-returns c = cc
+returns c = rw (c .exp .ensures)
 
 pub at-temperature-spec : {M : Type 1} → statement M
 at-temperature-spec = tie.close (tie.spec exp-requires returns)

@@ -19,7 +19,7 @@ max-requires c κs = search needs
 -- src/lib.rt:281:1
 returns : tie.Need-returns
 unfolding nodeFrom
-returns c = cc
+returns c = rw (c .max .ensures)
 
 pub moved-spec : {M : Type 1} → statement M
 moved-spec = tie.close (tie.spec max-requires returns)

@@ -42,7 +42,7 @@ moved-requires c κs = search needs
 -- src/lib.rt:290:1
 returns : tie.Need-returns
 unfolding nodeNew
-returns c = cc
+returns c = rw (c .moved .ensures, c .before .before .region-at .ensures, c .before .before .before .right-of .ensures, c .before .before .before .before .left-of .ensures)
 
 pub node-new-spec : {M : Type 1} → statement M
 node-new-spec =

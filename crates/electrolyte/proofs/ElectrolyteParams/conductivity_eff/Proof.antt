@@ -24,7 +24,7 @@ powf-requires c κs = search needs
 -- src/lib.rt:74:5
 returns : tie.Need-returns
 unfolding conductivityEff
-returns c = cc
+returns c = rw (c .powf .ensures, c .before .at-temperature .ensures)
 
 pub conductivity-eff-spec : {M : Type 1} → statement M
 conductivity-eff-spec = tie.close (tie.spec at-temperature-requires powf-requires returns)

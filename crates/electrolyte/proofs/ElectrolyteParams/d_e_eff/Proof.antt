@@ -4,7 +4,7 @@ use mathlib.Core.Path.{_≡_, refl, sym, _∙_, ap}
 use native.Mathlib.Omega.{arith}
 use native.Mathlib.Numerals.{add-one}
 use borrow.Author.Needs.{needs}
-use Rattle.electrolyte.specs.Calls.{dEEff, rateRefusal}
+use Rattle.electrolyte.specs.Calls.{dEEff}
 use borrow.Author.Needs.{needs}
 use Rattle.electrolyte.proofs.ElectrolyteParams.d_e_eff.Statement.{statement}
 use Rattle.electrolyte.proofs.ElectrolyteParams.d_e_eff.Tie as tie
@@ -12,48 +12,34 @@ use Rattle.electrolyte.proofs.ElectrolyteParams.d_e_eff.Reads as reads
 use Rattle.electrolyte.proofs.ElectrolyteParams.d_e_eff.Lts as lts
 use Rattle.electrolyte.proofs.ElectrolyteParams.diffusivity_eff.Reads as diffusivity-eff-reads
 use Rattle.electrolyte.proofs.ElectrolyteParams.fits.Reads as fits-reads
+use Rattle.electrolyte.proofs.rate_refusal.Reads as rate-refusal-reads
 use Rattle.refusal.proofs.answered.Reads as answered-reads
-use Rattle.refusal.proofs.first_met.Reads as first-met-reads
-use Rattle.refusal.proofs.refusal_unless.Reads as refusal-unless-reads
-use Rattle.refusal.proofs.temperature_fits.Reads as temperature-fits-reads
 use Rattle.refusal.proofs.within.Reads as within-reads
 
--- src/lib.rt:102:45
+-- src/lib.rt:107:20
 fits-requires : tie.Need-fits-requires
 fits-requires c κs = search needs
 
--- src/lib.rt:102:59
+-- src/lib.rt:107:34
 within-requires : tie.Need-within-requires
 within-requires c κs = search needs
 
--- src/lib.rt:102:13
-refusal-unless-requires : tie.Need-refusal-unless-requires
-refusal-unless-requires c κs = search needs
+-- src/lib.rt:108:27
+rate-refusal-requires : tie.Need-rate-refusal-requires
+rate-refusal-requires c κs = search needs
 
--- src/lib.rt:103:43
-temperature-fits-requires : tie.Need-temperature-fits-requires
-temperature-fits-requires c κs = search needs
-
--- src/lib.rt:103:13
-refusal-unless-requires-2 : tie.Need-refusal-unless-requires-2
-refusal-unless-requires-2 c κs = search needs
-
--- src/lib.rt:104:27
-first-met-requires : tie.Need-first-met-requires
-first-met-requires c κs = search needs
-
--- src/lib.rt:104:59
+-- src/lib.rt:108:55
 diffusivity-eff-requires : tie.Need-diffusivity-eff-requires
 diffusivity-eff-requires c κs = search needs
 
--- src/lib.rt:104:9
+-- src/lib.rt:108:9
 answered-requires : tie.Need-answered-requires
 answered-requires c κs = search needs
 
--- src/lib.rt:99:5
+-- src/lib.rt:104:5
 returns : tie.Need-returns
-unfolding dEEff rateRefusal
-returns c = cc
+unfolding dEEff
+returns c = rw (c .answered .ensures, c .before .diffusivity-eff .ensures, c .before .before .rate-refusal .ensures, c .before .before .before .within .ensures, c .before .before .before .before .fits2 .ensures)
 
 pub d-e-eff-spec : {M : Type 1} → statement M
 d-e-eff-spec =
@@ -61,10 +47,7 @@ d-e-eff-spec =
     (tie.spec
     fits-requires
     within-requires
-    refusal-unless-requires
-    temperature-fits-requires
-    refusal-unless-requires-2
-    first-met-requires
+    rate-refusal-requires
     diffusivity-eff-requires
     answered-requires
     returns)

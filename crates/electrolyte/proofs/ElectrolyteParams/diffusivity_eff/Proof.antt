@@ -24,7 +24,7 @@ powf-requires c κs = search needs
 -- src/lib.rt:67:5
 returns : tie.Need-returns
 unfolding diffusivityEff
-returns c = cc
+returns c = rw (c .powf .ensures, c .before .at-temperature .ensures)
 
 pub diffusivity-eff-spec : {M : Type 1} → statement M
 diffusivity-eff-spec = tie.close (tie.spec at-temperature-requires powf-requires returns)

@@ -29,7 +29,7 @@ per-node-requires c κs = search needs
 -- src/lib.rt:376:5
 returns : tie.Need-returns
 unfolding averageOf
-returns c = cc
+returns c = rw (c .per-node .ensures, c .before .sum .ensures, c .before .before .nodes .ensures)
 
 pub average-spec : {M : Type 1} → statement M
 average-spec = tie.close (tie.spec nodes-requires sum-requires per-node-requires returns)

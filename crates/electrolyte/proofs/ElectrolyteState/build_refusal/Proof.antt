@@ -43,7 +43,7 @@ first-met-requires c κs = search needs
 -- src/lib.rt:335:5
 returns : tie.Need-returns
 unfolding buildRefusal
-returns c = cc
+returns c = rw (c .first-met .ensures, c .before .refusal-unless2 .ensures, c .before .before .regions-fit .ensures, c .before .before .before .fits2 .ensures, c .before .before .before .before .refusal-unless .ensures, c .before .before .before .before .before .counts-fit .ensures)
 
 pub build-refusal-spec : {M : Type 1} → statement M
 build-refusal-spec =

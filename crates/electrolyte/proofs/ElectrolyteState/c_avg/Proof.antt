@@ -38,7 +38,7 @@ answered-requires c κs = search needs
 -- src/lib.rt:489:5
 returns-2 : tie.Need-returns-2
 unfolding cAvg
-returns-2 c = cc
+returns-2 c = rw (c .answered .ensures, c .before .average .ensures, c .before .before .before .refusal .ensures)
 
 pub c-avg-spec : {M : Type 1} → statement M
 c-avg-spec =

@@ -36,7 +36,7 @@ nodes-requires c κs = search needs
 -- src/lib.rt:386:5
 returns : tie.Need-returns
 unfolding driveOf
-returns c = cc
+returns c = rw (c .nodes .ensures, c .before .before .region3 .ensures, c .before .before .before .region2 .ensures, c .before .before .before .before .region .ensures)
 
 pub drive-spec : {M : Type 1} → statement M
 drive-spec =

@@ -49,7 +49,7 @@ min-requires-4 c κs = search needs
 -- src/lib.rt:427:5
 returns : tie.Need-returns
 unfolding stableInterval
-returns c = cc
+returns c = rw (c .min4 .ensures, c .before .min3 .ensures, c .before .before .per-node3 .ensures, c .before .before .before .per-node2 .ensures, c .before .before .before .before .per-node .ensures, c .before .before .before .before .before .diffusivity-eff .ensures, c .before .before .before .before .before .before .min2 .ensures, c .before .before .before .before .before .before .before .min .ensures)
 
 pub stable-interval-spec : {M : Type 1} → statement M
 stable-interval-spec =
