@@ -5,10 +5,12 @@
 -- Step: a node after a step, and the profile, all from the old one.
 -- Calls: what each public call answers, refusals included.
 -- Literals: each bit pattern above is its decimal rounded once.
--- Accepted: a state that a call hands out passes the checks again, and a refused step changes nothing.
+-- Accepted: what a call that nothing refuses has met.
+-- Again: an accepted build or step hands out a state that passes the checks again, and a refused step changes nothing.
 pub mod Params
 pub mod Profile
 pub mod Step
 pub mod Calls
 pub mod Literals
 pub mod Accepted
+pub mod Again

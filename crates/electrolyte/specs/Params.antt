@@ -6,9 +6,9 @@ use Rattle.elementary.specs.Exp.{one, expOf}
 use Rattle.elementary.specs.Power.{powfOf}
 use Rattle.electrolyte.specs.declared.ElectrolyteParams.{ElectrolyteParams}
 
--- every field in its closed range
-abbrev pub paramsFit : ElectrolyteParams → Bool
-paramsFit p =
+-- ---- ranges
+abbrev pub transportFit : ElectrolyteParams → Bool
+transportFit p =
     -- 1e-16 to 1e-6
     le (f64 0x3c9c_d2b2_97d8_89bc) (p .«d_e_ref») && le (p .«d_e_ref») (f64 0x3eb0_c6f7_a0b5_ed8d)
     -- 1e-6 to 100
@@ -17,6 +17,11 @@ paramsFit p =
     && le (f64 0) (p .«t_plus») && le (p .«t_plus») (f64 0x3ff0_0000_0000_0000)
     -- 0 to 4
     && le (f64 0) (p .bruggeman) && le (p .bruggeman) (f64 0x4010_0000_0000_0000)
+
+-- every field in its closed range
+abbrev pub paramsFit : ElectrolyteParams → Bool
+paramsFit p =
+    transportFit p
     -- 1 to 1e5
     && le (f64 0x3ff0_0000_0000_0000) (p .«c_e_init») && le (p .«c_e_init») (f64 0x40f8_6a00_0000_0000)
     -- 0 to 1e5
@@ -24,6 +29,7 @@ paramsFit p =
     -- 0 to 1e5
     && le (f64 0) (p .«e_a_kappa») && le (p .«e_a_kappa») (f64 0x40f8_6a00_0000_0000)
 
+-- ---- the ready electrolyte
 -- 1 mol/l of LiPF6 in EC and DMC
 unfoldable pub lipf6EcDmc : ElectrolyteParams
 lipf6EcDmc = record {
@@ -36,6 +42,7 @@ lipf6EcDmc = record {
   «e_a_kappa» = f64 0x40c7_7000_0000_0000;  -- 12,000
 }
 
+-- ---- rates
 -- at_ref * exp(e_a / 8.314 * (1 / 298.15 - 1 / T))
 unfoldable pub atTemperature : Float → Float → Float → Float
 atTemperature atRef ea t = atRef ⊗ expOf (ea ⊘ f64 0x4020_a0c4_9ba5_e354 ⊗ (one ⊘ f64 0x4072_a266_6666_6666 ⊖ one ⊘ t))
