@@ -1,6 +1,6 @@
--- filled
-use Prim.Native.Nat.{ℕ, suc, _≤_, _<_, _+_, _-_, _*_}
-use mathlib.Core.Path.{_≡_, refl, sym, _∙_, ap}
+-- `electrolyte::advanced` meets its contract: the first i places are new, the others as they were. The measure is what is left of n. Assumes nothing.
+use Prim.Native.Nat.{_≤_, _-_}
+use mathlib.Core.Path.{_≡_, refl}
 use native.Mathlib.Omega.{arith}
 use native.Mathlib.Numerals.{add-one}
 use borrow.Author.Needs.{needs}
@@ -8,9 +8,6 @@ use Rattle.turns.specs.Turns.{firstBy}
 use Rattle.electrolyte.specs.Step.{nodeNew, profileNew}
 use Rattle.electrolyte.proofs.advanced.Statement.{statement}
 use Rattle.electrolyte.proofs.advanced.Tie as tie
-use Rattle.electrolyte.proofs.advanced.Reads as reads
-use Rattle.electrolyte.proofs.advanced.Lts as lts
-use Rattle.electrolyte.proofs.node_new.Reads as node-new-reads
 
 abbrev Inv-loop : tie.InvT-loop
 Inv-loop v c n out₀ i₀ out i = (i ≤ n) × (out ≡ firstBy i (nodeNew v c) c)
@@ -18,37 +15,29 @@ Inv-loop v c n out₀ i₀ out i = (i ≤ n) × (out ≡ firstBy i (nodeNew v c)
 abbrev μ-loop : tie.MeasureT-loop
 μ-loop v c n out₀ i₀ out i = n - i
 
--- src/lib.rt:306:5
 loop-holds : tie.Need-loop-holds Inv-loop μ-loop
 unfolding firstBy
 loop-holds c = (search needs, refl)
 
--- src/lib.rt:307:18
 node-new-requires : tie.Need-node-new-requires Inv-loop μ-loop
 node-new-requires c κs = search needs
 
--- src/lib.rt:307:9
 mul-out : tie.Need-mul-out Inv-loop μ-loop
 mul-out c = search needs
 
--- src/lib.rt:307:9
 array-write-out : tie.Need-array-write-out Inv-loop μ-loop
 array-write-out c = search needs
 
--- src/lib.rt:306:9
 add-i : tie.Need-add-i Inv-loop μ-loop
 add-i c = search needs
 
--- src/lib.rt:306:5
 loop-less : tie.Need-loop-less Inv-loop μ-loop
 loop-less c = search needs
 
--- src/lib.rt:306:5
 loop-again : tie.Need-loop-again Inv-loop μ-loop
 unfolding firstBy
 loop-again c = (search needs, rw (add-one, c .node-new .ensures, c .before .before .before .loop .inv .1))
 
--- src/lib.rt:300:1
 returns : tie.Need-returns Inv-loop μ-loop
 unfolding profileNew
 returns c =

@@ -1,14 +1,12 @@
--- filled
-use Prim.Native.Nat.{ℕ, suc, _≤_, _<_, _+_, _-_, _*_}
-use mathlib.Core.Path.{_≡_, refl, sym, _∙_, ap}
+-- `electrolyte::sum` meets its contract: the first i places are added up. The measure is what is left of n. Assumes nothing.
+use Prim.Native.Nat.{_≤_, _-_}
+use mathlib.Core.Path.{_≡_, refl}
 use native.Mathlib.Omega.{arith}
 use native.Mathlib.Numerals.{add-one}
 use borrow.Author.Needs.{needs}
 use Rattle.electrolyte.specs.Profile.{sumOf}
 use Rattle.electrolyte.proofs.sum.Statement.{statement}
 use Rattle.electrolyte.proofs.sum.Tie as tie
-use Rattle.electrolyte.proofs.sum.Reads as reads
-use Rattle.electrolyte.proofs.sum.Lts as lts
 
 abbrev Inv-loop : tie.InvT-loop
 Inv-loop n c s₀ i₀ s i = (i ≤ n) × (s ≡ sumOf c i)
@@ -16,33 +14,26 @@ Inv-loop n c s₀ i₀ s i = (i ≤ n) × (s ≡ sumOf c i)
 abbrev μ-loop : tie.MeasureT-loop
 μ-loop n c s₀ i₀ s i = n - i
 
--- src/lib.rt:225:5
 loop-holds : tie.Need-loop-holds Inv-loop μ-loop
 unfolding sumOf
 loop-holds c = (search needs, refl)
 
--- src/lib.rt:226:17
 mul-s : tie.Need-mul-s Inv-loop μ-loop
 mul-s c = search needs
 
--- src/lib.rt:226:17
 array-read-s : tie.Need-array-read-s Inv-loop μ-loop
 array-read-s c = search needs
 
--- src/lib.rt:225:9
 add-i : tie.Need-add-i Inv-loop μ-loop
 add-i c = search needs
 
--- src/lib.rt:225:5
 loop-less : tie.Need-loop-less Inv-loop μ-loop
 loop-less c = search needs
 
--- src/lib.rt:225:5
 loop-again : tie.Need-loop-again Inv-loop μ-loop
 unfolding sumOf
 loop-again c = (search needs, rw (add-one, c .before .loop .inv .1))
 
--- src/lib.rt:220:1
 returns : tie.Need-returns Inv-loop μ-loop
 returns c =
     let e : c .before .loop .i ≡ c .before .before .args .n = omega arith in

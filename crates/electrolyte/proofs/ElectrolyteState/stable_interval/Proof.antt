@@ -1,52 +1,33 @@
--- filled
-use Prim.Native.Nat.{ℕ, suc, _≤_, _<_, _+_, _-_, _*_}
-use mathlib.Core.Path.{_≡_, refl, sym, _∙_, ap}
-use native.Mathlib.Omega.{arith}
-use native.Mathlib.Numerals.{add-one}
+-- `electrolyte::ElectrolyteState::stable_interval` meets its contract. Assumes nothing.
 use borrow.Author.Needs.{needs}
 use Rattle.electrolyte.specs.Profile.{stableInterval}
-use borrow.Author.Needs.{needs}
 use Rattle.electrolyte.proofs.ElectrolyteState.stable_interval.Statement.{statement}
 use Rattle.electrolyte.proofs.ElectrolyteState.stable_interval.Tie as tie
-use Rattle.electrolyte.proofs.ElectrolyteState.stable_interval.Reads as reads
-use Rattle.electrolyte.proofs.ElectrolyteState.stable_interval.Lts as lts
-use Rattle.electrolyte.proofs.ElectrolyteParams.diffusivity_eff.Reads as diffusivity-eff-reads
-use Rattle.electrolyte.proofs.per_node.Reads as per-node-reads
-use Rattle.elementary.proofs.min.Reads as min-reads
 
--- src/lib.rt:431:39
 min-requires : tie.Need-min-requires
 min-requires c κs = search needs
 
--- src/lib.rt:431:13
 min-requires-2 : tie.Need-min-requires-2
 min-requires-2 c κs = search needs
 
--- src/lib.rt:432:13
 diffusivity-eff-requires : tie.Need-diffusivity-eff-requires
 diffusivity-eff-requires c κs = search needs
 
--- src/lib.rt:433:13
 per-node-requires : tie.Need-per-node-requires
 per-node-requires c κs = search needs
 
--- src/lib.rt:434:13
 per-node-requires-2 : tie.Need-per-node-requires-2
 per-node-requires-2 c κs = search needs
 
--- src/lib.rt:435:13
 per-node-requires-3 : tie.Need-per-node-requires-3
 per-node-requires-3 c κs = search needs
 
--- src/lib.rt:436:38
 min-requires-3 : tie.Need-min-requires-3
 min-requires-3 c κs = search needs
 
--- src/lib.rt:436:13
 min-requires-4 : tie.Need-min-requires-4
 min-requires-4 c κs = search needs
 
--- src/lib.rt:427:5
 returns : tie.Need-returns
 unfolding stableInterval
 returns c = rw (c .min4 .ensures, c .before .min3 .ensures, c .before .before .per-node3 .ensures, c .before .before .before .per-node2 .ensures, c .before .before .before .before .per-node .ensures, c .before .before .before .before .before .diffusivity-eff .ensures, c .before .before .before .before .before .before .min2 .ensures, c .before .before .before .before .before .before .before .min .ensures)
