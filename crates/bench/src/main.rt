@@ -4,6 +4,7 @@ mod list;
 mod ranges;
 mod functions;
 mod sheets;
+mod electrolytes;
 
 use libc::STDOUT_FILENO;
 use list::{OVER, AGREES};
@@ -19,6 +20,11 @@ const D_S: u64 = 6;
 const SPECIFIC_AREA: u64 = 7;
 const OCP: u64 = 8;
 const SPHERE_VOLUME: u64 = 9;
+const ELECTROLYTE_RATES: u64 = 10;
+const ELECTROLYTE_NEW: u64 = 11;
+const ELECTROLYTE_NUMBERS: u64 = 12;
+const STEP_CONCENTRATION: u64 = 13;
+const ELECTROLYTE_DT_STABLE: u64 = 14;
 
 fn line(which: u64, fd: i32) -> u64 {
     match which {
@@ -32,6 +38,11 @@ fn line(which: u64, fd: i32) -> u64 {
         SPECIFIC_AREA => sheets::area_line(fd),
         OCP => sheets::ocp_line(fd),
         SPHERE_VOLUME => sheets::volume_line(fd),
+        ELECTROLYTE_RATES => electrolytes::rates_line(fd),
+        ELECTROLYTE_NEW => electrolytes::new_line(fd),
+        ELECTROLYTE_NUMBERS => electrolytes::numbers_line(fd),
+        STEP_CONCENTRATION => electrolytes::step_line(fd),
+        ELECTROLYTE_DT_STABLE => electrolytes::dt_stable_line(fd),
         _ => OVER,
     }
 }
@@ -76,4 +87,9 @@ fn main() {
     replay(SPECIFIC_AREA, b"specific_area.txt");
     replay(OCP, b"ocp.txt");
     replay(SPHERE_VOLUME, b"sphere_volume.txt");
+    replay(ELECTROLYTE_RATES, b"electrolyte_rates.txt");
+    replay(ELECTROLYTE_NEW, b"electrolyte_new.txt");
+    replay(ELECTROLYTE_NUMBERS, b"electrolyte_numbers.txt");
+    replay(STEP_CONCENTRATION, b"step_concentration.txt");
+    replay(ELECTROLYTE_DT_STABLE, b"electrolyte_dt_stable.txt");
 }
