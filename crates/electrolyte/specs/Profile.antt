@@ -105,8 +105,13 @@ averageOf e = sumOf (e .«c_e») (total e) ⊘ count (total e)
 abbrev pub width : Float → ℕ → Float
 width l n = l ⊘ count n
 
+-- the least of three, from the left
+abbrev pub leastOf : Float → Float → Float → Float
+leastOf a b c = minOf (minOf a b) c
+
 -- 0.5 * dx * dx / d, d the effective diffusivity at the least porosity, dx the least width
 unfoldable pub stableInterval : ElectrolyteState → Float → Float
 stableInterval e t =
-    let dx = minOf (minOf (width (e .«l_neg») (e .«n_neg»)) (width (e .«l_sep») (e .«n_sep»))) (width (e .«l_pos») (e .«n_pos»)) in
-    f64 0x3fe0_0000_0000_0000 ⊗ dx ⊗ dx ⊘ diffusivityEff (e .params) (minOf (minOf (e .«eps_neg») (e .«eps_sep»)) (e .«eps_pos»)) t
+    let dx = leastOf (width (e .«l_neg») (e .«n_neg»)) (width (e .«l_sep») (e .«n_sep»)) (width (e .«l_pos») (e .«n_pos»)) in
+    let eps = leastOf (e .«eps_neg») (e .«eps_sep») (e .«eps_pos») in
+    f64 0x3fe0_0000_0000_0000 ⊗ dx ⊗ dx ⊘ diffusivityEff (e .params) eps t

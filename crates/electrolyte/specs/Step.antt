@@ -51,10 +51,13 @@ rightOf c i n = cond (eqb i (n - 1)) (getD c (n - 1) nan) (getD c (i + 1) nan)
 abbrev two : Float
 two = f64 0x4000_0000_0000_0000
 
--- here + dt * ((d_eff * ((left - 2 * here + right) / (dx * dx)) + src) / eps), and 1e-10 where that is less or a NaN
+-- max(1e-10): so a NaN becomes 1e-10 too
+abbrev floored : Float → Float
+floored x = maxOf x floor
+
+-- here + dt * ((d_eff * ((left - 2 * here + right) / (dx * dx)) + src) / eps), floored
 unfoldable pub nodeFrom : Region → Float → Float → Float → Float → Float
-nodeFrom r dt left here right =
-    maxOf (here ⊕ dt ⊗ ((r .«d_eff» ⊗ ((left ⊖ two ⊗ here ⊕ right) ⊘ (r .dx ⊗ r .dx)) ⊕ r .src) ⊘ r .eps)) floor
+nodeFrom r dt left here right = floored (here ⊕ dt ⊗ ((r .«d_eff» ⊗ ((left ⊖ two ⊗ here ⊕ right) ⊘ (r .dx ⊗ r .dx)) ⊕ r .src) ⊘ r .eps))
 
 unfoldable pub nodeNew : Drive → List Float → ℕ → Float
 nodeNew v c i = nodeFrom (regionAt v i) (v .dt) (leftOf c i) (getD c i nan) (rightOf c i (v .n))

@@ -6,7 +6,7 @@ ghost use Prim.Native.Nat.{_≤_, _<_};
 ghost use Rattle.binary64.specs.Operators.{_⊘_, count};
 ghost use Rattle.refusal.specs.Answers.{said};
 ghost use Rattle.electrolyte.specs.Params.{paramsFit, lipf6EcDmc, atTemperature, diffusivityEff, conductivityEff};
-ghost use Rattle.electrolyte.specs.Profile.{total, countsFit, regionsFit, placeFits, profileFits, unfilled, noState, withProfile, uniformProfile, sumOf, averageOf, stableInterval};
+ghost use Rattle.electrolyte.specs.Profile.{total, countsFit, regionsFit, placeFits, profileFits, unfilled, noState, withProfile, uniformProfile, sumOf, averageOf, leastOf, stableInterval};
 ghost use Rattle.electrolyte.specs.Step.{regionOf, driveOf, regionAt, leftOf, rightOf, nodeFrom, nodeNew, profileNew, allFinite};
 ghost use Rattle.electrolyte.specs.Calls.{counted, rateRefusal, dE, kappaCall, dEEff, kappaEff, buildRefusal, stateRefusal, built, nTotal, cAvg, stepRefusal, stepped, dtStable};
 
@@ -60,7 +60,7 @@ impl ElectrolyteParams {
     }
 
     // Whether every field is in its range.
-    pub fn fits(self) -> bool
+    fn fits(self) -> bool
         ensures { λ r. ⌜ r ≡ paramsFit self ⌝ }
     {
         (1e-16 <= self.d_e_ref) & (self.d_e_ref <= 1e-6)
@@ -161,7 +161,7 @@ pub enum Count {
 }
 
 // What a step works with in one region: porosity, width of a node, effective diffusivity, source.
-pub struct Region {
+struct Region {
     pub eps: f64,
     pub dx: f64,
     pub d_eff: f64,
@@ -169,7 +169,7 @@ pub struct Region {
 }
 
 // What a step works with: the regions, the first node past the anode, past the separator and past all, and the interval.
-pub struct Drive {
+struct Drive {
     pub neg: Region,
     pub sep: Region,
     pub pos: Region,
@@ -184,6 +184,13 @@ fn per_node(x: f64, n: usize) -> f64
     ensures { λ r. ⌜ r ≡ x ⊘ count n ⌝ }
 {
     x / std::num::nearest_u64_to_f64(n as u64)
+}
+
+// The least of three.
+fn least(a: f64, b: f64, c: f64) -> f64
+    ensures { λ r. ⌜ r ≡ leastOf a b c ⌝ }
+{
+    elementary::min(elementary::min(a, b), c)
 }
 
 // Whether a place is as it must be: a used one finite and at least 1e-10, an unused one +0.
@@ -306,10 +313,39 @@ fn advanced(v: Drive, c: [f64; 96]) -> [f64; 96]
 {
     let n = v.n;
     let mut out = c;
-    for i in 0..n {
-        out[i] = node_new(v, &c, i);
+    for node in 0..n {
+        out[node] = node_new(v, &c, node);
     }
     out
+}
+
+// What a refused build gives: every number +0.
+fn no_state() -> ElectrolyteState
+    ensures { λ r. ⌜ r ≡ noState ⌝ }
+{
+    let c_e = [0.0; 96];
+    let params = ElectrolyteParams {
+        d_e_ref: 0.0,
+        kappa_ref: 0.0,
+        t_plus: 0.0,
+        bruggeman: 0.0,
+        c_e_init: 0.0,
+        e_a_de: 0.0,
+        e_a_kappa: 0.0,
+    };
+    ElectrolyteState {
+        params,
+        l_neg: 0.0,
+        l_sep: 0.0,
+        l_pos: 0.0,
+        eps_neg: 0.0,
+        eps_sep: 0.0,
+        eps_pos: 0.0,
+        n_neg: 0,
+        n_sep: 0,
+        n_pos: 0,
+        c_e,
+    }
 }
 
 impl ElectrolyteState {
@@ -431,12 +467,12 @@ impl ElectrolyteState {
         ensures { λ r. ⌜ r ≡ stableInterval self «temp_k» ⌝ }
     {
         let params = self.params;
-        let eps_min = elementary::min(elementary::min(self.eps_neg, self.eps_sep), self.eps_pos);
+        let eps_min = least(self.eps_neg, self.eps_sep, self.eps_pos);
         let d_max = params.diffusivity_eff(eps_min, temp_k);
         let dx_neg = per_node(self.l_neg, self.n_neg);
         let dx_sep = per_node(self.l_sep, self.n_sep);
         let dx_pos = per_node(self.l_pos, self.n_pos);
-        let dx_min = elementary::min(elementary::min(dx_neg, dx_sep), dx_pos);
+        let dx_min = least(dx_neg, dx_sep, dx_pos);
         0.5 * dx_min * dx_min / d_max
     }
 
@@ -521,34 +557,5 @@ impl ElectrolyteState {
     {
         let out = refusal::refusal_unless(refusal::temperature_fits(temp_k), refusal::TEMPERATURE);
         refusal::answered(refusal::first_met(self.refusal(), out), self.stable_interval(temp_k))
-    }
-}
-
-// What a refused build gives: every number +0.
-fn no_state() -> ElectrolyteState
-    ensures { λ r. ⌜ r ≡ noState ⌝ }
-{
-    let c_e = [0.0; 96];
-    let params = ElectrolyteParams {
-        d_e_ref: 0.0,
-        kappa_ref: 0.0,
-        t_plus: 0.0,
-        bruggeman: 0.0,
-        c_e_init: 0.0,
-        e_a_de: 0.0,
-        e_a_kappa: 0.0,
-    };
-    ElectrolyteState {
-        params,
-        l_neg: 0.0,
-        l_sep: 0.0,
-        l_pos: 0.0,
-        eps_neg: 0.0,
-        eps_sep: 0.0,
-        eps_pos: 0.0,
-        n_neg: 0,
-        n_sep: 0,
-        n_pos: 0,
-        c_e,
     }
 }

@@ -1,4 +1,4 @@
--- `electrolyte::advanced` meets its contract: the first i places are new, the others as they were. The measure is what is left of n. Assumes nothing.
+-- `electrolyte::advanced` meets its contract: the first `node` places are new, the others as they were. The measure is what is left of n. Assumes nothing.
 use Prim.Native.Nat.{_≤_, _-_}
 use mathlib.Core.Path.{_≡_, refl}
 use native.Mathlib.Omega.{arith}
@@ -10,10 +10,10 @@ use Rattle.electrolyte.proofs.advanced.Statement.{statement}
 use Rattle.electrolyte.proofs.advanced.Tie as tie
 
 abbrev Inv-loop : tie.InvT-loop
-Inv-loop v c n out₀ i₀ out i = (i ≤ n) × (out ≡ firstBy i (nodeNew v c) c)
+Inv-loop v c n out₀ node₀ out node = (node ≤ n) × (out ≡ firstBy node (nodeNew v c) c)
 
 abbrev μ-loop : tie.MeasureT-loop
-μ-loop v c n out₀ i₀ out i = n - i
+μ-loop v c n out₀ node₀ out node = n - node
 
 loop-holds : tie.Need-loop-holds Inv-loop μ-loop
 unfolding firstBy
@@ -28,8 +28,8 @@ mul-out c = search needs
 array-write-out : tie.Need-array-write-out Inv-loop μ-loop
 array-write-out c = search needs
 
-add-i : tie.Need-add-i Inv-loop μ-loop
-add-i c = search needs
+add-node : tie.Need-add-node Inv-loop μ-loop
+add-node c = search needs
 
 loop-less : tie.Need-loop-less Inv-loop μ-loop
 loop-less c = search needs
@@ -41,7 +41,7 @@ loop-again c = (search needs, rw (add-one, c .node-new .ensures, c .before .befo
 returns : tie.Need-returns Inv-loop μ-loop
 unfolding profileNew
 returns c =
-    let e : c .before .loop .i ≡ c .before .before .args .v .n = omega arith in
+    let e : c .before .loop .node ≡ c .before .before .args .v .n = omega arith in
     rw e at (c .before .loop .inv .1)
 
 pub advanced-spec : {M : Type 1} → statement M
@@ -54,7 +54,7 @@ advanced-spec =
     node-new-requires
     mul-out
     array-write-out
-    add-i
+    add-node
     loop-less
     loop-again
     returns)
