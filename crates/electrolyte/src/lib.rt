@@ -148,7 +148,7 @@ pub struct ElectrolyteState {
     pub c_e: [f64; 96],
 }
 
-// A refusal's number, 0 for none, and the state: the new one, or where a step is refused the one given.
+// A refusal's number, 0 for none, and the state: the new one; of a refused step the one given, of a refused build all zeros.
 pub struct StateAnswer {
     pub refusal: u64,
     pub state: ElectrolyteState,
@@ -203,7 +203,7 @@ fn place_fits(x: f64, used: bool) -> bool
     refusal::plus_zero(x)
 }
 
-// Whether every place of a profile with n nodes is.
+// Whether every place of a profile with n nodes is as it must be.
 fn profile_fits(c: [f64; 96], n: usize) -> bool
     ensures { λ r. ⌜ r ≡ profileFits c n ⌝ }
 {
