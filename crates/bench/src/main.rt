@@ -6,6 +6,7 @@ mod functions;
 mod sheets;
 mod particles;
 mod systems;
+mod electrolytes;
 
 use libc::STDOUT_FILENO;
 use list::{OVER, AGREES};
@@ -26,6 +27,11 @@ const PARTICLE_STEP: u64 = 11;
 const PARTICLE_DT_STABLE: u64 = 12;
 const PARTICLE_NUMBERS: u64 = 13;
 const SOLVE_DENSE: u64 = 14;
+const ELECTROLYTE_RATES: u64 = 15;
+const ELECTROLYTE_NEW: u64 = 16;
+const ELECTROLYTE_NUMBERS: u64 = 17;
+const STEP_CONCENTRATION: u64 = 18;
+const ELECTROLYTE_DT_STABLE: u64 = 19;
 
 fn line(which: u64, fd: i32) -> u64 {
     match which {
@@ -44,6 +50,11 @@ fn line(which: u64, fd: i32) -> u64 {
         PARTICLE_DT_STABLE => particles::dt_stable_line(fd),
         PARTICLE_NUMBERS => particles::number_line(fd),
         SOLVE_DENSE => systems::line(fd),
+        ELECTROLYTE_RATES => electrolytes::rates_line(fd),
+        ELECTROLYTE_NEW => electrolytes::new_line(fd),
+        ELECTROLYTE_NUMBERS => electrolytes::numbers_line(fd),
+        STEP_CONCENTRATION => electrolytes::step_line(fd),
+        ELECTROLYTE_DT_STABLE => electrolytes::dt_stable_line(fd),
         _ => OVER,
     }
 }
@@ -77,20 +88,45 @@ fn replay(which: u64, name: &[u8]) {
     write_counts(name, agreed, lines);
 }
 
-fn main() {
+fn replay_functions() {
     replay(RANGES, b"ranges.txt");
     replay(ELEMENTARY, b"elementary.txt");
     replay(POWF, b"powf.txt");
     replay(SMALL, b"small.txt");
     replay(COUNTS, b"counts.txt");
+}
+
+fn replay_sheets() {
     replay(READY_SHEETS, b"ready_sheets.txt");
     replay(D_S, b"d_s.txt");
     replay(SPECIFIC_AREA, b"specific_area.txt");
     replay(OCP, b"ocp.txt");
     replay(SPHERE_VOLUME, b"sphere_volume.txt");
+}
+
+fn replay_particles() {
     replay(PARTICLE_NEW, b"particle_new.txt");
     replay(PARTICLE_STEP, b"particle_step.txt");
     replay(PARTICLE_DT_STABLE, b"particle_dt_stable.txt");
     replay(PARTICLE_NUMBERS, b"particle_numbers.txt");
+}
+
+fn replay_electrolyte() {
+    replay(ELECTROLYTE_RATES, b"electrolyte_rates.txt");
+    replay(ELECTROLYTE_NEW, b"electrolyte_new.txt");
+    replay(ELECTROLYTE_NUMBERS, b"electrolyte_numbers.txt");
+    replay(STEP_CONCENTRATION, b"step_concentration.txt");
+    replay(ELECTROLYTE_DT_STABLE, b"electrolyte_dt_stable.txt");
+}
+
+fn replay_systems() {
     replay(SOLVE_DENSE, b"solve_dense.txt");
+}
+
+fn main() {
+    replay_functions();
+    replay_sheets();
+    replay_particles();
+    replay_electrolyte();
+    replay_systems();
 }
