@@ -7,13 +7,13 @@ use Rattle.binary64.specs.Range.{Within, Sized}
 use Rattle.binary64.specs.RangeOps.{mul-most, div-most, div-between, sub-alike}
 use Rattle.binary64.specs.RangeTests.{literal}
 use Rattle.elementary.specs.Exp.{one}
-use Rattle.elementary.specs.Arrhenius.{arrheniusOf}
+use Rattle.elementary.specs.Arrhenius.{arrheniusOf, gasConstant}
 use Rattle.elementary.proofs.Constants.{at-1}
 use Rattle.elementary.proofs.ExpRange.{exp-20, exp-30}
 
-gas-constant : Within (f64 0x4020_a0c4_9ba5_e354) 8315 1000 8314 1000
+gas-constant : Within gasConstant 8315 1000 8314 1000
 unfolding ofBits
-gas-constant = literal (f64 0x4020_a0c4_9ba5_e354) 8315 1000 8314 1000 tt tt tt tt tt
+gas-constant = literal gasConstant 8315 1000 8314 1000 tt tt tt tt tt
 
 -- 298.15 K
 room : Within (f64 0x4072_a266_6666_6666) 29816 100 29814 100

@@ -13,7 +13,7 @@ use Rattle.binary64.specs.Order.{lt→not}
 use Rattle.binary64.specs.Range.{exact, Most, Within, most-wider, least-wider}
 use Rattle.binary64.specs.RangeOps.{mul-most, div-most, div-count, add-over}
 use Rattle.binary64.specs.RangeTests.{tested-within, most-le, most-ge, within-ge}
-use Rattle.elementary.specs.Exp.{one, series, squarings, expOf}
+use Rattle.elementary.specs.Exp.{one, series, squarings, expOf, highest, lowest, scale}
 use Rattle.elementary.proofs.ExpLaws.{exp-mid, powered-is}
 use Rattle.elementary.proofs.Constants.{at-1, at-1024}
 
@@ -46,13 +46,13 @@ stays-between (suc n) lo x hi f g h k =
     (stays-between n (lo ⊗ lo) (x ⊗ x) (hi ⊗ hi) (and-r (positive lo) (stays n (lo ⊗ lo)) f) (and-r (positive hi) (stays n (hi ⊗ hi)) g) (mul-mono binary64 lo x lo x p r p r h h) (mul-mono binary64 x hi x hi r q r q k k))
 
 -- ---- t is between the limits
-not-high : {t : Float} {s : Bool} → Most t s 708 1 → lt (f64 0x4086_2800_0000_0000) t ≡ false
+not-high : {t : Float} {s : Bool} → Most t s 708 1 → lt highest t ≡ false
 unfolding ofBits
-not-high {t} h = is-false (lt (f64 0x4086_2800_0000_0000) t) (not-T (lt (f64 0x4086_2800_0000_0000) t) (λ u. lt→not (f64 0x4086_2800_0000_0000) t tt (h .fine) u (most-le h (f64 0x4086_2800_0000_0000) tt tt)))
+not-high {t} h = is-false (lt highest t) (not-T (lt highest t) (λ u. lt→not highest t tt (h .fine) u (most-le h highest tt tt)))
 
-not-low : {t : Float} {s : Bool} → Most t s 708 1 → lt t (neg (f64 0x4086_2000_0000_0000)) ≡ false
+not-low : {t : Float} {s : Bool} → Most t s 708 1 → lt t lowest ≡ false
 unfolding ofBits neg
-not-low {t} h = is-false (lt t (neg (f64 0x4086_2000_0000_0000))) (not-T (lt t (neg (f64 0x4086_2000_0000_0000))) (λ u. lt→not t (neg (f64 0x4086_2000_0000_0000)) (h .fine) tt u (most-ge h (f64 0x4086_2000_0000_0000) tt tt)))
+not-low {t} h = is-false (lt t lowest) (not-T (lt t lowest) (λ u. lt→not t lowest (h .fine) tt u (most-ge h (f64 0x4086_2000_0000_0000) tt tt)))
 
 -- ---- |t| is at most N / D, each term after the 1 at most P / Q, and R = Q - P: tests that antt computes
 pub record Exponents (N D P Q R : ℕ) (lo hi : Float) : Type 0 where
@@ -90,9 +90,9 @@ module _ (N D P Q R : ℕ) (lo hi : Float) (g : Exponents N D P Q R lo hi) where
   exp-between : (t : Float) (s : Bool) → Most t s N D → T (le (squarings 10 lo) (expOf t)) × T (le (expOf t) (squarings 10 hi))
   exp-between t s h =
       let m : Most t s 708 1 = most-wider h 708 1 tt (g .limit) in
-      let a = series 18 (t ⊘ f64 0x4090_0000_0000_0000) one in
+      let a = series 18 (t ⊘ scale) one in
       let w : Within a (Q + P) Q R Q =
-      series-within 18 (t ⊘ f64 0x4090_0000_0000_0000) one (unlike s false) (lit≤ tt) (div-most h at-1024 N (D * 1024) tt (g .scaled) (g .scales))
+      series-within 18 (t ⊘ scale) one (unlike s false) (lit≤ tt) (div-most h at-1024 N (D * 1024) tt (g .scaled) (g .scales))
       (most-wider (at-1 .0) (Q + P) Q (g .over) (g .start-top), least-wider (at-1 .1) R Q (g .over) (g .start-bottom)) in
       let b : T (le lo a) = within-ge w lo (stays-positive 10 lo (g .lo-stays)) (g .some) (g .lo-at) in
       let c : T (le a hi) = most-le (w .0) hi (stays-positive 10 hi (g .hi-stays)) (g .hi-at) in

@@ -13,7 +13,7 @@ use Rattle.binary64.specs.Operators.{_⊕_, _⊗_, _⊘_, f64, count, negative}
 use Rattle.binary64.specs.Range.{Most, Sized, sized, most-wider}
 use Rattle.binary64.specs.RangeOps.{mul-most, div-most, div-count, add-most}
 use Rattle.binary64.specs.RangeTests.{tested-sized}
-use Rattle.elementary.specs.Exp.{one, series, squarings, powered, expOf}
+use Rattle.elementary.specs.Exp.{one, series, squarings, powered, expOf, highest, lowest, scale}
 use Rattle.elementary.proofs.ExpLaws.{exp-high, exp-low, exp-mid, powered-is}
 use Rattle.elementary.proofs.ChoiceLaws.{not-lt-le}
 use Rattle.elementary.proofs.Constants.{at-1, at-1024}
@@ -71,23 +71,23 @@ finite-number nan h = absurd h
 finite-number (inf s) h = absurd h
 finite-number (fin s m e) h = refl
 
-limits : (t : Float) → isNan t ≡ false → lt (f64 0x4086_2800_0000_0000) t ≡ false → lt t (neg (f64 0x4086_2000_0000_0000)) ≡ false → Sized t 709 1
+limits : (t : Float) → isNan t ≡ false → lt highest t ≡ false → lt t lowest ≡ false → Sized t 709 1
 unfolding ofBits neg isNan
-limits t n h k = tested-sized (neg (f64 0x4086_2000_0000_0000)) t (f64 0x4086_2800_0000_0000) tt tt tt (not-lt-le t (neg (f64 0x4086_2000_0000_0000)) n refl k) (not-lt-le (f64 0x4086_2800_0000_0000) t refl n h)
+limits t n h k = tested-sized lowest t highest tt tt tt (not-lt-le t lowest n refl k) (not-lt-le highest t refl n h)
 
 pub exp-plus : (t : Float) → isNan t ≡ false → T (notNegative (expOf t))
-exp-plus t n = high (lt (f64 0x4086_2800_0000_0000) t) refl
+exp-plus t n = high (lt highest t) refl
   where
     mid : Sized t 709 1 → T (notNegative (powered t))
     mid h =
-        let y = t ⊘ f64 0x4090_0000_0000_0000 in
+        let y = t ⊘ scale in
         let a = series-sized 18 y one (lit≤ tt) (sized (div-most h at-1024 709 1024 tt tt tt)) (sized (most-wider (at-1 .0) 53 16 tt tt)) in
         subst (λ (x : Float). T (notNegative x)) (powered-is t) (squarings-plus 9 (series 18 y one) (finite-number (series 18 y one) (a .fine)))
 
-    low : (b : Bool) → lt (f64 0x4086_2800_0000_0000) t ≡ false → lt t (neg (f64 0x4086_2000_0000_0000)) ≡ b → T (notNegative (expOf t))
+    low : (b : Bool) → lt highest t ≡ false → lt t lowest ≡ b → T (notNegative (expOf t))
     low true h k = subst (λ (x : Float). T (notNegative x)) (sym (exp-low t h k)) (unfold ofBits in tt)
     low false h k = subst (λ (x : Float). T (notNegative x)) (sym (exp-mid t h k)) (mid (limits t n h k))
 
-    high : (b : Bool) → lt (f64 0x4086_2800_0000_0000) t ≡ b → T (notNegative (expOf t))
+    high : (b : Bool) → lt highest t ≡ b → T (notNegative (expOf t))
     high true h = subst (λ (x : Float). T (notNegative x)) (sym (exp-high t h)) tt
-    high false h = low (lt t (neg (f64 0x4086_2000_0000_0000))) h refl
+    high false h = low (lt t lowest) h refl

@@ -13,7 +13,7 @@ use lib.Ieee.Bits.{cond-no}
 use Rattle.binary64.specs.Operators.{_⊕_, _⊖_, _⊗_, _⊘_, f64, count}
 use Rattle.binary64.specs.Sign.{round-neg}
 use Rattle.elementary.specs.Exp.{one}
-use Rattle.elementary.specs.Ln.{two, ln2, terms, lnParts, raise, lnSplit}
+use Rattle.elementary.specs.Ln.{two, ln2, terms, lnParts, raise, lnSplit, threeHalves, twentyThree}
 use Rattle.elementary.proofs.Format.{minus-up, minus-down}
 
 -- ---- the series
@@ -26,9 +26,9 @@ unfolding terms
 terms-step zero q a h = absurd (lt-irrefl 0 h)
 terms-step (suc j) q a h = let e : suc j - 1 ≡ j = omega arith in ap (λ (i : ℕ). terms i q ((one ⊘ count (2 * i + 1)) ⊕ (q ⊗ a))) e
 
-pub parts-is : (m k s : Float) → s ≡ (m ⊖ one) ⊘ (m ⊕ one) → (k ⊗ ln2) ⊕ ((two ⊗ s) ⊗ terms 11 (s ⊗ s) (one ⊘ f64 0x4037_0000_0000_0000)) ≡ lnParts m k
+pub parts-is : (m k s : Float) → s ≡ (m ⊖ one) ⊘ (m ⊕ one) → (k ⊗ ln2) ⊕ ((two ⊗ s) ⊗ terms 11 (s ⊗ s) (one ⊘ twentyThree)) ≡ lnParts m k
 unfolding lnParts
-parts-is m k s e = ap (λ (z : Float). (k ⊗ ln2) ⊕ ((two ⊗ z) ⊗ terms 11 (z ⊗ z) (one ⊘ f64 0x4037_0000_0000_0000))) e
+parts-is m k s e = ap (λ (z : Float). (k ⊗ ln2) ⊕ ((two ⊗ z) ⊗ terms 11 (z ⊗ z) (one ⊘ twentyThree))) e
 
 -- ---- the exponent as a float
 pub exponent-up : (w : ℕ) → 1074 ≤ w → ofInt binary64 (pos (w - 1074)) ≡ ofInt binary64 (minus w 1074)
@@ -67,11 +67,11 @@ raise-minus a b = elim (decLe b a) [
         ap raise (minus-down a b h ∙ ap negsuc f) ∙ sym (minus-down (a + 1) b k)
 
 -- ---- the two branches
-pub split-small : (m : Float) (k : ℤ) → le (f64 0x3ff8_0000_0000_0000) m ≡ false → lnSplit m k ≡ lnParts m (ofInt binary64 k)
+pub split-small : (m : Float) (k : ℤ) → le threeHalves m ≡ false → lnSplit m k ≡ lnParts m (ofInt binary64 k)
 unfolding lnSplit
 split-small m k h = ap (λ (b : Bool). cond b (lnParts (m ⊘ two) (ofInt binary64 (raise k))) (lnParts m (ofInt binary64 k))) h
 
-pub split-large : (m : Float) (w : ℕ) → le (f64 0x3ff8_0000_0000_0000) m ≡ true → lnSplit m (minus w 1074) ≡ lnParts (m ⊘ two) (ofInt binary64 (minus (w + 1) 1074))
+pub split-large : (m : Float) (w : ℕ) → le threeHalves m ≡ true → lnSplit m (minus w 1074) ≡ lnParts (m ⊘ two) (ofInt binary64 (minus (w + 1) 1074))
 unfolding lnSplit
 split-large m w h =
     ap (λ (b : Bool). cond b (lnParts (m ⊘ two) (ofInt binary64 (raise (minus w 1074)))) (lnParts m (ofInt binary64 (minus w 1074)))) h

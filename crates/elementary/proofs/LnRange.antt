@@ -21,7 +21,7 @@ use Rattle.binary64.specs.Range.{exact, Most, Least, Between, Within, Sized, si
 use Rattle.binary64.specs.RangeOps.{mul-most, div-most, div-between, div-count, add-most, add-alike, sub-alike, least-zero}
 use Rattle.binary64.specs.RangeTests.{int-between, within-positive}
 use Rattle.elementary.specs.Exp.{one}
-use Rattle.elementary.specs.Ln.{two, ln2, terms, lnParts, raise, lnSplit, mant, expo, lnOf}
+use Rattle.elementary.specs.Ln.{two, ln2, terms, lnParts, raise, lnSplit, mant, expo, lnOf, threeHalves, twentyThree}
 use Rattle.elementary.proofs.Format.{held, lead-le, lead-lt, minus-up, minus-down}
 use Rattle.elementary.proofs.LnLaws.{parts-is}
 use Rattle.elementary.proofs.Constants.{at-1, at-2, at-23, ln2-most}
@@ -44,10 +44,10 @@ parts-sized J G ex same ey bound m k sk w kb =
     let s = (m ⊖ one) ⊘ (m ⊕ one) in
     let q = s ⊗ s in
     let σ = unlike (negative (m ⊖ one)) false in
-    let a = terms 11 q (one ⊘ f64 0x4037_0000_0000_0000) in
+    let a = terms 11 q (one ⊘ twentyThree) in
     let sm : Most s σ 5 16 = div-most (sub-alike w at-1 1 2 tt tt tt) (add-alike w at-1 5 2 7 4 tt tt tt tt) 5 16 tt tt tt in
     let qm : Most q false 1 8 = subst (λ (z : Bool). Most q z 1 8) (square-sign σ) (mul-most sm sm 1 8 tt tt) in
-    let am : Most a false 37 32 = terms-most 11 q (one ⊘ f64 0x4037_0000_0000_0000) (lit≤ tt) qm (most-wider (div-most (at-1 .0) at-23 1 16 tt tt tt) 37 32 tt tt) in
+    let am : Most a false 37 32 = terms-most 11 q (one ⊘ twentyThree) (lit≤ tt) qm (most-wider (div-most (at-1 .0) at-23 1 16 tt tt tt) 37 32 tt tt) in
     let km : Most (k ⊗ ln2) (unlike sk false) (J * 1420) 2048 = mul-most kb ln2-most (J * 1420) 2048 ex same in
     let pm : Most ((two ⊗ s) ⊗ a) (unlike (unlike false σ) false) 3 4 = mul-most (mul-most (at-2 .0) sm 5 8 tt tt) am 3 4 tt tt in
     subst (λ (z : Float). Sized z G 16) (parts-is m k s refl) (add-most km pm G 16 ey bound)
@@ -66,7 +66,7 @@ mant-within n np =
     let t : x ≤ 2 * d = le-of-mul-le-mul-right hi (pow-pos j) in
     (record { over = lit< tt; fine = tt; sign = refl; most = omega arith }, record { over = lit< tt; least = omega arith })
 
-small-within : (m : Float) → le (f64 0x3ff8_0000_0000_0000) m ≡ false → Within m 2 1 1 1 → Within m 3 2 3 4
+small-within : (m : Float) → le threeHalves m ≡ false → Within m 2 1 1 1 → Within m 3 2 3 4
 unfolding lt ofBits
 small-within nan h w = absurd (w .0 .fine)
 small-within (inf _) h w = absurd (w .0 .fine)
@@ -75,10 +75,10 @@ small-within (fin false n e) h w =
     let l : n * up e * 2 ^ 1 < 3 * 1 * down e = ltb→lt (n * up e * 2 ^ 1) (3 * 1 * down e) (not→lt (fin false n e) (fin false 3 (negsuc 0)) tt tt (λ u. subst T h u)) in
     (record { over = lit< tt; fine = tt; sign = refl; most = omega arith }, least-wider (w .1) 3 4 tt tt)
 
-large-within : (m : Float) → le (f64 0x3ff8_0000_0000_0000) m ≡ true → Within m 2 1 1 1 → Within (m ⊘ two) 3 2 3 4
+large-within : (m : Float) → le threeHalves m ≡ true → Within m 2 1 1 1 → Within (m ⊘ two) 3 2 3 4
 unfolding ofBits
 large-within m h w =
-    let l : Least m 3 2 = least-of-le (f64 0x3ff8_0000_0000_0000) m 3 2 (w .0 .sign) (w .0 .fine) (lit< tt) (refl, refl) (subst T (sym h) tt) in
+    let l : Least m 3 2 = least-of-le threeHalves m 3 2 (w .0 .sign) (w .0 .fine) (lit< tt) (refl, refl) (subst T (sym h) tt) in
     div-between (w .0, l) at-2 3 2 3 4 tt tt tt tt tt
 
 -- ---- the exponent k of x, where 2 ^ -j ≤ x < 2 ^ (i + 1)
@@ -133,7 +133,7 @@ record Logarithm (J G j i : ℕ) : Type 0 where
 module _ (J G j i : ℕ) (g : Logarithm J G j i) where
   split-sized : (m : Float) (k : ℤ) → Within m 2 1 1 1 → From j i k → Sized (lnSplit m k) G 16
   unfolding lnSplit
-  split-sized m k w h = go (le (f64 0x3ff8_0000_0000_0000) m) refl
+  split-sized m k w h = go (le threeHalves m) refl
     where
       parts : (m : Float) (k : ℤ) → Within m 3 2 3 4 → From j (suc i) k → Sized (lnParts m (ofInt binary64 k)) G 16
       parts m k w h = parts-sized J G (g .products) (g .same) (g .results) (g .bound) m (ofInt binary64 k) (negative (ofInt binary64 k)) w (int-most J j (suc i) k (g .exponents) (g .low) (g .high) h)
@@ -142,7 +142,7 @@ module _ (J G j i : ℕ) (g : Logarithm J G j i) where
       wider (pos k) h = omega arith
       wider (negsuc k) h = h
 
-      go : (b : Bool) → le (f64 0x3ff8_0000_0000_0000) m ≡ b → Sized (cond b (lnParts (m ⊘ two) (ofInt binary64 (raise k))) (lnParts m (ofInt binary64 k))) G 16
+      go : (b : Bool) → le threeHalves m ≡ b → Sized (cond b (lnParts (m ⊘ two) (ofInt binary64 (raise k))) (lnParts m (ofInt binary64 k))) G 16
       go true e = parts (m ⊘ two) (raise k) (large-within m e w) (raise-from j i k h)
       go false e = parts m k (small-within m e w) (wider k h)
 

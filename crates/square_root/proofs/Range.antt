@@ -6,7 +6,7 @@ use lib.Ieee.Positive.{num, den, positive, between}
 use Rattle.binary64.specs.Range.{Within}
 use Rattle.binary64.specs.RangeTests.{tested-within}
 use Rattle.square_root.specs.Root.{sqrtOf}
-use Rattle.square_root.proofs.Standard.{positive-natural}
+use Rattle.square_root.proofs.Fractions.{positive-natural}
 use Rattle.square_root.proofs.Monotone.{sqrt-mono}
 
 -- bottom is the root of lo, and top that of hi
