@@ -150,6 +150,10 @@ module _ (p : ParticleDiffusion) (j dt t : Float) where
       go a (Leads.refused k e) = refl
       go a (Leads.moved e) = Profile.step-unused stepDrive (p .«c_s») i nan l
 
+  -- +0 by their bits
+  pub step-unused-zero : stepped p j dt t .refusal ≡ 0 → (i : ℕ) → p .«n_nodes» ≤ i → i < 64 → T (plusZero (placeOf (stepped p j dt t .particle) i))
+  step-unused-zero e i l m = unused-passed (stepped p j dt t .particle) (step-passes e) i (rw step-nodes l) m
+
 -- ---- a build
 one-fine : T (finite one)
 unfolding ofBits
