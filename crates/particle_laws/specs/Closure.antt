@@ -61,19 +61,19 @@ places-finite p h = all-of (λ i. finite (placeOf p i)) 64 (λ i l. place i l (l
 
 -- ---- a step
 module _ (p : ParticleDiffusion) (j dt t : Float) where
-  abbrev pub v : Drive
-  v = driveWith p (diffusivityAt (p .params) t) j dt
+  abbrev pub stepDrive : Drive
+  stepDrive = driveWith p (diffusivityAt (p .params) t) j dt
 
   abbrev pub next : ParticleDiffusion
-  next = withProfile p (subStep v (p .«c_s»))
+  next = withProfile p (subStep stepDrive (p .«c_s»))
 
   next-passes : stepRefusal p j dt t ≡ 0 → particleRefusal next ≡ 0
   next-passes e =
       let h = step-particle p j dt t e in
       let w = particle-whole p h in
       particle-passes next (nodes-passed p h) (sheet-passed p h)
-      (λ i l. rw (Profile.step-place v (p .«c_s») i l (w .long)) (node-in v (step-ranged p j dt t e) (λ k. getD (p .«c_s») k nan) (w .held) i l))
-      (λ i l m. rw (Profile.step-unused v (p .«c_s») i nan l) (unused-passed p h i l m))
+      (λ i l. rw (Profile.step-place stepDrive (p .«c_s») i l (w .long)) (node-in stepDrive (step-ranged p j dt t e) (λ k. getD (p .«c_s») k nan) (w .held) i l))
+      (λ i l m. rw (Profile.step-unused stepDrive (p .«c_s») i nan l) (unused-passed p h i l m))
 
   -- what it answers: a number and the particle as it was, or 0 and the new profile
   pub data Leads : ParticleAnswer → Type 0 where
@@ -84,8 +84,8 @@ module _ (p : ParticleDiffusion) (j dt t : Float) where
   unfolding stepped accepted
   leads = go (stepRefusal p j dt t) refl
     where
-      go : (k : ℕ) → stepRefusal p j dt t ≡ k → Leads (cond (eqb k 0) (accepted p (subStep v (p .«c_s»))) (particleAnswer k p))
-      go zero e = rw (is-true (finiteProfile (subStep v (p .«c_s»))) (places-finite next (next-passes e))) (Leads.moved e)
+      go : (k : ℕ) → stepRefusal p j dt t ≡ k → Leads (cond (eqb k 0) (accepted p (subStep stepDrive (p .«c_s»))) (particleAnswer k p))
+      go zero e = rw (is-true (finiteProfile (subStep stepDrive (p .«c_s»))) (places-finite next (next-passes e))) (Leads.moved e)
       go (suc k) e = rw (eqb·suc-zero k) (Leads.refused k e)
 
   -- A STEP THAT IS ACCEPTED leads to a particle that passes the checks
@@ -148,7 +148,11 @@ module _ (p : ParticleDiffusion) (j dt t : Float) where
     where
       go : (a : ParticleAnswer) → Leads a → placeOf (a .particle) i ≡ placeOf p i
       go a (Leads.refused k e) = refl
-      go a (Leads.moved e) = Profile.step-unused v (p .«c_s») i nan l
+      go a (Leads.moved e) = Profile.step-unused stepDrive (p .«c_s») i nan l
+
+  -- +0 by their bits
+  pub step-unused-zero : stepped p j dt t .refusal ≡ 0 → (i : ℕ) → p .«n_nodes» ≤ i → i < 64 → T (plusZero (placeOf (stepped p j dt t .particle) i))
+  step-unused-zero e i l m = unused-passed (stepped p j dt t .particle) (step-passes e) i (rw step-nodes l) m
 
 -- ---- a build
 one-fine : T (finite one)

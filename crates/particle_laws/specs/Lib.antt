@@ -12,7 +12,7 @@
 --               `step-params`, `step-nodes`, `step-unused`: the sheet, the count of nodes and the unused places stay;  `build-passes`: an accepted build passes the checks;
 --               `step-number`: a step's number is settled before it is made, so 8 never comes from it
 --   Accepted    `taken-are`: which calls of a list are accepted depends on each call's own numbers alone
---   Numbers     8 never comes from dt_stable, theta_surface, c_avg and theta_avg: `dt-stable-is`, `theta-surface-is`, `c-avg-is`, `theta-avg-is`
+--   Finite      8 never comes from dt_stable, theta_surface, c_avg and theta_avg: `dt-stable-is`, `theta-surface-is`, `c-avg-is`, `theta-avg-is`
 --   Potential   nor from ocp_surface, `ocp-surface-is`: each open-circuit curve is finite wherever the stoichiometry is a number (`open-circuit-sized`)
 --   Nodes       `node-in`: every node of a sub-step in its ranges is from 0 to c_s_max, whether the two conditions hold or not
 --   Ranges      for a particle that passes the checks, from 200 to 400 K: the spacing from 2 ^ -33 to 2 ^ -10, D from 2 ^ -97 to 2 ^ 4, c_s_max from 1 to 2 ^ 17, and each other
@@ -27,6 +27,6 @@ pub mod Nodes
 pub mod Closure
 pub mod Demand
 pub mod Accepted
-pub mod Numbers
+pub mod Finite
 pub mod Potential
 pub mod Instance

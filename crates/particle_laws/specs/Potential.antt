@@ -25,7 +25,7 @@ use Rattle.particle.specs.Particle.{surfaceTheta, surfacePotential}
 use Rattle.particle.specs.Calls.{ocpSurface}
 use Rattle.particle_laws.specs.Ranges.{wider, either}
 use Rattle.particle_laws.specs.Nodes.{number}
-use Rattle.particle_laws.specs.Numbers.{finite-outcome, surface-theta-fine}
+use Rattle.particle_laws.specs.Finite.{finite-outcome, surface-theta-fine}
 
 -- a literal of at most A / C
 lit : (x : Float) (A C : ℕ) → T (ltb 0 C) → T (finite x) → T (leb (num x * C) (A * den x)) → Sized x A C

@@ -140,7 +140,7 @@ unfolding diffusivityAt
 diffusivity-range s t h k = let r = sheet-ranges s h in mul-between (r .reference) (arrhenius-298 (r .activation) (temperature-range t k)) (2 ^ 4) 1 1 (2 ^ 97) tt tt tt tt
 
 -- ---- a sub-step
--- what a sub-step works with, in ranges that no operation of it leaves the finite numbers from; the flux may be any that the table lets through
+-- what a sub-step works with, in ranges where each of its operations stays finite (`node-in` of Nodes); the flux may be far beyond the table's 1e13
 pub record Ranged (v : Drive) : Type 0 where
   pub n-low : 3 ≤ v .n
   pub n-high : v .n ≤ 64
