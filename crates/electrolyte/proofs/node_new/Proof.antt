@@ -24,7 +24,10 @@ moved-requires c κs = search needs
 
 returns : tie.Need-returns
 unfolding nodeNew
-returns c = rw (c .moved .ensures, c .before .before .region-at .ensures, c .before .before .before .right-of .ensures, c .before .before .before .before .left-of .ensures)
+returns c =
+    rw
+    (c .moved .ensures, c .before .before .region-at .ensures, c .before .before .before .right-of .ensures,
+    c .before .before .before .before .left-of .ensures)
 
 pub node-new-spec : {M : Type 1} → statement M
 node-new-spec =
