@@ -5,6 +5,8 @@ mod ranges;
 mod functions;
 mod sheets;
 mod particles;
+mod cells;
+mod discharges;
 mod systems;
 mod electrolytes;
 
@@ -32,6 +34,11 @@ const ELECTROLYTE_NEW: u64 = 16;
 const ELECTROLYTE_NUMBERS: u64 = 17;
 const STEP_CONCENTRATION: u64 = 18;
 const ELECTROLYTE_DT_STABLE: u64 = 19;
+const READY_CELLS: u64 = 20;
+const CELL_NEW: u64 = 21;
+const CELL_STEP: u64 = 22;
+const CELL_NUMBERS: u64 = 23;
+const SIMULATE_DISCHARGE: u64 = 24;
 
 fn line(which: u64, fd: i32) -> u64 {
     match which {
@@ -55,6 +62,11 @@ fn line(which: u64, fd: i32) -> u64 {
         ELECTROLYTE_NUMBERS => electrolytes::numbers_line(fd),
         STEP_CONCENTRATION => electrolytes::step_line(fd),
         ELECTROLYTE_DT_STABLE => electrolytes::dt_stable_line(fd),
+        READY_CELLS => cells::ready_line(fd),
+        CELL_NEW => cells::new_line(fd),
+        CELL_STEP => cells::step_line(fd),
+        CELL_NUMBERS => cells::number_line(fd),
+        SIMULATE_DISCHARGE => discharges::run_line(fd),
         _ => OVER,
     }
 }
@@ -123,10 +135,19 @@ fn replay_systems() {
     replay(SOLVE_DENSE, b"solve_dense.txt");
 }
 
+fn replay_cells() {
+    replay(READY_CELLS, b"ready_cells.txt");
+    replay(CELL_NEW, b"cell_new.txt");
+    replay(CELL_STEP, b"cell_step.txt");
+    replay(CELL_NUMBERS, b"cell_numbers.txt");
+    replay(SIMULATE_DISCHARGE, b"simulate_discharge.txt");
+}
+
 fn main() {
     replay_functions();
     replay_sheets();
     replay_particles();
+    replay_cells();
     replay_electrolyte();
     replay_systems();
 }

@@ -40,7 +40,7 @@ pub(crate) fn is_sheet(fd: i32, chemistry: u64, p: ElectrodeParams) -> bool {
         & is_f64(fd, p.k_bv)
 }
 
-fn same(a: f64, b: f64) -> bool {
+pub(crate) fn same(a: f64, b: f64) -> bool {
     words::to_bits(a) == words::to_bits(b)
 }
 
