@@ -1,11 +1,23 @@
 // The lists of the single-particle cell's calls and its run.
-use crate::list::{next_word, next_u64, next_f64, is_f64, is_answer, verdict, OVER};
-use crate::particles::{is_places, next_particle, same_particle};
-use crate::sheets::{next_sheet, same};
+use crate::list::OVER;
+use crate::list::is_answer;
+use crate::list::is_f64;
+use crate::list::next_f64;
+use crate::list::next_u64;
+use crate::list::next_word;
+use crate::list::verdict;
+use crate::particles::is_places;
+use crate::particles::next_particle;
+use crate::particles::same_particle;
+use crate::sheets::next_sheet;
+use crate::sheets::same;
 use electrode::ElectrodeParams;
 use kinetics::SpmConfig;
 use particle::ParticleDiffusion;
-use solver::{SpmAnswer, SpmSolver, SpmState, SpmStep};
+use solver::SpmAnswer;
+use solver::SpmSolver;
+use solver::SpmState;
+use solver::SpmStep;
 
 // A config whose count of nodes is read already.
 fn next_config(fd: i32, n_nodes: u64) -> SpmConfig {
@@ -14,7 +26,14 @@ fn next_config(fd: i32, n_nodes: u64) -> SpmConfig {
     let faraday = next_f64(fd);
     let r_gas = next_f64(fd);
     let r_electrolyte_ohm_m2 = next_f64(fd);
-    SpmConfig { n_nodes: n_nodes as usize, v_min, v_max, faraday, r_gas, r_electrolyte_ohm_m2 }
+    SpmConfig {
+        n_nodes: n_nodes as usize,
+        v_min,
+        v_max,
+        faraday,
+        r_gas,
+        r_electrolyte_ohm_m2,
+    }
 }
 
 fn same_config(a: SpmConfig, b: SpmConfig) -> bool {
@@ -31,7 +50,12 @@ pub(crate) fn next_solver(fd: i32, n_nodes: u64) -> SpmSolver {
     let anode = next_particle(fd, next_u64(fd));
     let cathode = next_particle(fd, next_u64(fd));
     let time_s = next_f64(fd);
-    SpmSolver { config, anode, cathode, time_s }
+    SpmSolver {
+        config,
+        anode,
+        cathode,
+        time_s,
+    }
 }
 
 pub(crate) fn same_solver(a: SpmSolver, b: SpmSolver) -> bool {
@@ -41,7 +65,10 @@ pub(crate) fn same_solver(a: SpmSolver, b: SpmSolver) -> bool {
     let pos = a.cathode;
     let neg2 = b.anode;
     let pos2 = b.cathode;
-    same_config(config, other) & same_particle(neg, neg2) & same_particle(pos, pos2) & same(a.time_s, b.time_s)
+    same_config(config, other)
+        & same_particle(neg, neg2)
+        & same_particle(pos, pos2)
+        & same(a.time_s, b.time_s)
 }
 
 // Whether the next words are both profiles and the clock of s.
@@ -65,10 +92,26 @@ pub(crate) fn kept(before: SpmSolver, after: SpmSolver) -> bool {
     let c_pos = pos.c_s;
     let p = moved_neg.params;
     let q = moved_pos.params;
-    let anode = ParticleDiffusion { params: p, n_nodes: moved_neg.n_nodes, c_s: c_neg };
-    let cathode = ParticleDiffusion { params: q, n_nodes: moved_pos.n_nodes, c_s: c_pos };
+    let anode = ParticleDiffusion {
+        params: p,
+        n_nodes: moved_neg.n_nodes,
+        c_s: c_neg,
+    };
+    let cathode = ParticleDiffusion {
+        params: q,
+        n_nodes: moved_pos.n_nodes,
+        c_s: c_pos,
+    };
     let config = after.config;
-    same_solver(before, SpmSolver { config, anode, cathode, time_s: before.time_s })
+    same_solver(
+        before,
+        SpmSolver {
+            config,
+            anode,
+            cathode,
+            time_s: before.time_s,
+        },
+    )
 }
 
 // A built cell: its number, then all of it.
@@ -119,7 +162,11 @@ fn is_state(fd: i32, s: SpmState) -> bool {
         & is_f64(fd, s.theta_pos_avg)
         & is_f64(fd, s.time_s);
     let cutoff = next_u64(fd);
-    if s.cutoff { numbers & (cutoff == 1) } else { numbers & (cutoff == 0) }
+    if s.cutoff {
+        numbers & (cutoff == 1)
+    } else {
+        numbers & (cutoff == 0)
+    }
 }
 
 fn is_step(fd: i32, before: SpmSolver, r: SpmStep) -> bool {

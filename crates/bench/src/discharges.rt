@@ -1,9 +1,16 @@
 // The list of the single-particle cell's run.
 ghost use mathlib.Core.Path.{_≡_};
 ghost use lib.ListN.{length};
-
-use crate::cells::{is_changed, kept, next_solver, same_solver};
-use crate::list::{next_word, next_u64, next_f64, is_f64, verdict, OVER};
+use crate::cells::is_changed;
+use crate::cells::kept;
+use crate::cells::next_solver;
+use crate::cells::same_solver;
+use crate::list::OVER;
+use crate::list::is_f64;
+use crate::list::next_f64;
+use crate::list::next_u64;
+use crate::list::next_word;
+use crate::list::verdict;
 use discharge_run::DischargeRun;
 use runs::Ending;
 use solver::SpmSolver;

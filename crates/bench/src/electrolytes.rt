@@ -1,6 +1,15 @@
 // The lists of the electrolyte's calls.
-use crate::list::{next_word, next_u64, next_f64, is_f64, is_answer, verdict, OVER};
-use electrolyte::{ElectrolyteParams, ElectrolyteState, StateAnswer, Count};
+use crate::list::OVER;
+use crate::list::is_answer;
+use crate::list::is_f64;
+use crate::list::next_f64;
+use crate::list::next_u64;
+use crate::list::next_word;
+use crate::list::verdict;
+use electrolyte::Count;
+use electrolyte::ElectrolyteParams;
+use electrolyte::ElectrolyteState;
+use electrolyte::StateAnswer;
 
 // Parameters whose first number is read already.
 fn next_params(fd: i32, d_e_ref: f64) -> ElectrolyteParams {
@@ -205,7 +214,16 @@ pub(crate) fn new_line(fd: i32) -> u64 {
     let e = next_regions(fd, words::from_bits(first.value));
     let params = e.params;
     let a = ElectrolyteState::new(
-        params, e.l_neg, e.l_sep, e.l_pos, e.eps_neg, e.eps_sep, e.eps_pos, e.n_neg, e.n_sep, e.n_pos,
+        params,
+        e.l_neg,
+        e.l_sep,
+        e.l_pos,
+        e.eps_neg,
+        e.eps_sep,
+        e.eps_pos,
+        e.n_neg,
+        e.n_sep,
+        e.n_pos,
     );
     verdict(is_state(fd, a, e, zero_state()))
 }

@@ -1,43 +1,68 @@
 // Replays the oracle's answers, a list for each call, through the proved code, and writes how many lines of each agree.
 // The lists stand in data/; a line is words of 16 hexadecimal digits, arguments and answer, with a tab between the two.
-mod list;
-mod ranges;
-mod functions;
-mod sheets;
-mod particles;
 mod cells;
 mod discharges;
-mod systems;
 mod electrolytes;
+mod functions;
+mod list;
+mod particles;
+mod ranges;
+mod sheets;
+mod systems;
 
 use libc::STDOUT_FILENO;
-use list::{OVER, AGREES};
+use list::AGREES;
+use list::OVER;
 
 // The lists that are replayed.
 const RANGES: u64 = 0;
+
 const ELEMENTARY: u64 = 1;
+
 const POWF: u64 = 2;
+
 const SMALL: u64 = 3;
+
 const COUNTS: u64 = 4;
+
 const READY_SHEETS: u64 = 5;
+
 const D_S: u64 = 6;
+
 const SPECIFIC_AREA: u64 = 7;
+
 const OCP: u64 = 8;
+
 const SPHERE_VOLUME: u64 = 9;
+
 const PARTICLE_NEW: u64 = 10;
+
 const PARTICLE_STEP: u64 = 11;
+
 const PARTICLE_DT_STABLE: u64 = 12;
+
 const PARTICLE_NUMBERS: u64 = 13;
+
 const SOLVE_DENSE: u64 = 14;
+
 const ELECTROLYTE_RATES: u64 = 15;
+
 const ELECTROLYTE_NEW: u64 = 16;
+
 const ELECTROLYTE_NUMBERS: u64 = 17;
+
 const STEP_CONCENTRATION: u64 = 18;
+
 const ELECTROLYTE_DT_STABLE: u64 = 19;
+
 const READY_CELLS: u64 = 20;
+
 const CELL_NEW: u64 = 21;
+
 const CELL_STEP: u64 = 22;
+
 const CELL_NUMBERS: u64 = 23;
+
 const SIMULATE_DISCHARGE: u64 = 24;
 
 fn line(which: u64, fd: i32) -> u64 {

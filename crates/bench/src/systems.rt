@@ -1,7 +1,11 @@
 // The list of `solve_dense`: the order, the matrix and the right side; the number, and where it is 0 the solution.
-use crate::list::{next_word, next_u64, next_f64, is_f64, verdict, OVER};
+use crate::list::OVER;
+use crate::list::is_f64;
+use crate::list::next_f64;
+use crate::list::next_u64;
+use crate::list::next_word;
+use crate::list::verdict;
 use dense::Solved;
-
 ghost use Prim.Native.Nat.{_≤_};
 ghost use lib.ListN.{length};
 

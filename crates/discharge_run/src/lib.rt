@@ -1,8 +1,14 @@
 // A constant-current run of the single-particle cell into a lent slice. A changed translation of src/battery/p2d/solver.rs
 // (`SpmSolver::simulate_discharge`).
-use runs::{ending_of, put_row, Ending, GOING, REFUSED, TIME, VOLTAGE};
-use solver::{SpmSolver, SpmState};
-
+use runs::Ending;
+use runs::GOING;
+use runs::REFUSED;
+use runs::TIME;
+use runs::VOLTAGE;
+use runs::ending_of;
+use runs::put_row;
+use solver::SpmSolver;
+use solver::SpmState;
 ghost use mathlib.Core.Path.{_≡_};
 ghost use Prim.Native.Nat.{_<_, _≤_, _^_, _*_};
 ghost use lib.ListN.{length};
@@ -59,7 +65,14 @@ fn start(w: Feed, s: SpmSolver) -> Run
 {
     let over = over_after(w, false, 0.0);
     let state = solver::no_state();
-    Run { solver: s, clock: 0.0, rows: 0, over, refusal: 0, state }
+    Run {
+        solver: s,
+        clock: 0.0,
+        rows: 0,
+        over,
+        refusal: 0,
+        state,
+    }
 }
 
 // One turn of a run that goes on.
@@ -73,11 +86,25 @@ fn turn(w: Feed, s: Run) -> Run
     let state = t.state;
     if t.refusal != 0 {
         let last = s.state;
-        return Run { solver: cell, clock: s.clock, rows: s.rows, over: REFUSED, refusal: t.refusal, state: last };
+        return Run {
+            solver: cell,
+            clock: s.clock,
+            rows: s.rows,
+            over: REFUSED,
+            refusal: t.refusal,
+            state: last,
+        };
     }
     let clock = s.clock + w.dt;
     let over = over_after(w, state.cutoff, clock);
-    Run { solver: cell, clock, rows: s.rows + 1, over, refusal: 0, state }
+    Run {
+        solver: cell,
+        clock,
+        rows: s.rows + 1,
+        over,
+        refusal: 0,
+        state,
+    }
 }
 
 // The row of a report: its eight fields, the cutoff as 1 or 0.
@@ -88,7 +115,16 @@ fn row_of(s: SpmState) -> [f64; 8]
     if s.cutoff {
         cutoff = 1.0;
     }
-    [s.voltage, s.current, s.theta_neg, s.theta_pos, s.theta_neg_avg, s.theta_pos_avg, s.time_s, cutoff]
+    [
+        s.voltage,
+        s.current,
+        s.theta_neg,
+        s.theta_pos,
+        s.theta_neg_avg,
+        s.theta_pos_avg,
+        s.time_s,
+        cutoff,
+    ]
 }
 
 // What a run that has stopped gives.
@@ -96,7 +132,11 @@ fn finished(s: Run) -> DischargeRun
     ensures { λ r. ⌜ runSaid r ≡ finishedRun s ⌝ }
 {
     let cell = s.solver;
-    DischargeRun { ending: ending_of(s.over, s.refusal), rows: s.rows, solver: cell }
+    DischargeRun {
+        ending: ending_of(s.over, s.refusal),
+        rows: s.rows,
+        solver: cell,
+    }
 }
 
 // The number that refuses the whole run: 1, 10, 2, 3, 4, 5.
@@ -109,9 +149,15 @@ fn run_refusal(w: Feed, s: SpmSolver, places: usize) -> u64
     let load = refusal::refusal_unless(refusal::load_fits(w.current_a, 1e6), refusal::LOAD);
     let times = refusal::interval_fits(w.dt) & refusal::is_finite(w.max_time_s);
     let interval = refusal::refusal_unless(times, refusal::INTERVAL);
-    let temperature = refusal::refusal_unless(refusal::temperature_fits(w.temp_k), refusal::TEMPERATURE);
+    let temperature = refusal::refusal_unless(
+        refusal::temperature_fits(w.temp_k),
+        refusal::TEMPERATURE,
+    );
     let late = refusal::first_met(load, refusal::first_met(interval, temperature));
-    refusal::first_met(grid, refusal::first_met(length, refusal::first_met(fields, late)))
+    refusal::first_met(
+        grid,
+        refusal::first_met(length, refusal::first_met(fields, late)),
+    )
 }
 
 // At most `total` turns of a run, each step with its row.
@@ -141,14 +187,30 @@ fn run_rows(w: Feed, first: Run, out: &mut [f64], total: usize) -> DischargeRun
 }
 
 // Discharges, or charges at a negative current, until the voltage, the time or a refusal ends the run or the slice is full.
-pub fn simulate_discharge(s: SpmSolver, current_a: f64, dt: f64, temp_k: f64, max_time_s: f64, out: &mut [f64]) -> DischargeRun
+pub fn simulate_discharge(
+    s: SpmSolver,
+    current_a: f64,
+    dt: f64,
+    temp_k: f64,
+    max_time_s: f64,
+    out: &mut [f64],
+) -> DischargeRun
     ensures result { λ r. ⌜ runSaid r ≡ discharged (feedOf «current_a» dt «temp_k» «max_time_s») s (length (now (out .entry))) ⌝ }
     ensures rows { λ r. ⌜ now (out .exit) ≡ dischargedRows (feedOf «current_a» dt «temp_k» «max_time_s») s (now (out .entry)) ⌝ }
 {
-    let w = Feed { current_a, dt, temp_k, max_time_s };
+    let w = Feed {
+        current_a,
+        dt,
+        temp_k,
+        max_time_s,
+    };
     let number = run_refusal(w, s, out.len());
     if number != 0 {
-        return DischargeRun { ending: Ending::Refused(number), rows: 0, solver: s };
+        return DischargeRun {
+            ending: Ending::Refused(number),
+            rows: 0,
+            solver: s,
+        };
     }
     let total = out.len() / 8;
     run_rows(w, start(w, s), out, total)

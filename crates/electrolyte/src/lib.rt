@@ -63,41 +63,56 @@ impl ElectrolyteParams {
     fn fits(self) -> bool
         ensures { λ r. ⌜ r ≡ paramsFit self ⌝ }
     {
-        (1e-16 <= self.d_e_ref) & (self.d_e_ref <= 1e-6)
-            & (1e-6 <= self.kappa_ref) & (self.kappa_ref <= 100.0)
-            & (0.0 <= self.t_plus) & (self.t_plus <= 1.0)
-            & (0.0 <= self.bruggeman) & (self.bruggeman <= 4.0)
-            & (1.0 <= self.c_e_init) & (self.c_e_init <= 1e5)
-            & (0.0 <= self.e_a_de) & (self.e_a_de <= 1e5)
-            & (0.0 <= self.e_a_kappa) & (self.e_a_kappa <= 1e5)
+        (1e-16 <= self.d_e_ref)
+            & (self.d_e_ref <= 1e-6)
+            & (1e-6 <= self.kappa_ref)
+            & (self.kappa_ref <= 100.0)
+            & (0.0 <= self.t_plus)
+            & (self.t_plus <= 1.0)
+            & (0.0 <= self.bruggeman)
+            & (self.bruggeman <= 4.0)
+            & (1.0 <= self.c_e_init)
+            & (self.c_e_init <= 1e5)
+            & (0.0 <= self.e_a_de)
+            & (self.e_a_de <= 1e5)
+            & (0.0 <= self.e_a_kappa)
+            & (self.e_a_kappa <= 1e5)
     }
 
     // The diffusivity in a medium of that porosity.
     fn diffusivity_eff(self, porosity: f64, temp_k: f64) -> f64
         ensures { λ r. ⌜ r ≡ diffusivityEff self porosity «temp_k» ⌝ }
     {
-        at_temperature(self.d_e_ref, self.e_a_de, temp_k) * elementary::powf(porosity, self.bruggeman)
+        at_temperature(self.d_e_ref, self.e_a_de, temp_k)
+            * elementary::powf(porosity, self.bruggeman)
     }
 
     // The conductivity in a medium of that porosity.
     fn conductivity_eff(self, porosity: f64, temp_k: f64) -> f64
         ensures { λ r. ⌜ r ≡ conductivityEff self porosity «temp_k» ⌝ }
     {
-        at_temperature(self.kappa_ref, self.e_a_kappa, temp_k) * elementary::powf(porosity, self.bruggeman)
+        at_temperature(self.kappa_ref, self.e_a_kappa, temp_k)
+            * elementary::powf(porosity, self.bruggeman)
     }
 
     // The diffusivity corrected for the temperature, m^2/s.
     pub fn d_e(self, temp_k: f64) -> refusal::Answer
         ensures { λ r. ⌜ said r ≡ dE self «temp_k» ⌝ }
     {
-        refusal::answered(rate_refusal(self.fits(), temp_k), at_temperature(self.d_e_ref, self.e_a_de, temp_k))
+        refusal::answered(
+            rate_refusal(self.fits(), temp_k),
+            at_temperature(self.d_e_ref, self.e_a_de, temp_k),
+        )
     }
 
     // The conductivity corrected for the temperature, S/m.
     pub fn kappa(self, temp_k: f64) -> refusal::Answer
         ensures { λ r. ⌜ said r ≡ kappaCall self «temp_k» ⌝ }
     {
-        refusal::answered(rate_refusal(self.fits(), temp_k), at_temperature(self.kappa_ref, self.e_a_kappa, temp_k))
+        refusal::answered(
+            rate_refusal(self.fits(), temp_k),
+            at_temperature(self.kappa_ref, self.e_a_kappa, temp_k),
+        )
     }
 
     // The effective diffusivity in a porous medium, m^2/s.
@@ -105,7 +120,10 @@ impl ElectrolyteParams {
         ensures { λ r. ⌜ said r ≡ dEEff self porosity «temp_k» ⌝ }
     {
         let fits = self.fits() & refusal::within(porosity, 0.01, 1.0);
-        refusal::answered(rate_refusal(fits, temp_k), self.diffusivity_eff(porosity, temp_k))
+        refusal::answered(
+            rate_refusal(fits, temp_k),
+            self.diffusivity_eff(porosity, temp_k),
+        )
     }
 
     // The effective conductivity in a porous medium, S/m.
@@ -113,7 +131,10 @@ impl ElectrolyteParams {
         ensures { λ r. ⌜ said r ≡ kappaEff self porosity «temp_k» ⌝ }
     {
         let fits = self.fits() & refusal::within(porosity, 0.01, 1.0);
-        refusal::answered(rate_refusal(fits, temp_k), self.conductivity_eff(porosity, temp_k))
+        refusal::answered(
+            rate_refusal(fits, temp_k),
+            self.conductivity_eff(porosity, temp_k),
+        )
     }
 
     // What a step works with in a region of the length l with n nodes.
@@ -353,21 +374,30 @@ impl ElectrolyteState {
     fn counts_fit(self) -> bool
         ensures { λ r. ⌜ r ≡ countsFit self ⌝ }
     {
-        (1 <= self.n_neg) & (self.n_neg <= 32)
-            & (1 <= self.n_sep) & (self.n_sep <= 32)
-            & (1 <= self.n_pos) & (self.n_pos <= 32)
+        (1 <= self.n_neg)
+            & (self.n_neg <= 32)
+            & (1 <= self.n_sep)
+            & (self.n_sep <= 32)
+            & (1 <= self.n_pos)
+            & (self.n_pos <= 32)
     }
 
     // Whether the lengths and the porosities are in their ranges.
     fn regions_fit(self) -> bool
         ensures { λ r. ⌜ r ≡ regionsFit self ⌝ }
     {
-        (1e-7 <= self.l_neg) & (self.l_neg <= 1e-2)
-            & (1e-7 <= self.l_sep) & (self.l_sep <= 1e-2)
-            & (1e-7 <= self.l_pos) & (self.l_pos <= 1e-2)
-            & (0.01 <= self.eps_neg) & (self.eps_neg <= 1.0)
-            & (0.01 <= self.eps_sep) & (self.eps_sep <= 1.0)
-            & (0.01 <= self.eps_pos) & (self.eps_pos <= 1.0)
+        (1e-7 <= self.l_neg)
+            & (self.l_neg <= 1e-2)
+            & (1e-7 <= self.l_sep)
+            & (self.l_sep <= 1e-2)
+            & (1e-7 <= self.l_pos)
+            & (self.l_pos <= 1e-2)
+            & (0.01 <= self.eps_neg)
+            & (self.eps_neg <= 1.0)
+            & (0.01 <= self.eps_sep)
+            & (self.eps_sep <= 1.0)
+            & (0.01 <= self.eps_pos)
+            & (self.eps_pos <= 1.0)
     }
 
     // The number that a build meets: the counts, then the other fields.
@@ -376,7 +406,10 @@ impl ElectrolyteState {
     {
         let params = self.params;
         let grid = refusal::refusal_unless(self.counts_fit(), refusal::GRID);
-        refusal::first_met(grid, refusal::refusal_unless(params.fits() & self.regions_fit(), refusal::SHEET))
+        refusal::first_met(
+            grid,
+            refusal::refusal_unless(params.fits() & self.regions_fit(), refusal::SHEET),
+        )
     }
 
     // How many places are used.
@@ -406,9 +439,15 @@ impl ElectrolyteState {
         let sources = refusal::load_fits(j_n_neg, 1e9) & refusal::load_fits(j_n_pos, 1e9);
         let load = refusal::refusal_unless(sources, refusal::LOAD);
         let interval = refusal::refusal_unless(refusal::interval_fits(dt), refusal::INTERVAL);
-        let temperature = refusal::refusal_unless(refusal::temperature_fits(temp_k), refusal::TEMPERATURE);
+        let temperature = refusal::refusal_unless(
+            refusal::temperature_fits(temp_k),
+            refusal::TEMPERATURE,
+        );
         let unfit = self.refusal();
-        refusal::first_met(unfit, refusal::first_met(load, refusal::first_met(interval, temperature)))
+        refusal::first_met(
+            unfit,
+            refusal::first_met(load, refusal::first_met(interval, temperature)),
+        )
     }
 
     // The mean over the nodes.
@@ -428,9 +467,21 @@ impl ElectrolyteState {
     {
         let params = self.params;
         let src_coeff = 1.0 - params.t_plus;
-        let neg = params.region(self.eps_neg, self.l_neg, self.n_neg, src_coeff * j_n_neg, temp_k);
+        let neg = params.region(
+            self.eps_neg,
+            self.l_neg,
+            self.n_neg,
+            src_coeff * j_n_neg,
+            temp_k,
+        );
         let sep = params.region(self.eps_sep, self.l_sep, self.n_sep, 0.0, temp_k);
-        let pos = params.region(self.eps_pos, self.l_pos, self.n_pos, src_coeff * j_n_pos, temp_k);
+        let pos = params.region(
+            self.eps_pos,
+            self.l_pos,
+            self.n_pos,
+            src_coeff * j_n_pos,
+            temp_k,
+        );
         Drive {
             neg,
             sep,
@@ -507,10 +558,16 @@ impl ElectrolyteState {
         };
         let refusal = given.build_refusal();
         if refusal != 0 {
-            return StateAnswer { refusal, state: no_state() };
+            return StateAnswer {
+                refusal,
+                state: no_state(),
+            };
         }
         let filled = uniform(params.c_e_init, given.nodes());
-        StateAnswer { refusal: 0, state: given.with_profile(filled) }
+        StateAnswer {
+            refusal: 0,
+            state: given.with_profile(filled),
+        }
     }
 
     // How many nodes there are.
@@ -541,14 +598,23 @@ impl ElectrolyteState {
     {
         let refusal = self.step_refusal(j_n_neg, j_n_pos, dt, temp_k);
         if refusal != 0 {
-            return StateAnswer { refusal, state: self };
+            return StateAnswer {
+                refusal,
+                state: self,
+            };
         }
         let old = self.c_e;
         let new = advanced(self.drive(j_n_neg, j_n_pos, dt, temp_k), old);
         if !all_finite(new) {
-            return StateAnswer { refusal: refusal::NOT_FINITE, state: self };
+            return StateAnswer {
+                refusal: refusal::NOT_FINITE,
+                state: self,
+            };
         }
-        StateAnswer { refusal: 0, state: self.with_profile(new) }
+        StateAnswer {
+            refusal: 0,
+            state: self.with_profile(new),
+        }
     }
 
     // The largest stable interval, s.
@@ -556,6 +622,9 @@ impl ElectrolyteState {
         ensures { λ r. ⌜ said r ≡ dtStable self «temp_k» ⌝ }
     {
         let out = refusal::refusal_unless(refusal::temperature_fits(temp_k), refusal::TEMPERATURE);
-        refusal::answered(refusal::first_met(self.refusal(), out), self.stable_interval(temp_k))
+        refusal::answered(
+            refusal::first_met(self.refusal(), out),
+            self.stable_interval(temp_k),
+        )
     }
 }

@@ -2,7 +2,6 @@
 // terminal voltage. A changed translation of src/battery/p2d/solver.rs.
 use electrode::ElectrodeParams;
 use particle::ParticleDiffusion;
-
 ghost use mathlib.Core.Path.{_≡_};
 ghost use Prim.Native.Nat.{_≤_};
 ghost use Rattle.kinetics.specs.Kinetics.{configFits, wallCurrent, exchange, overpotential, terminalVoltage};
@@ -26,11 +25,16 @@ impl SpmConfig {
     pub fn fits(self) -> bool
         ensures { λ r. ⌜ r ≡ configFits self ⌝ }
     {
-        (-10.0 <= self.v_min) & (self.v_min <= 10.0)
-            & (-10.0 <= self.v_max) & (self.v_max <= 10.0)
-            & (9e4 <= self.faraday) & (self.faraday <= 1e5)
-            & (8.0 <= self.r_gas) & (self.r_gas <= 9.0)
-            & (0.0 <= self.r_electrolyte_ohm_m2) & (self.r_electrolyte_ohm_m2 <= 1.0)
+        (-10.0 <= self.v_min)
+            & (self.v_min <= 10.0)
+            & (-10.0 <= self.v_max)
+            & (self.v_max <= 10.0)
+            & (9e4 <= self.faraday)
+            & (self.faraday <= 1e5)
+            & (8.0 <= self.r_gas)
+            & (self.r_gas <= 9.0)
+            & (0.0 <= self.r_electrolyte_ohm_m2)
+            & (self.r_electrolyte_ohm_m2 <= 1.0)
     }
 }
 
@@ -65,7 +69,14 @@ pub fn bv_overpotential(config: SpmConfig, j_n: f64, p: ParticleDiffusion, temp_
 }
 
 // The terminal voltage from the potentials and the drop in the electrolyte, which lowers it at either sign of the current.
-pub fn terminal_voltage(u_neg: f64, u_pos: f64, eta_neg: f64, eta_pos: f64, v_ohm: f64, current_a: f64) -> f64
+pub fn terminal_voltage(
+    u_neg: f64,
+    u_pos: f64,
+    eta_neg: f64,
+    eta_pos: f64,
+    v_ohm: f64,
+    current_a: f64,
+) -> f64
     ensures { λ r. ⌜ r ≡ terminalVoltage «u_neg» «u_pos» «eta_neg» «eta_pos» «v_ohm» «current_a» ⌝ }
 {
     (u_pos + eta_pos) - (u_neg + eta_neg) - v_ohm * elementary::signum(current_a)

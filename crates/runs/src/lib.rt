@@ -17,8 +17,11 @@ pub enum Ending {
 
 // What has ended a run so far: nothing, the voltage, the time, a refusal. A run that nothing ended is full.
 pub const GOING: u64 = 0;
+
 pub const VOLTAGE: u64 = 1;
+
 pub const TIME: u64 = 2;
+
 pub const REFUSED: u64 = 4;
 
 // The ending of a run that has stopped.

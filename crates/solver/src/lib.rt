@@ -1,11 +1,14 @@
 // The single-particle cell: one particle for each electrode. A changed translation of src/battery/p2d/solver.rs. The area is the
 // anode's; what does not change within a step is worked out once.
 use electrode::ElectrodeParams;
-use kinetics::{bv_overpotential, terminal_voltage, wall_current, SpmConfig};
+use kinetics::SpmConfig;
+use kinetics::bv_overpotential;
+use kinetics::terminal_voltage;
+use kinetics::wall_current;
 use particle::ParticleDiffusion;
-use profile::{profile_finite, uniform};
+use profile::profile_finite;
+use profile::uniform;
 use refusal::Answer;
-
 ghost use mathlib.Core.Path.{_≡_};
 ghost use Prim.Native.Nat.{_≤_};
 ghost use Rattle.refusal.specs.Answers.{said};
@@ -65,10 +68,22 @@ pub struct Plan {
 fn no_solver() -> SpmSolver
     ensures { λ r. ⌜ r ≡ noSolver ⌝ }
 {
-    let config = SpmConfig { n_nodes: 0, v_min: 0.0, v_max: 0.0, faraday: 0.0, r_gas: 0.0, r_electrolyte_ohm_m2: 0.0 };
+    let config = SpmConfig {
+        n_nodes: 0,
+        v_min: 0.0,
+        v_max: 0.0,
+        faraday: 0.0,
+        r_gas: 0.0,
+        r_electrolyte_ohm_m2: 0.0,
+    };
     let anode = particle::no_particle();
     let cathode = particle::no_particle();
-    SpmSolver { config, anode, cathode, time_s: 0.0 }
+    SpmSolver {
+        config,
+        anode,
+        cathode,
+        time_s: 0.0,
+    }
 }
 
 // The report beside a refused step.
@@ -95,31 +110,61 @@ impl SpmSolver {
         ensures { λ r. ⌜ r ≡ built config anode cathode ⌝ }
     {
         let n_nodes = config.n_nodes;
-        let few = refusal::refusal_unless(refusal::count_within(n_nodes as u64, 3, 64), refusal::GRID);
+        let few = refusal::refusal_unless(
+            refusal::count_within(n_nodes as u64, 3, 64),
+            refusal::GRID,
+        );
         let fits = config.fits() & anode.fits() & cathode.fits();
         let refusal = refusal::first_met(few, refusal::refusal_unless(fits, refusal::SHEET));
         if refusal != 0 {
-            return SpmAnswer { refusal, solver: no_solver() };
+            return SpmAnswer {
+                refusal,
+                solver: no_solver(),
+            };
         }
         let c_neg = uniform(anode.theta_init * anode.c_s_max, n_nodes);
         let c_pos = uniform(cathode.theta_init * cathode.c_s_max, n_nodes);
-        let neg = ParticleDiffusion { params: anode, n_nodes, c_s: c_neg };
-        let pos = ParticleDiffusion { params: cathode, n_nodes, c_s: c_pos };
-        SpmAnswer { refusal: 0, solver: SpmSolver { config, anode: neg, cathode: pos, time_s: 0.0 } }
+        let neg = ParticleDiffusion {
+            params: anode,
+            n_nodes,
+            c_s: c_neg,
+        };
+        let pos = ParticleDiffusion {
+            params: cathode,
+            n_nodes,
+            c_s: c_pos,
+        };
+        SpmAnswer {
+            refusal: 0,
+            solver: SpmSolver {
+                config,
+                anode: neg,
+                cathode: pos,
+                time_s: 0.0,
+            },
+        }
     }
 
     // Graphite and LFP.
     pub fn graphite_lfp(config: SpmConfig) -> SpmAnswer
         ensures { λ r. ⌜ r ≡ ready config lfpCathode ⌝ }
     {
-        SpmSolver::new(config, ElectrodeParams::graphite_anode(), ElectrodeParams::lfp_cathode())
+        SpmSolver::new(
+            config,
+            ElectrodeParams::graphite_anode(),
+            ElectrodeParams::lfp_cathode(),
+        )
     }
 
     // Graphite and NMC.
     pub fn graphite_nmc(config: SpmConfig) -> SpmAnswer
         ensures { λ r. ⌜ r ≡ ready config nmcCathode ⌝ }
     {
-        SpmSolver::new(config, ElectrodeParams::graphite_anode(), ElectrodeParams::nmc_cathode())
+        SpmSolver::new(
+            config,
+            ElectrodeParams::graphite_anode(),
+            ElectrodeParams::nmc_cathode(),
+        )
     }
 
     // ---- checks
@@ -149,7 +194,10 @@ impl SpmSolver {
         ensures { λ r. ⌜ r ≡ cellRefusal self ⌝ }
     {
         let grid = refusal::refusal_unless(self.grid_fits(), refusal::GRID);
-        refusal::first_met(grid, refusal::refusal_unless(self.fields_fit(), refusal::SHEET))
+        refusal::first_met(
+            grid,
+            refusal::refusal_unless(self.fields_fit(), refusal::SHEET),
+        )
     }
 
     // The number that a step meets before anything is worked out.
@@ -158,8 +206,14 @@ impl SpmSolver {
     {
         let load = refusal::refusal_unless(refusal::load_fits(current_a, 1e6), refusal::LOAD);
         let interval = refusal::refusal_unless(refusal::interval_fits(dt), refusal::INTERVAL);
-        let temperature = refusal::refusal_unless(refusal::temperature_fits(temp_k), refusal::TEMPERATURE);
-        refusal::first_met(self.refusal(), refusal::first_met(load, refusal::first_met(interval, temperature)))
+        let temperature = refusal::refusal_unless(
+            refusal::temperature_fits(temp_k),
+            refusal::TEMPERATURE,
+        );
+        refusal::first_met(
+            self.refusal(),
+            refusal::first_met(load, refusal::first_met(interval, temperature)),
+        )
     }
 
     // ---- parts of a step
@@ -203,9 +257,22 @@ impl SpmSolver {
         let pos_params = pos.params;
         let c_neg = neg.after(p.d_neg, p.j_neg, dt_sub, turns as usize);
         let c_pos = pos.after(p.d_pos, p.j_pos, dt_sub, turns as usize);
-        let anode = ParticleDiffusion { params: neg_params, n_nodes: neg.n_nodes, c_s: c_neg };
-        let cathode = ParticleDiffusion { params: pos_params, n_nodes: pos.n_nodes, c_s: c_pos };
-        SpmSolver { config, anode, cathode, time_s: self.time_s + dt }
+        let anode = ParticleDiffusion {
+            params: neg_params,
+            n_nodes: neg.n_nodes,
+            c_s: c_neg,
+        };
+        let cathode = ParticleDiffusion {
+            params: pos_params,
+            n_nodes: pos.n_nodes,
+            c_s: c_pos,
+        };
+        SpmSolver {
+            config,
+            anode,
+            cathode,
+            time_s: self.time_s + dt,
+        }
     }
 
     // The terminal voltage of the cell after the sub-steps.
@@ -280,7 +347,12 @@ impl SpmSolver {
         let after = self.advanced(p, dt);
         let state = after.reported(p, current_a, temp_k);
         if after.finite_with(state) {
-            return SpmStep { refusal: 0, state, sub_steps: elementary::ceil_count(p.q), solver: after };
+            return SpmStep {
+                refusal: 0,
+                state,
+                sub_steps: elementary::ceil_count(p.q),
+                solver: after,
+            };
         }
         refused_step(refusal::NOT_FINITE, self)
     }
@@ -308,7 +380,10 @@ impl SpmSolver {
         }
         let neg = self.anode;
         let theta = neg.average_theta();
-        refusal::answered(number, elementary::clamp((theta - 0.20) / (0.80 - 0.20), 0.0, 1.0))
+        refusal::answered(
+            number,
+            elementary::clamp((theta - 0.20) / (0.80 - 0.20), 0.0, 1.0),
+        )
     }
 }
 
@@ -318,7 +393,10 @@ fn plan_refusal(p: Plan) -> u64
 {
     let within = refusal::within(p.d_neg, 1e-20, 1e-8) & refusal::within(p.d_pos, 1e-20, 1e-8);
     let few = !(p.q > 4096.0);
-    refusal::first_met(refusal::refusal_unless(within, refusal::DIFFUSIVITY), refusal::refusal_unless(few, refusal::SUB_STEPS))
+    refusal::first_met(
+        refusal::refusal_unless(within, refusal::DIFFUSIVITY),
+        refusal::refusal_unless(few, refusal::SUB_STEPS),
+    )
 }
 
 // A refused step: the number, and the cell as it was.
@@ -326,5 +404,10 @@ fn refused_step(number: u64, s: SpmSolver) -> SpmStep
     ensures { λ r. ⌜ r ≡ refusedStep number s ⌝ }
 {
     let state = no_state();
-    SpmStep { refusal: number, state, sub_steps: 0, solver: s }
+    SpmStep {
+        refusal: number,
+        state,
+        sub_steps: 0,
+        solver: s,
+    }
 }

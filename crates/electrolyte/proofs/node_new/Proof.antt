@@ -25,9 +25,12 @@ moved-requires c κs = search needs
 returns : tie.Need-returns
 unfolding nodeNew
 returns c =
-    rw
-    (c .moved .ensures, c .before .before .region-at .ensures, c .before .before .before .right-of .ensures,
-    c .before .before .before .before .left-of .ensures)
+    rw (
+      c .moved .ensures,
+      c .before .before .region-at .ensures,
+      c .before .before .before .right-of .ensures,
+      c .before .before .before .before .left-of .ensures,
+    )
 
 pub node-new-spec : {M : Type 1} → statement M
 node-new-spec =

@@ -19,9 +19,12 @@ first-met-requires c κs = search needs
 returns : tie.Need-returns
 unfolding rateRefusal
 returns c =
-    rw
-    (c .first-met .ensures, c .before .refusal-unless2 .ensures, c .before .before .temperature-fits .ensures,
-    c .before .before .before .refusal-unless .ensures)
+    rw (
+      c .first-met .ensures,
+      c .before .refusal-unless2 .ensures,
+      c .before .before .temperature-fits .ensures,
+      c .before .before .before .refusal-unless .ensures,
+    )
 
 pub rate-refusal-spec : {M : Type 1} → statement M
 rate-refusal-spec =

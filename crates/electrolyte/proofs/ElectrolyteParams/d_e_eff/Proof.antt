@@ -22,9 +22,13 @@ answered-requires c κs = search needs
 returns : tie.Need-returns
 unfolding dEEff
 returns c =
-    rw
-    (c .answered .ensures, c .before .diffusivity-eff .ensures, c .before .before .rate-refusal .ensures,
-    c .before .before .before .within .ensures, c .before .before .before .before .fits2 .ensures)
+    rw (
+      c .answered .ensures,
+      c .before .diffusivity-eff .ensures,
+      c .before .before .rate-refusal .ensures,
+      c .before .before .before .within .ensures,
+      c .before .before .before .before .fits2 .ensures,
+    )
 
 pub d-e-eff-spec : {M : Type 1} → statement M
 d-e-eff-spec =

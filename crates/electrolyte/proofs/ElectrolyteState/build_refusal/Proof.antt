@@ -25,10 +25,14 @@ first-met-requires c κs = search needs
 returns : tie.Need-returns
 unfolding buildRefusal
 returns c =
-    rw
-    (c .first-met .ensures, c .before .refusal-unless2 .ensures, c .before .before .regions-fit .ensures,
-    c .before .before .before .fits2 .ensures, c .before .before .before .before .refusal-unless .ensures,
-    c .before .before .before .before .before .counts-fit .ensures)
+    rw (
+      c .first-met .ensures,
+      c .before .refusal-unless2 .ensures,
+      c .before .before .regions-fit .ensures,
+      c .before .before .before .fits2 .ensures,
+      c .before .before .before .before .refusal-unless .ensures,
+      c .before .before .before .before .before .counts-fit .ensures,
+    )
 
 pub build-refusal-spec : {M : Type 1} → statement M
 build-refusal-spec =

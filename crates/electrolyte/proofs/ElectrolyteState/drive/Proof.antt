@@ -22,9 +22,12 @@ nodes-requires c κs = search needs
 returns : tie.Need-returns
 unfolding driveOf
 returns c =
-    rw
-    (c .nodes .ensures, c .before .before .region3 .ensures, c .before .before .before .region2 .ensures,
-    c .before .before .before .before .region .ensures)
+    rw (
+      c .nodes .ensures,
+      c .before .before .region3 .ensures,
+      c .before .before .before .region2 .ensures,
+      c .before .before .before .before .region .ensures,
+    )
 
 pub drive-spec : {M : Type 1} → statement M
 drive-spec =

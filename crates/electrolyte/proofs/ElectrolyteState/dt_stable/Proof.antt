@@ -25,10 +25,14 @@ answered-requires c κs = search needs
 returns : tie.Need-returns
 unfolding dtStable
 returns c =
-    rw
-    (c .answered .ensures, c .before .stable-interval .ensures, c .before .before .first-met .ensures,
-    c .before .before .before .refusal .ensures, c .before .before .before .before .refusal-unless .ensures,
-    c .before .before .before .before .before .temperature-fits .ensures)
+    rw (
+      c .answered .ensures,
+      c .before .stable-interval .ensures,
+      c .before .before .first-met .ensures,
+      c .before .before .before .refusal .ensures,
+      c .before .before .before .before .refusal-unless .ensures,
+      c .before .before .before .before .before .temperature-fits .ensures,
+    )
 
 pub dt-stable-spec : {M : Type 1} → statement M
 dt-stable-spec =

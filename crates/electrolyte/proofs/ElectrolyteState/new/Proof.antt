@@ -29,9 +29,13 @@ with-profile-requires c κs = search needs
 returns-2 : tie.Need-returns-2
 unfolding built
 returns-2 c =
-    rw
-    (← c .before .before .before .before .build-refusal .ensures, eq-eqb _ _ (c .before .before .before .if1 .left),
-    ← c .before .before .nodes .ensures, ← c .before .uniform .ensures, ← c .with-profile .ensures)
+    rw (
+      ← c .before .before .before .before .build-refusal .ensures,
+      eq-eqb _ _ (c .before .before .before .if1 .left),
+      ← c .before .before .nodes .ensures,
+      ← c .before .uniform .ensures,
+      ← c .with-profile .ensures,
+    )
 
 pub new-spec : {M : Type 1} → statement M
 new-spec =

@@ -27,9 +27,13 @@ refusal-unless-requires c κs = search needs
 returns-2 : tie.Need-returns-2
 unfolding stateRefusal firstMet
 returns-2 c =
-    rw
-    (← c .before .before .before .before .before .build-refusal .ensures, eq-eqb _ _ (c .before .before .before .before .if1 .left),
-    ← c .before .before .nodes .ensures, ← c .before .profile-fits .ensures, ← c .refusal-unless .ensures)
+    rw (
+      ← c .before .before .before .before .before .build-refusal .ensures,
+      eq-eqb _ _ (c .before .before .before .before .if1 .left),
+      ← c .before .before .nodes .ensures,
+      ← c .before .profile-fits .ensures,
+      ← c .refusal-unless .ensures,
+    )
 
 pub refusal-spec : {M : Type 1} → statement M
 refusal-spec =

@@ -25,9 +25,14 @@ least-requires-2 c κs = search needs
 returns : tie.Need-returns
 unfolding stableInterval
 returns c =
-    rw
-    (c .least2 .ensures, c .before .per-node3 .ensures, c .before .before .per-node2 .ensures, c .before .before .before .per-node .ensures,
-    c .before .before .before .before .diffusivity-eff .ensures, c .before .before .before .before .before .least .ensures)
+    rw (
+      c .least2 .ensures,
+      c .before .per-node3 .ensures,
+      c .before .before .per-node2 .ensures,
+      c .before .before .before .per-node .ensures,
+      c .before .before .before .before .diffusivity-eff .ensures,
+      c .before .before .before .before .before .least .ensures,
+    )
 
 pub stable-interval-spec : {M : Type 1} → statement M
 stable-interval-spec =

@@ -28,10 +28,14 @@ all-finite-requires c κs = search needs
 returns-2 : tie.Need-returns-2
 unfolding stepped accepted
 returns-2 c =
-    rw
-    (← c .before .before .before .before .before .before .step-refusal .ensures,
-    eq-eqb _ _ (c .before .before .before .before .before .if1 .left), ← c .before .before .before .drive .ensures,
-    ← c .before .before .advanced .ensures, ← c .before .all-finite .ensures, not-true (c .before .all-finite .result) (c .if2 .taken))
+    rw (
+      ← c .before .before .before .before .before .before .step-refusal .ensures,
+      eq-eqb _ _ (c .before .before .before .before .before .if1 .left),
+      ← c .before .before .before .drive .ensures,
+      ← c .before .before .advanced .ensures,
+      ← c .before .all-finite .ensures,
+      not-true (c .before .all-finite .result) (c .if2 .taken),
+    )
 
 with-profile-requires : tie.Need-with-profile-requires
 with-profile-requires c κs = search needs
@@ -39,11 +43,15 @@ with-profile-requires c κs = search needs
 returns-3 : tie.Need-returns-3
 unfolding stepped accepted
 returns-3 c =
-    rw
-    (← c .before .before .before .before .before .before .before .step-refusal .ensures,
-    eq-eqb _ _ (c .before .before .before .before .before .before .if1 .left), ← c .before .before .before .before .drive .ensures,
-    ← c .before .before .before .advanced .ensures, ← c .before .before .all-finite .ensures,
-    not-false (c .before .before .all-finite .result) (c .before .if2 .left), ← c .with-profile .ensures)
+    rw (
+      ← c .before .before .before .before .before .before .before .step-refusal .ensures,
+      eq-eqb _ _ (c .before .before .before .before .before .before .if1 .left),
+      ← c .before .before .before .before .drive .ensures,
+      ← c .before .before .before .advanced .ensures,
+      ← c .before .before .all-finite .ensures,
+      not-false (c .before .before .all-finite .result) (c .before .if2 .left),
+      ← c .with-profile .ensures,
+    )
 
 pub step-concentration-spec : {M : Type 1} → statement M
 step-concentration-spec =
