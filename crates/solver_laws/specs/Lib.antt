@@ -1,0 +1,3 @@
+-- The single-particle cell beyond its contracts.
+pub mod Electrodes
+pub mod Closure
