@@ -1,3 +1,4 @@
 -- The single-particle cell beyond its contracts.
 pub mod Electrodes
 pub mod Closure
+pub mod Demand
