@@ -11,7 +11,7 @@ use Rattle.binary64.specs.Operators.{_⊘_, count}
 use Rattle.binary64.specs.Value.{val}
 use Rattle.diffusion.specs.SubStep.{Drive, subStep}
 use Rattle.diffusion.specs.Exact.{Numbers, numbers}
-use Rattle.diffusion.specs.Premises.{Kept, Sound}
+use Rattle.diffusion.specs.Premises.{Kept, Sound, Whole}
 use Rattle.diffusion.specs.Run.{Grid, Move, drive, run, Each}
 use Rattle.diffusion.specs.Calls.{Stepper, after, accepted, total, exactAfter, Lawful}
 use Rattle.diffusion.specs.CallLaws.{calls-near, each-with}
@@ -186,13 +186,26 @@ module _ (e : Electrode) (s : SpmSolver) where
   total-is [] r v = refl
   total-is (q ∷ qs) r v = rw (reported-count r q v, total-is qs (answer r q .solver) (stays r q v))
 
-  pub keeps : (qs : List Call) → KeptAt e s qs → Each (λ q. Each (λ m. Kept (numbers (drive (gridAt e s) m))) (movesBy e (planFor s q) (q .dt))) (accepted (steps e s) s qs)
-  keeps qs ks = rw (taken-is qs s) (each-with (λ q k k'. each-copies (λ m. Kept (numbers (drive (gridAt e s) m))) (moveBy e (planFor s q) (q .dt)) (subStepsOf (planFor s q)) k) ks ks)
+  -- from a cell in the middle of the list too
+  module _ (r : SpmSolver) (qs : List Call) (v : Inv s r) where
+    pub keeps : Each (λ q. Kept (numbersAt e s q)) (taken r qs) → Each (λ q. Each (λ m. Kept (numbers (drive (gridAt e s) m))) (movesBy e (planFor s q) (q .dt))) (accepted (steps e s) r qs)
+    keeps ks = rw (taken-is qs r) (each-with (λ q k k'. each-copies (λ m. Kept (numbers (drive (gridAt e s) m))) (moveBy e (planFor s q) (q .dt)) (subStepsOf (planFor s q)) k) ks ks)
+
+    pub whole : Whole (particleAt e s .«n_nodes») (val (particleAt e s .params .«c_s_max»)) (particleAt e r .«c_s»)
+    whole = subst (λ (b : Grid). Whole (b .n) (val (b .c_max)) (particleAt e r .«c_s»)) (same-grid e s r (v .make)) (particle-whole (particleAt e r) (electrode-passes r (v .passes) e))
+
+    pub near-from : Each (λ q. Kept (numbersAt e s q)) (taken r qs) → (i : ℕ) → i < particleAt e s .«n_nodes»
+        → place e r qs i -F getD (exactAfter (steps e s) r qs (map val (particleAt e r .«c_s»))) i (nat 0) within nat (K r qs) *F val (particleAt e s .params .«c_s_max») /F pow2 49
+    near-from ks i l = rw (← after-is qs r, ← total-is qs r v) (calls-near (steps e s) lawful r qs v whole (keeps ks) i l)
 
 -- THEOREM 2. The cell passes the checks; at the electrode e every accepted call keeps 6·D·t ≤ h² and 2·h·∣flux∣ ≤ D·M (`Kept`). Then every node of e is within K·M / 2 ^ 49 of
 -- the exact one. Nothing is asked of the other electrode.
 pub solver-near : (e : Electrode) (s : SpmSolver) (qs : List Call) → cellRefusal s ≡ 0 → KeptAt e s qs
     → (i : ℕ) → i < particleAt e s .«n_nodes» → place e s qs i -F exactPlace e s qs i within nat (K s qs) *F val (particleAt e s .params .«c_s_max») /F pow2 49
-solver-near e s qs h ks i l =
-    rw (← after-is e s qs s, ← total-is e s qs s (itself s h))
-    (calls-near (steps e s) (lawful e s) s qs (itself s h) (particle-whole (particleAt e s) (electrode-passes s h e)) (keeps e s qs ks) i l)
+solver-near e s qs h ks i l = near-from e s s qs (itself s h) ks i l
+
+-- AFTER ANY LIST OF CALLS, whether they keep the conditions or not, the cell passes the checks: its nodes are finite and from 0 to M
+pub after-passes : (qs : List Call) (s : SpmSolver) → cellRefusal s ≡ 0 → cellRefusal (cellAfter s qs) ≡ 0
+unfolding cellAfter
+after-passes [] s h = h
+after-passes (q ∷ qs) s h = after-passes qs (answer s q .solver) (step-stays s (q .current) (q .dt) (q .temp) h)

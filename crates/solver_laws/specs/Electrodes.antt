@@ -17,7 +17,9 @@ use Rattle.binary64.specs.Range.{Within, Most, Sized, sized, most-wider, neg-mo
 use Rattle.binary64.specs.RangeTests.{literal, tested-within, tested-sized}
 use Rattle.binary64.specs.RangeOps.{mul-between, div-between, div-most, div-count}
 use Rattle.binary64.specs.Bounds.{within-scaled}
-use Rattle.binary64.specs.Value.{val, val-is, ratio-nn}
+use Rattle.binary64.specs.Order.{neg-le}
+use Rattle.binary64.specs.OrderLaws.{div-le}
+use Rattle.binary64.specs.Value.{val, val-is, ratio-nn, le-val}
 use Rattle.elementary.specs.Count.{ceilOf, ceilDiv}
 use Rattle.elementary.proofs.CountLaws.{ceil-least}
 use Rattle.refusal.specs.Numbers.{firstMet, refusalUnless, grid, load, interval, temperature, subSteps, none-met, passed}
@@ -95,6 +97,9 @@ module _ (s : SpmSolver) (h : cellRefusal s ≡ 0) where
       let n = s .config .«n_nodes» in
       eqb→eq _ _ (and-r (leb 3 n && leb n 64 && eqb (s .anode .«n_nodes») n) (eqb (s .cathode .«n_nodes») n) grid-passed)
 
+  sheet-at : (e : Electrode) → T (sheetFits (particleAt e s .params))
+  sheet-at e = sheet-passed (particleAt e s) (electrode-passes e)
+
 -- ---- a_s * L * F
 faraday-range : (g : SpmConfig) → T (configFits g) → Within (g .faraday) (2 ^ 17) 1 (2 ^ 16) 1
 unfolding ofBits
@@ -128,6 +133,40 @@ wall-range p g h k =
 
 pub wall-above : (p : ElectrodeParams) (g : SpmConfig) → T (sheetFits p) → T (configFits g) → nat 0 <F val (wallCurrent p (g .faraday))
 wall-above p g h k = size-pos (within-scaled (wall-range p g h k) 7 42 tt tt .size)
+
+-- ---- the fluxes, for a current of at most 2 ^ 20 A
+module _ (s : SpmSolver) (h : cellRefusal s ≡ 0) where
+  abbrev area-range : Within (s .anode .params .area) (2 ^ 14) 1 1 (2 ^ 20)
+  area-range = sheet-ranges (s .anode .params) (sheet-at s h Electrode.anode) .plate
+
+  density-range : (i : Float) → Sized i (2 ^ 20) 1 → Sized (currentDensity s i) (2 ^ 40) 1
+  unfolding currentDensity
+  density-range i m = sized (div-most m area-range (2 ^ 40) 1 tt tt tt)
+
+  flux-range : (i dt t : Float) → Sized i (2 ^ 20) 1 → (e : Electrode) → Sized (fluxIn e (planOf s i dt t)) (2 ^ 100) 1
+  unfolding planOf
+  flux-range i dt t m Electrode.anode = sized (div-most (neg-most (density-range i m)) (wall-range (s .anode .params) (s .config) (sheet-at s h Electrode.anode) (config-passed s h)) (2 ^ 100) 1 tt tt tt)
+  flux-range i dt t m Electrode.cathode = sized (div-most (density-range i m) (wall-range (s .cathode .params) (s .config) (sheet-at s h Electrode.cathode) (config-passed s h)) (2 ^ 100) 1 tt tt tt)
+
+  -- a greater current: a greater flux into the cathode, a lesser one into the anode
+  module _ (i i' dt dt' t t' : Float) (m : Sized i (2 ^ 20) 1) (m' : Sized i' (2 ^ 20) 1) (l : T (le i i')) where
+    density-le : T (le (currentDensity s i) (currentDensity s i'))
+    unfolding currentDensity
+    density-le = div-le i i' (s .anode .params .area) (m .fine) (m' .fine) l (size-pos (within-scaled area-range 20 14 tt tt .size))
+
+    pub cathode-flux : val (fluxIn Electrode.cathode (planOf s i dt t)) ≤F val (fluxIn Electrode.cathode (planOf s i' dt' t'))
+    unfolding planOf
+    cathode-flux =
+        le-val (fluxIn Electrode.cathode (planOf s i dt t)) (fluxIn Electrode.cathode (planOf s i' dt' t')) (flux-range i dt t m Electrode.cathode .fine) (flux-range i' dt' t' m' Electrode.cathode .fine)
+        (div-le (currentDensity s i) (currentDensity s i') (wallCurrent (s .cathode .params) (s .config .faraday)) (density-range i m .fine) (density-range i' m' .fine) density-le
+        (wall-above (s .cathode .params) (s .config) (sheet-at s h Electrode.cathode) (config-passed s h)))
+
+    pub anode-flux : val (fluxIn Electrode.anode (planOf s i' dt' t')) ≤F val (fluxIn Electrode.anode (planOf s i dt t))
+    unfolding planOf
+    anode-flux =
+        le-val (fluxIn Electrode.anode (planOf s i' dt' t')) (fluxIn Electrode.anode (planOf s i dt t)) (flux-range i' dt' t' m' Electrode.anode .fine) (flux-range i dt t m Electrode.anode .fine)
+        (div-le (neg (currentDensity s i')) (neg (currentDensity s i)) (wallCurrent (s .anode .params) (s .config .faraday)) (neg-most (density-range i' m') .fine) (neg-most (density-range i m) .fine)
+        (neg-le (currentDensity s i) (currentDensity s i') density-le) (wall-above (s .anode .params) (s .config) (sheet-at s h Electrode.anode) (config-passed s h)))
 
 -- ---- what a step that nothing refuses before it is made works with
 current-range : (i : Float) → T (loadFits i (f64 0x412e_8480_0000_0000)) → Sized i (2 ^ 20) 1
@@ -195,23 +234,11 @@ module _ (s : SpmSolver) (i dt t : Float) (h : inputRefusal s i dt t ≡ 0) wher
       let m : Most dt false (2 ^ 17) 1 = rw (not-below dt (and-l (lt (f64 0) dt) (le dt (f64 0x40f5_1800_0000_0000)) interval-fits)) at (interval-size .0) in
       div-count m (suc k) 1 (2 ^ 17) 1 (omega arith) (le-trans l (lit≤ tt)) tt tt tt
 
-  abbrev sheet-of : (e : Electrode) → T (sheetFits (particleAt e s .params))
-  sheet-of e = sheet-passed (particleAt e s) (electrode-passes s cell-passed e)
-
-  density-range : Sized (currentDensity s i) (2 ^ 40) 1
-  unfolding currentDensity
-  density-range = sized (div-most current-fits (sheet-ranges (s .anode .params) (sheet-of Electrode.anode) .plate) (2 ^ 40) 1 tt tt tt)
-
-  flux-range : (e : Electrode) → Sized (fluxIn e (planOf s i dt t)) (2 ^ 100) 1
-  unfolding planOf
-  flux-range Electrode.anode = sized (div-most (neg-most density-range) (wall-range (s .anode .params) (s .config) (sheet-of Electrode.anode) (config-passed s cell-passed)) (2 ^ 100) 1 tt tt tt)
-  flux-range Electrode.cathode = sized (div-most density-range (wall-range (s .cathode .params) (s .config) (sheet-of Electrode.cathode) (config-passed s cell-passed)) (2 ^ 100) 1 tt tt tt)
-
   diffusivity-in : (e : Electrode) → Within (diffusivityIn e (planOf s i dt t)) (2 ^ 4) 1 1 (2 ^ 97)
   unfolding planOf
-  diffusivity-in Electrode.anode = diffusivity-range (s .anode .params) t (sheet-of Electrode.anode) temperature-fits
-  diffusivity-in Electrode.cathode = diffusivity-range (s .cathode .params) t (sheet-of Electrode.cathode) temperature-fits
+  diffusivity-in Electrode.anode = diffusivity-range (s .anode .params) t (sheet-at s cell-passed Electrode.anode) temperature-fits
+  diffusivity-in Electrode.cathode = diffusivity-range (s .cathode .params) t (sheet-at s cell-passed Electrode.cathode) temperature-fits
 
   -- EACH SUB-STEP AT EACH ELECTRODE is in its ranges
   pub sub-step-ranged : (e : Electrode) (k : ℕ) → suc k ≤ 4096 → Ranged (driveWith (particleAt e s) (diffusivityIn e (planOf s i dt t)) (fluxIn e (planOf s i dt t)) (dt ⊘ count (suc k)))
-  sub-step-ranged e k l = let m = part-range k l in particle-ranged (particleAt e s) (electrode-passes s cell-passed e) (diffusivity-in e) (flux-range e) (sized m) (most-above m)
+  sub-step-ranged e k l = let m = part-range k l in particle-ranged (particleAt e s) (electrode-passes s cell-passed e) (diffusivity-in e) (flux-range s cell-passed i dt t current-fits e) (sized m) (most-above m)

@@ -2,3 +2,5 @@
 pub mod Electrodes
 pub mod Closure
 pub mod Demand
+pub mod Ordered
+pub mod Ranking
