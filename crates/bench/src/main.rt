@@ -9,6 +9,7 @@ mod particles;
 mod ranges;
 mod sheets;
 mod systems;
+mod porous;
 
 use libc::STDOUT_FILENO;
 use list::AGREES;
@@ -64,6 +65,10 @@ const CELL_STEP: u64 = 22;
 const CELL_NUMBERS: u64 = 23;
 
 const SIMULATE_DISCHARGE: u64 = 24;
+const READY_PARAMETERS: u64 = 25;
+const DFN_NEW: u64 = 26;
+const DFN_STEP: u64 = 27;
+const RUN_GALVANOSTATIC: u64 = 28;
 
 fn line(which: u64, fd: i32) -> u64 {
     match which {
@@ -92,6 +97,10 @@ fn line(which: u64, fd: i32) -> u64 {
         CELL_STEP => cells::step_line(fd),
         CELL_NUMBERS => cells::number_line(fd),
         SIMULATE_DISCHARGE => discharges::run_line(fd),
+        READY_PARAMETERS => porous::ready_line(fd),
+        DFN_NEW => porous::new_line(fd),
+        DFN_STEP => porous::step_line(fd),
+        RUN_GALVANOSTATIC => porous::run_line(fd),
         _ => OVER,
     }
 }
@@ -168,6 +177,13 @@ fn replay_cells() {
     replay(SIMULATE_DISCHARGE, b"simulate_discharge.txt");
 }
 
+fn replay_porous() {
+    replay(READY_PARAMETERS, b"ready_parameters.txt");
+    replay(DFN_NEW, b"dfn_new.txt");
+    replay(DFN_STEP, b"dfn_step.txt");
+    replay(RUN_GALVANOSTATIC, b"run_galvanostatic.txt");
+}
+
 fn main() {
     replay_functions();
     replay_sheets();
@@ -175,4 +191,5 @@ fn main() {
     replay_cells();
     replay_electrolyte();
     replay_systems();
+    replay_porous();
 }

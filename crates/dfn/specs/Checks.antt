@@ -1,0 +1,147 @@
+-- What a cell that is handed in is checked for, what a step is, and what one that nothing refuses has met. Assumes nothing.
+use Prim.Native.Nat.{ℕ, _+_, _*_, _≤_}
+use mathlib.Core.Path.{_≡_, sym, _∙_}
+use mathlib.Core.Bool.{Bool, true, false, not, _&&_}
+use mathlib.Core.List.{List}
+use borrow.Author.Tests.{not-false}
+use native.Mathlib.Nat.{zero-lt-suc}
+use lib.Dec.{T, leb, ltb, leb→le}
+use lib.ListN.{getD}
+use lib.Ieee.{Float, nan}
+use lib.Ieee.Fits.{and-l, and-r}
+use Rattle.binary64.specs.Operators.{f64}
+use Rattle.refusal.specs.Numbers.{firstMet, refusalUnless, grid, sheet, load, interval, none-met, passed}
+use Rattle.refusal.specs.Ranges.{loadFits, intervalFits, clockFits}
+use Rattle.turns.specs.Turns.{allBelow}
+use Rattle.dfn_parameters.specs.Ranges.{numbersFit, coefficientFits, coefficientsFit, parametersFit, gridFits, limitsFit}
+use Rattle.dfn_parameters.specs.declared.DfnParams.{DfnParams}
+use Rattle.dfn_parameters.specs.declared.DfnConfig.{DfnConfig}
+use Rattle.dfn_places.specs.Places.{solidFits, electrolyteFits}
+use Rattle.dfn.specs.declared.DfnSolver.{DfnSolver}
+
+-- how many places are used
+abbrev pub usedNeg : DfnConfig → ℕ
+usedNeg g = g .«n_x_neg» * g .«n_r»
+
+abbrev pub usedPos : DfnConfig → ℕ
+usedPos g = g .«n_x_pos» * g .«n_r»
+
+abbrev pub usedSalt : DfnConfig → ℕ
+usedSalt g = g .«n_x_neg» + 1 + g .«n_x_pos»
+
+-- the whole cell but its counts of nodes, and but what a step only overwrites
+abbrev pub fieldsFit : DfnSolver → Bool
+fieldsFit d =
+    parametersFit (d .params)
+    && limitsFit (d .config)
+    && solidFits (d .«c_s_neg») (usedNeg (d .config)) (d .params .«c_s_neg_max»)
+    && solidFits (d .«c_s_pos») (usedPos (d .config)) (d .params .«c_s_pos_max»)
+    && electrolyteFits (d .«c_e») (usedSalt (d .config))
+    && clockFits (d .«time_s»)
+
+unfoldable pub cellRefusal : DfnSolver → ℕ
+cellRefusal d = firstMet (refusalUnless (gridFits (d .config)) grid) (refusalUnless (fieldsFit d) sheet)
+
+-- a current of at most 1e6 A
+unfoldable pub stepRefusal : DfnSolver → Float → Float → ℕ
+stepRefusal d current dt =
+    firstMet (cellRefusal d) (firstMet (refusalUnless (loadFits current (f64 0x412e_8480_0000_0000)) load) (refusalUnless (intervalFits dt) interval))
+
+-- ---- what a cell that nothing refuses has met
+pub record Grid (g : DfnConfig) : Type 0 where
+  pub least-neg : 1 ≤ g .«n_x_neg»
+  pub most-neg : g .«n_x_neg» ≤ 16
+  pub least-pos : 1 ≤ g .«n_x_pos»
+  pub most-pos : g .«n_x_pos» ≤ 16
+  pub least-r : 2 ≤ g .«n_r»
+  pub most-r : g .«n_r» ≤ 32
+
+-- as the step's parts need it
+pub record Met (d : DfnSolver) : Type 0 where
+  pub nodes : Grid (d .config)
+  pub coeffs-neg : d .params .«ocv_neg_count» ≤ 16
+  pub coeffs-pos : d .params .«ocv_pos_count» ≤ 16
+
+pub grid-met : (g : DfnConfig) → T (gridFits g) → Grid g
+grid-met g t =
+    let a1 = leb 1 (g .«n_x_neg») in
+    let a2 = leb (g .«n_x_neg») 16 in
+    let a3 = leb 1 (g .«n_x_pos») in
+    let a4 = leb (g .«n_x_pos») 16 in
+    let a5 = leb 2 (g .«n_r») in
+    let a6 = leb (g .«n_r») 32 in
+    let t5 = and-l (a1 && a2 && a3 && a4 && a5) a6 t in
+    let t4 = and-l (a1 && a2 && a3 && a4) a5 t5 in
+    let t3 = and-l (a1 && a2 && a3) a4 t4 in
+    let t2 = and-l (a1 && a2) a3 t3 in
+    record {
+      least-neg = leb→le 1 (g .«n_x_neg») (and-l a1 a2 t2);
+      most-neg = leb→le (g .«n_x_neg») 16 (and-r a1 a2 t2);
+      least-pos = leb→le 1 (g .«n_x_pos») (and-r (a1 && a2) a3 t3);
+      most-pos = leb→le (g .«n_x_pos») 16 (and-r (a1 && a2 && a3) a4 t4);
+      least-r = leb→le 2 (g .«n_r») (and-r (a1 && a2 && a3 && a4) a5 t5);
+      most-r = leb→le (g .«n_r») 32 (and-r (a1 && a2 && a3 && a4 && a5) a6 t);
+    }
+
+-- as a program's test leaves it
+pub grid-of : (g : DfnConfig) (b : Bool) → b ≡ gridFits g → not b ≡ false → Grid g
+grid-of g b e h = let q : gridFits g ≡ true = sym e ∙ not-false b h in grid-met g (rw q tt)
+
+pub cell-grid : (d : DfnSolver) → cellRefusal d ≡ 0 → Grid (d .config)
+unfolding cellRefusal
+cell-grid d h = grid-met (d .config) (passed (gridFits (d .config)) grid (zero-lt-suc 0) (none-met _ _ h .0))
+
+pub cell-fields : (d : DfnSolver) → cellRefusal d ≡ 0 → T (fieldsFit d)
+unfolding cellRefusal
+cell-fields d h = passed (fieldsFit d) sheet (zero-lt-suc 1) (none-met _ _ h .1)
+
+-- the fields one by one
+pub record Fields (d : DfnSolver) : Type 0 where
+  pub parameters : T (parametersFit (d .params))
+  pub limits : T (limitsFit (d .config))
+  pub neg : T (solidFits (d .«c_s_neg») (usedNeg (d .config)) (d .params .«c_s_neg_max»))
+  pub pos : T (solidFits (d .«c_s_pos») (usedPos (d .config)) (d .params .«c_s_pos_max»))
+  pub salt : T (electrolyteFits (d .«c_e») (usedSalt (d .config)))
+  pub clock : T (clockFits (d .«time_s»))
+
+pub fields-met : (d : DfnSolver) → T (fieldsFit d) → Fields d
+fields-met d t =
+    let b1 = parametersFit (d .params) in
+    let b2 = limitsFit (d .config) in
+    let b3 = solidFits (d .«c_s_neg») (usedNeg (d .config)) (d .params .«c_s_neg_max») in
+    let b4 = solidFits (d .«c_s_pos») (usedPos (d .config)) (d .params .«c_s_pos_max») in
+    let b5 = electrolyteFits (d .«c_e») (usedSalt (d .config)) in
+    let b6 = clockFits (d .«time_s») in
+    let t5 = and-l (b1 && b2 && b3 && b4 && b5) b6 t in
+    let t4 = and-l (b1 && b2 && b3 && b4) b5 t5 in
+    let t3 = and-l (b1 && b2 && b3) b4 t4 in
+    let t2 = and-l (b1 && b2) b3 t3 in
+    record {
+      parameters = and-l b1 b2 t2;
+      limits = and-r b1 b2 t2;
+      neg = and-r (b1 && b2) b3 t3;
+      pos = and-r (b1 && b2 && b3) b4 t4;
+      salt = and-r (b1 && b2 && b3 && b4) b5 t5;
+      clock = and-r (b1 && b2 && b3 && b4 && b5) b6 t;
+    }
+
+-- each side has at most 16 coefficients
+few : (c : List Float) (n : ℕ) → T (coefficientsFit c n) → n ≤ 16
+unfolding coefficientsFit
+few c n t = leb→le n 16 (and-r (allBelow 16 (λ i. coefficientFits (getD c i nan) (ltb i n))) (leb n 16) t)
+
+pub coefficients-met : (p : DfnParams) → T (parametersFit p) → (p .«ocv_neg_count» ≤ 16) × (p .«ocv_pos_count» ≤ 16)
+unfolding parametersFit
+coefficients-met p t =
+    let neg = coefficientsFit (p .«ocv_neg_coeffs») (p .«ocv_neg_count») in
+    let pos = coefficientsFit (p .«ocv_pos_coeffs») (p .«ocv_pos_count») in
+    (few (p .«ocv_neg_coeffs») (p .«ocv_neg_count») (and-r (numbersFit p) neg (and-l (numbersFit p && neg) pos t)), few (p .«ocv_pos_coeffs») (p .«ocv_pos_count») (and-r (numbersFit p && neg) pos t))
+
+pub cell-met : (d : DfnSolver) → cellRefusal d ≡ 0 → Met d
+cell-met d h =
+    let n = coefficients-met (d .params) (fields-met d (cell-fields d h) .parameters) in
+    record { nodes = cell-grid d h; coeffs-neg = n .0; coeffs-pos = n .1 }
+
+pub step-cell : (d : DfnSolver) (current dt : Float) → stepRefusal d current dt ≡ 0 → cellRefusal d ≡ 0
+unfolding stepRefusal
+step-cell d current dt h = none-met _ _ h .0

@@ -1,0 +1,9 @@
+-- The Doyle-Fuller-Newman cell, from document 01 and dfn.rs.
+--
+-- Checks: what a cell that is handed in is checked for, and a step.
+-- Step: what a step moves, reports, leaves and answers. `stepped` is what a run folds.
+-- Build: a new cell.
+pub mod Checks
+pub mod Step
+pub mod Build
+pub mod Literals

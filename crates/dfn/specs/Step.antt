@@ -1,0 +1,115 @@
+-- A step: what moves, the report, the cell that it leaves, and what it answers. Definitions only.
+use Prim.Native.Nat.{ℕ, _+_, _-_, _/_}
+use mathlib.Core.Bool.{Bool, false, cond, _&&_, _||_}
+use lib.Dec.{eqb}
+use lib.ListN.{getD}
+use lib.Ieee.{Float, nan, lt, neg}
+use Rattle.binary64.specs.Operators.{_⊕_, _⊘_, f64, count}
+use Rattle.refusal.specs.Numbers.{notFinite}
+use Rattle.refusal.specs.Ranges.{finite}
+use Rattle.dfn_parameters.specs.Sides.{anodeOf, cathodeOf, poreFlux}
+use Rattle.dfn_parameters.specs.declared.DfnParams.{DfnParams}
+use Rattle.dfn_parameters.specs.declared.Side.{Side}
+use Rattle.dfn_places.specs.Places.{allFinite, changeAfter}
+use Rattle.dfn_electrolyte.specs.Electrolyte.{electrolyteAfter}
+use Rattle.dfn_solid.specs.Solid.{solidAfter}
+use Rattle.dfn_solid.specs.declared.Grain.{Grain}
+use Rattle.dfn_voltage.specs.Voltage.{voltageOf}
+use Rattle.dfn.specs.Checks.{usedNeg, usedPos, usedSalt, stepRefusal}
+use Rattle.dfn.specs.declared.DfnSolver.{DfnSolver}
+use Rattle.dfn.specs.declared.DfnStep.{DfnStep}
+use Rattle.dfn.specs.declared.DfnAnswer.{DfnAnswer}
+use Rattle.dfn.specs.declared.Moved.{Moved}
+
+-- n nodes in each particle: dr = r / (n - 1)
+abbrev pub grainOf : DfnParams → Side → ℕ → Float → Float → Grain
+grainOf p side n current dt = record {
+  n = n;
+  dr = side .r ⊘ count (n - 1);
+  «d_ref» = side .«d_s_ref»;
+  «c_max» = side .«c_s_max»;
+  flux = poreFlux side (p .area) current;
+  dt = dt;
+}
+
+-- the electrolyte and the particles of both electrodes, all from the old cell; -I at the anode, I at the cathode
+unfoldable pub movedBy : DfnSolver → Float → Float → Moved
+movedBy d current dt = record {
+  «c_e» = electrolyteAfter (d .params) (d .config .«n_x_neg») (d .config .«n_x_pos») (d .«c_e») current dt;
+  neg = solidAfter (grainOf (d .params) (anodeOf (d .params)) (d .config .«n_r») (neg current) dt) (d .«c_s_neg») (d .config .«n_x_neg»);
+  pos = solidAfter (grainOf (d .params) (cathodeOf (d .params)) (d .config .«n_r») current dt) (d .«c_s_pos») (d .config .«n_x_pos»);
+}
+
+abbrev reportAt : DfnSolver → Moved → Float → Float → Float → DfnStep
+reportAt d m current dt v = record {
+  voltage = v;
+  current = current;
+  «time_s» = d .«time_s» ⊕ dt;
+  «theta_neg» = m .neg .theta;
+  «theta_pos» = m .pos .theta;
+  «delta_c_e_max» = changeAfter (m .«c_e») (d .«c_e») (usedSalt (d .config));
+  «newton_iter» = 1;
+  cutoff = lt v (d .config .«v_min») || lt (d .config .«v_max») v;
+}
+
+-- the voltage from the new stoichiometries and the new salt at node n_x_neg / 2
+unfoldable pub reportOf : DfnSolver → Moved → Float → Float → DfnStep
+reportOf d m current dt =
+    reportAt d m current dt
+    (voltageOf (d .params) (m .neg .theta) (m .pos .theta) (getD (m .«c_e») (d .config .«n_x_neg» / 2) nan) current)
+
+unfoldable pub cellWith : DfnSolver → Moved → DfnStep → DfnSolver
+cellWith d m r = record {
+  params = d .params;
+  config = d .config;
+  «c_s_neg» = m .neg .c;
+  «c_s_pos» = m .pos .c;
+  «c_e» = m .«c_e»;
+  «time_s» = r .«time_s»;
+  voltage = r .voltage;
+  current = r .current;
+  «theta_neg_surf» = r .«theta_neg»;
+  «theta_pos_surf» = r .«theta_pos»;
+}
+
+-- neither the new cell nor the report holds a NaN or an infinity; the report's numbers are the cell's too
+unfoldable pub allNumbers : DfnSolver → DfnStep → Bool
+allNumbers d r =
+    allFinite (d .«c_s_neg») (usedNeg (d .config))
+    && allFinite (d .«c_s_pos») (usedPos (d .config))
+    && allFinite (d .«c_e») (usedSalt (d .config))
+    && finite (r .voltage)
+    && finite (r .current)
+    && finite (r .«time_s»)
+    && finite (r .«theta_neg»)
+    && finite (r .«theta_pos»)
+    && finite (r .«delta_c_e_max»)
+
+unfoldable pub noReport : DfnStep
+noReport = record {
+  voltage = f64 0;
+  current = f64 0;
+  «time_s» = f64 0;
+  «theta_neg» = f64 0;
+  «theta_pos» = f64 0;
+  «delta_c_e_max» = f64 0;
+  «newton_iter» = 0;
+  cutoff = false;
+}
+
+abbrev pub refusedWith : ℕ → DfnSolver → DfnAnswer
+refusedWith k d = record { refusal = k; report = noReport; cell = d }
+
+-- by the new cell, refused with 8 where it or the report does not hold numbers alone
+unfoldable pub answered : DfnSolver → DfnSolver → DfnStep → DfnAnswer
+answered old new r = cond (allNumbers new r) (record { refusal = 0; report = r; cell = new }) (refusedWith notFinite old)
+
+unfoldable pub followed : DfnSolver → Moved → DfnStep → DfnAnswer
+followed d m r = answered d (cellWith d m r) r
+
+unfoldable pub advanced : DfnSolver → Moved → Float → Float → DfnAnswer
+advanced d m current dt = followed d m (reportOf d m current dt)
+
+unfoldable pub stepped : DfnSolver → Float → Float → DfnAnswer
+stepped d current dt =
+    cond (eqb (stepRefusal d current dt) 0) (advanced d (movedBy d current dt) current dt) (refusedWith (stepRefusal d current dt) d)

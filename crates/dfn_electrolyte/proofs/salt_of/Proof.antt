@@ -1,0 +1,13 @@
+-- `dfn_electrolyte::salt_of` meets its contract. Assumes nothing.
+use borrow.Author.Needs.{needs}
+use Rattle.dfn_electrolyte.proofs.salt_of.Statement.{statement}
+use Rattle.dfn_electrolyte.proofs.salt_of.Tie as tie
+
+powf-requires : tie.Need-powf-requires
+powf-requires c κs = search needs
+
+returns : tie.Need-returns
+returns c = cc
+
+pub salt-of-spec : {M : Type 1} → statement M
+salt-of-spec = tie.close (tie.spec powf-requires returns)

@@ -1,0 +1,5 @@
+-- The electrolyte of the Doyle-Fuller-Newman cell, from document 01 and dfn.rs.
+--
+-- Electrolyte: each node after a step. `nodeWith` says which nodes move.
+pub mod Electrolyte
+pub mod Literals

@@ -1,0 +1,10 @@
+-- The parameters and the grid of the Doyle-Fuller-Newman cell, from document 01 and dfn.rs.
+--
+-- Ranges: what the fields are checked for.
+-- Ready: the two ready sets.
+-- Sides: the two electrodes and their open-circuit potentials.
+-- Literals: each bit pattern above is its decimal rounded once.
+pub mod Ranges
+pub mod Ready
+pub mod Sides
+pub mod Literals

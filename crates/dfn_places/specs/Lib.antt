@@ -1,0 +1,3 @@
+-- The arrays of the Doyle-Fuller-Newman cell, from document 01 and dfn.rs.
+pub mod Places
+pub mod Literals

@@ -1,0 +1,39 @@
+-- The places of a cell's arrays. Definitions only.
+use Prim.Native.Nat.{ℕ, zero, suc}
+use mathlib.Core.Bool.{Bool, cond}
+use mathlib.Core.List.{List}
+use lib.Dec.{ltb}
+use lib.ListN.{getD, replicate}
+use lib.Ieee.{Float, nan}
+use Rattle.binary64.specs.Operators.{_⊖_, f64}
+use Rattle.elementary.specs.Choice.{absOf, maxOf}
+use Rattle.refusal.specs.Ranges.{inRange, finite, plusZero}
+use Rattle.turns.specs.Turns.{firstBy, allBelow}
+
+abbrev pub at : List Float → ℕ → Float
+at c i = getD c i nan
+
+-- a used place is in its range, an unused one is +0 by its bits
+unfoldable pub placeFits : Float → Bool → Float → Float → Bool
+placeFits x used low high = cond used (inRange x low high) (plusZero x)
+
+-- of 512 places the first n used, in 0 to the electrode's largest concentration
+unfoldable pub solidFits : List Float → ℕ → Float → Bool
+solidFits c n cmax = allBelow 512 (λ i. placeFits (at c i) (ltb i n) (f64 0) cmax)
+
+-- of 33 places the first n used, in 1 to 1e5
+unfoldable pub electrolyteFits : List Float → ℕ → Bool
+electrolyteFits c n = allBelow 33 (λ i. placeFits (at c i) (ltb i n) (f64 0x3ff0_0000_0000_0000) (f64 0x40f8_6a00_0000_0000))
+
+-- every used place a number
+abbrev pub allFinite : List Float → ℕ → Bool
+allFinite c n = allBelow n (λ i. finite (at c i))
+
+-- x in the first n places, +0 in the others
+abbrev pub filled : ℕ → Float → ℕ → List Float
+filled size x n = firstBy n (λ i. x) (replicate size (f64 0))
+
+-- the largest change of the first k places, from 0.0: a NaN does not survive the maximum
+unfoldable pub changeAfter : List Float → List Float → ℕ → Float
+changeAfter new old zero = f64 0
+changeAfter new old (suc k) = maxOf (changeAfter new old k) (absOf (at new k ⊖ at old k))

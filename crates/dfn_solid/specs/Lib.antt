@@ -1,0 +1,7 @@
+-- The particles of the Doyle-Fuller-Newman cell, from document 01 and dfn.rs.
+--
+-- Solid: each node after a step, and the mean of the surfaces.
+-- Room: they have room in 512 places.
+pub mod Solid
+pub mod Room
+pub mod Literals

@@ -1,0 +1,93 @@
+-- The particles of one electrode after a step, node by node from the old nodes. Definitions only.
+use Prim.Native.Nat.{ℕ, zero, suc, _+_, _-_, _*_}
+use mathlib.Core.Bool.{cond}
+use mathlib.Core.List.{List}
+use lib.Dec.{eqb, ltb}
+use lib.ListN.{getD, replicate}
+use lib.Ieee.{Float, nan}
+use Rattle.binary64.specs.Operators.{_⊕_, _⊖_, _⊗_, _⊘_, f64, count}
+use Rattle.elementary.specs.Exp.{one}
+use Rattle.elementary.specs.Choice.{clampOf, maxOf}
+use Rattle.turns.specs.Turns.{firstBy}
+use Rattle.places.specs.Places.{placesBy}
+use Rattle.dfn_solid.specs.declared.Grain.{Grain}
+use Rattle.dfn_solid.specs.declared.Solid.{Solid}
+
+abbrev pub at : List Float → ℕ → Float
+at c i = getD c i nan
+
+abbrev half : Float
+half = f64 0x3fe0_0000_0000_0000
+
+-- c / max(c_max, 1e-3) - 0.5
+abbrev fromMiddle : Grain → Float → Float
+fromMiddle v c = c ⊘ maxOf (v .«c_max») (f64 0x3f50_624d_d2f1_a9fc) ⊖ half
+
+-- d_ref * (1 + 0.3 * x * x)
+abbrev pub dSolid : Grain → Float → Float
+dSolid v c = v .«d_ref» ⊗ (one ⊕ f64 0x3fd3_3333_3333_3333 ⊗ fromMiddle v c ⊗ fromMiddle v c)
+
+-- the diffusivities at the first n places
+unfoldable pub dSolids : Grain → List Float → ℕ → List Float
+dSolids v c n = firstBy n (λ k. dSolid v (at c k)) (replicate 512 (f64 0))
+
+module _ (v : Grain) (c d : List Float) where
+  -- r = i * dr, r_plus = r + 0.5 * dr, r_minus = max(r - 0.5 * dr, 0)
+  abbrev radius : ℕ → Float
+  radius i = count i ⊗ v .dr
+
+  abbrev above : ℕ → Float
+  above i = radius i ⊕ half ⊗ v .dr
+
+  abbrev below : ℕ → Float
+  below i = maxOf (radius i ⊖ half ⊗ v .dr) (f64 0)
+
+  -- r_plus^2 * 0.5 * (d + d_plus) * (c_plus - c) / dr
+  abbrev fluxOut : ℕ → ℕ → Float
+  fluxOut k i = above i ⊗ above i ⊗ half ⊗ (at d k ⊕ at d (k + 1)) ⊗ (at c (k + 1) ⊖ at c k) ⊘ v .dr
+
+  -- r_minus^2 * 0.5 * (d_minus + d) * (c - c_minus) / dr
+  abbrev fluxIn : ℕ → ℕ → Float
+  fluxIn k i = below i ⊗ below i ⊗ half ⊗ (at d (k - 1) ⊕ at d k) ⊗ (at c k ⊖ at c (k - 1)) ⊘ v .dr
+
+  -- the place k, which is node i: c + dt / (r * r * dr) * (flux_out - flux_in)
+  unfoldable pub innerWith : ℕ → ℕ → Float
+  innerWith k i = at c k ⊕ v .dt ⊘ (radius i ⊗ radius i ⊗ v .dr) ⊗ (fluxOut k i ⊖ fluxIn k i)
+
+  -- c - dt * d * (j / max(d, 1e-30)) / dr
+  unfoldable pub surfaceWith : ℕ → Float
+  surfaceWith k = at c k ⊖ v .dt ⊗ at d k ⊗ (v .flux ⊘ maxOf (at d k) (f64 0x39b4_484b_feeb_c2a0)) ⊘ v .dr
+
+  -- node 0 of the particle at `base` takes the new value of node 1; with two nodes that is the surface, which still has its old one
+  unfoldable pub centreWith : ℕ → Float
+  centreWith base = cond (eqb (v .n) 2) (at c (base + 1)) (innerWith (base + 1) 1)
+
+  unfoldable pub nodeWith : ℕ → ℕ → Float
+  nodeWith base i = cond (eqb i 0) (centreWith base) (cond (ltb (i + 1) (v .n)) (innerWith (base + i) i) (surfaceWith (base + i)))
+
+  -- held to 0 to the largest concentration
+  abbrev pub heldNode : ℕ → ℕ → Float
+  heldNode base i = clampOf (nodeWith base i) (f64 0) (v .«c_max»)
+
+  -- the particle at `base` put anew
+  unfoldable pub particleWith : ℕ → List Float → List Float
+  particleWith base out = placesBy base (v .n) (heldNode base) out
+
+  -- k particles put anew, and the sum of their surface stoichiometries
+  unfoldable pub particlesWith : ℕ → List Float
+  particlesWith zero = c
+  particlesWith (suc k) = particleWith (k * v .n) (particlesWith k)
+
+  unfoldable pub surfacesWith : ℕ → Float
+  surfacesWith zero = f64 0
+  surfacesWith (suc k) = surfacesWith k ⊕ at (particlesWith (suc k)) (k * v .n + (v .n - 1)) ⊘ v .«c_max»
+
+abbrev pub atLeastOne : ℕ → ℕ
+atLeastOne n = cond (eqb n 0) 1 n
+
+-- with the diffusivities of the old places
+unfoldable pub solidAfter : Grain → List Float → ℕ → Solid
+solidAfter v c m = record {
+  c = particlesWith v c (dSolids v c (m * v .n)) m;
+  theta = surfacesWith v c (dSolids v c (m * v .n)) m ⊘ count (atLeastOne m);
+}

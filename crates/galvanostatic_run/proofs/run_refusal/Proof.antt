@@ -1,0 +1,51 @@
+-- `galvanostatic_run::run_refusal` meets its contract. Assumes nothing.
+use Rattle.galvanostatic_run.specs.Runs.{runRefusal}
+use borrow.Author.Needs.{needs}
+use Rattle.galvanostatic_run.proofs.run_refusal.Statement.{statement}
+use Rattle.galvanostatic_run.proofs.run_refusal.Tie as tie
+
+grid-fits-requires : tie.Need-grid-fits-requires
+grid-fits-requires c κs = search needs
+
+refusal-unless-requires : tie.Need-refusal-unless-requires
+refusal-unless-requires c κs = search needs
+
+refusal-unless-requires-2 : tie.Need-refusal-unless-requires-2
+refusal-unless-requires-2 c κs = search needs
+
+is-finite-requires : tie.Need-is-finite-requires
+is-finite-requires c κs = search needs
+
+refusal-unless-requires-3 : tie.Need-refusal-unless-requires-3
+refusal-unless-requires-3 c κs = search needs
+
+step-refusal-requires : tie.Need-step-refusal-requires
+step-refusal-requires c κs = search needs
+
+first-met-requires : tie.Need-first-met-requires
+first-met-requires c κs = search needs
+
+first-met-requires-2 : tie.Need-first-met-requires-2
+first-met-requires-2 c κs = search needs
+
+first-met-requires-3 : tie.Need-first-met-requires-3
+first-met-requires-3 c κs = search needs
+
+returns : tie.Need-returns
+unfolding runRefusal
+returns c = rw (c .first-met3 .ensures, c .before .first-met2 .ensures, c .before .before .first-met .ensures, c .before .before .before .step-refusal .ensures, c .before .before .before .before .refusal-unless3 .ensures, c .before .before .before .before .before .is-finite .ensures, c .before .before .before .before .before .before .refusal-unless2 .ensures, c .before .before .before .before .before .before .before .refusal-unless .ensures, c .before .before .before .before .before .before .before .before .grid-fits .ensures)
+
+pub run-refusal-spec : {M : Type 1} → statement M
+run-refusal-spec =
+    tie.close
+    (tie.spec
+    grid-fits-requires
+    refusal-unless-requires
+    refusal-unless-requires-2
+    is-finite-requires
+    refusal-unless-requires-3
+    step-refusal-requires
+    first-met-requires
+    first-met-requires-2
+    first-met-requires-3
+    returns)

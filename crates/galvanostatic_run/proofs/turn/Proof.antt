@@ -1,0 +1,31 @@
+-- `galvanostatic_run::turn` meets its contract. Assumes nothing.
+use borrow.Author.Tests.{eq-eqb, ne-eqb}
+use Rattle.galvanostatic_run.specs.Runs.{followed, turned}
+use borrow.Author.Needs.{needs}
+use Rattle.galvanostatic_run.proofs.turn.Statement.{statement}
+use Rattle.galvanostatic_run.proofs.turn.Tie as tie
+
+step-requires : tie.Need-step-requires
+step-requires c κs = search needs
+
+returns : tie.Need-returns
+unfolding turned followed
+returns c = rw (← c .before .before .before .before .step .ensures, ne-eqb _ _ (c .before .if1 .taken))
+
+row-of-requires : tie.Need-row-of-requires
+row-of-requires c κs = search needs
+
+add-t10 : tie.Need-add-t10
+add-t10 c = search needs
+
+over-after-requires : tie.Need-over-after-requires
+over-after-requires c κs = search needs
+
+returns-2 : tie.Need-returns-2
+unfolding turned followed
+returns-2 c = rw (← c .before .before .before .before .before .before .before .step .ensures, eq-eqb _ _ (c .before .before .before .before .if1 .left), c .before .before .row-of .ensures, c .over-after .ensures)
+
+pub turn-spec : {M : Type 1} → statement M
+turn-spec =
+    tie.close
+    (tie.spec step-requires returns row-of-requires add-t10 over-after-requires returns-2)

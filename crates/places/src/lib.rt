@@ -1,0 +1,1 @@
+// Specifications only: a stretch of places that a loop writes, in specs/.
