@@ -43,7 +43,7 @@ fn is_slice(fd: i32, out: [f64; 256], written: u64) -> bool {
     same
 }
 
-fn is_ending(ending: Ending, number: u64, refusal: u64) -> bool {
+pub(crate) fn is_ending(ending: Ending, number: u64, refusal: u64) -> bool {
     match ending {
         Ending::Voltage => (number == 1) & (refusal == 0),
         Ending::Time => (number == 2) & (refusal == 0),

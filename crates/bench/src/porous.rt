@@ -3,7 +3,8 @@ use crate::list::{next_word, next_u64, next_f64, is_f64, verdict, OVER};
 use crate::sheets::same;
 use dfn::{DfnAnswer, DfnSolver, DfnStep};
 use dfn_parameters::{DfnConfig, DfnParams};
-use galvanostatic_run::{run_galvanostatic, DfnRun, Ending};
+use crate::discharges::is_ending;
+use galvanostatic_run::{run_galvanostatic, DfnRun};
 
 // ---- arrays
 
@@ -383,26 +384,17 @@ fn is_rows(fd: i32, rows: &[f64]) -> bool {
     agrees
 }
 
-fn ending_number(e: Ending) -> u64 {
-    match e {
-        Ending::Voltage => 1,
-        Ending::Time => 2,
-        Ending::Full => 3,
-        Ending::Refused => 4,
-    }
-}
-
 // Whether the next answer is r: the ending, the refusal, the rows, and the new state where there is a row.
 fn is_run(fd: i32, before: DfnSolver, r: DfnRun, rows: &[f64]) -> bool {
     let kind = r.ending;
-    let ending = ending_number(kind) == next_u64(fd);
-    let number = r.refusal == next_u64(fd);
+    let number = next_u64(fd);
+    let ending = is_ending(kind, number, next_u64(fd));
     let written = is_rows(fd, rows);
     let cell = r.cell;
     if r.rows == 0 {
-        return ending & number & written & same_cell(before, cell);
+        return ending & written & same_cell(before, cell);
     }
-    ending & number & written & same_make(before, cell) & is_state(fd, cell)
+    ending & written & same_make(before, cell) & is_state(fd, cell)
 }
 
 fn run_agrees(fd: i32, cell: DfnSolver, current: f64, dt: f64, limit: f64, rows: &mut [f64]) -> bool {

@@ -1,16 +1,12 @@
 -- A run as turns of a state: what stands after k turns, and what the lent slice then holds. `over s` is 0 while the run goes on, 4 where its last step was
 -- refused, and another number where it ended with a row; `turned` is one turn; `row s` the row of the last step. Definitions only.
-use Prim.Native.Nat.{ℕ, zero, suc, _+_, _*_}
+use Prim.Native.Nat.{ℕ, zero, suc, _*_}
 use mathlib.Core.Bool.{Bool, cond, not, _&&_}
 use mathlib.Core.List.{List}
 use lib.Dec.{eqb}
-use lib.ListN.{getD, set}
+use lib.ListN.{getD}
 use lib.Ieee.{Float, nan}
-
--- the k places from `at` on by f, the others as in l
-unfoldable pub placesBy : ℕ → ℕ → (ℕ → Float) → List Float → List Float
-placesBy at zero f l = l
-placesBy at (suc k) f l = set (placesBy at k f l) (at + k) (f k)
+use Rattle.places.specs.Places.{placesBy}
 
 module _ {S : Type 0} (over : S → ℕ) (turned : S → S) (row : S → List Float) where
   -- after k turns: one that is over stays as it is

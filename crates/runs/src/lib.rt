@@ -4,7 +4,7 @@ ghost use mathlib.Core.Path.{_≡_};
 ghost use Prim.Native.Nat.{_+_, _≤_};
 ghost use lib.ListN.{length, getD};
 ghost use lib.Ieee.{nan};
-ghost use Rattle.runs.specs.Rows.{placesBy};
+ghost use Rattle.places.specs.Places.{placesBy};
 ghost use Rattle.runs.specs.Endings.{endingSaid, endingOf};
 
 // How a run ends: by the voltage, by the time, with every whole row written, or by a refusal and its number.
