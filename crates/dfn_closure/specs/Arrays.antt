@@ -1,0 +1,174 @@
+-- The particles and the salt after a step fit again, where what the step makes is finite. Assumes nothing.
+use Prim.Native.Nat.{ℕ, zero, suc, _+_, _-_, _*_, _≤_, _<_}
+use mathlib.Core.Path.{_≡_, refl, sym}
+use mathlib.Core.Bool.{Bool, true, false}
+use mathlib.Core.Logic.{_⊎_, inl, inr, ⊎-elim}
+use mathlib.Core.List.{List}
+use native.Mathlib.Omega.{arith}
+use native.Mathlib.Nat.{not-suc-le-zero, zero-mul, suc-mul}
+use borrow.Author.Tests.{lt-ltb, ltb-true, ltb-false}
+use lib.Dec.{T, ltb}
+use lib.ListN.{length, getD, List·getD-eq-default}
+use lib.Ieee.{Float, nan, le, toBits, ofBits}
+use lib.Ieee.Scale.{finite}
+use lib.Ieee.Fits.{and-i, and-l, and-r}
+use Rattle.binary64.specs.Operators.{f64}
+use Rattle.elementary.specs.Choice.{clampOf}
+use Rattle.refusal.specs.Ranges.{inRange, plusZero}
+use Rattle.turns.specs.Turns.{firstBy, allBelow, all-at, all-of, first-below, first-above}
+use Rattle.places.specs.Places.{placesBy, places-length, places-inside, places-before, places-after}
+use Rattle.dfn_places.specs.Places.{at, placeFits, solidFits, electrolyteFits, allFinite}
+use Rattle.dfn_solid.specs.declared.Grain.{Grain}
+use Rattle.dfn_solid.specs.Solid.{nodeWith, heldNode, particleWith, particlesWith}
+use Rattle.dfn_electrolyte.specs.declared.Region.{Region}
+use Rattle.dfn_electrolyte.specs.Electrolyte as Salt
+use Rattle.dfn_closure.specs.Held.{clamp-in, le-chain}
+
+side : (a b : ℕ) (t : Bool) → ltb a b ≡ t → (a < b) ⊎ (b ≤ a)
+side a b true e = inl (ltb-true a b e)
+side a b false e = inr (ltb-false a b e)
+
+lt-or-ge : (a b : ℕ) → (a < b) ⊎ (b ≤ a)
+lt-or-ge a b = side a b (ltb a b) refl
+
+-- ---- places that fit
+used-fits : (x lo hi : Float) (b : Bool) → b ≡ true → T (inRange x lo hi) → T (placeFits x b lo hi)
+unfolding placeFits
+used-fits x lo hi b e t = rw e t
+
+-- a NaN, which stands past a list's end, fits nowhere
+nan-unfit : (b : Bool) (lo hi : Float) → T (placeFits nan b lo hi) → ⊥
+unfolding placeFits plusZero le toBits
+nan-unfit true lo hi t = and-r (le lo nan) (le nan hi) t
+nan-unfit false lo hi t = t
+
+abbrev fitsTo : ℕ → List Float → ℕ → Float → Float → Bool
+fitsTo size c n lo hi = allBelow size (λ i. placeFits (at c i) (ltb i n) lo hi)
+
+-- so a list whose places fit is long enough
+long : (size : ℕ) (c : List Float) (n : ℕ) (lo hi : Float) → T (fitsTo size c n lo hi) → size ≤ length c
+long size c n lo hi t =
+    ⊎-elim
+    (λ (l : length c < size). let e : length c ≤ length c = omega arith in absurd (nan-unfit (ltb (length c) n) lo hi (rw (List·getD-eq-default c nan e) at (all-at (λ i. placeFits (at c i) (ltb i n) lo hi) size (length c) l t))))
+    (λ (l : size ≤ length c). l)
+    (lt-or-ge (length c) size)
+
+-- a place that a clamp holds
+record Held (y lo hi : Float) : Type 0 where
+  from : Float
+  is : y ≡ clampOf from lo hi
+
+held-in : (y lo hi : Float) → Held y lo hi → T (finite lo) → T (finite hi) → T (le lo hi) → T (finite y) → T (inRange y lo hi)
+held-in y lo hi h p q l f =
+    let e = h .is in
+    rw e (clamp-in (h .from) lo hi p q l (rw e at f))
+
+-- ---- the particles
+module _ (v : Grain) (c d : List Float) where
+  particles-length : (k : ℕ) → length (particlesWith v c d k) ≡ length c
+  unfolding particlesWith particleWith
+  particles-length zero = refl
+  particles-length (suc k) = rw (places-length (k * v .n) (heldNode v c d (k * v .n)) (particlesWith v c d k) (v .n), particles-length k)
+
+  particles-held : (k i : ℕ) → k * v .n ≤ length c → i < k * v .n → Held (at (particlesWith v c d k) i) (f64 0) (v .«c_max»)
+  unfolding particlesWith particleWith
+  particles-held zero i m h = let z : i < 0 = rw (zero-mul (v .n)) at h in absurd (not-suc-le-zero z)
+  particles-held (suc k) i m h =
+      let b = k * v .n in
+      let f = heldNode v c d b in
+      let l = particlesWith v c d k in
+      let m′ : b + v .n ≤ length c = rw (suc-mul k (v .n)) at m in
+      let h′ : i < b + v .n = rw (suc-mul k (v .n)) at h in
+      ⊎-elim
+      (λ (q : i < b). rw (places-before b f l (v .n) i nan q) (particles-held k i (omega arith) q))
+      (λ (q : b ≤ i).
+        let e : b + (i - b) ≡ i = omega arith in
+        let n : b + v .n ≤ length l = rw (particles-length k) m′ in
+        record { from = nodeWith v c d b (i - b); is = rw e at (places-inside b f l (v .n) (i - b) nan (omega arith) n) })
+      (lt-or-ge i b)
+
+  particles-kept : (k i : ℕ) → k * v .n ≤ i → at (particlesWith v c d k) i ≡ at c i
+  unfolding particlesWith particleWith
+  particles-kept zero i h = refl
+  particles-kept (suc k) i h =
+      let h′ : k * v .n + v .n ≤ i = rw (suc-mul k (v .n)) at h in
+      rw (places-after (k * v .n) (heldNode v c d (k * v .n)) (particlesWith v c d k) (v .n) i nan h′) (particles-kept k i (omega arith))
+
+  pub solid-closed : (m : ℕ) → m * v .n ≤ 512 → T (finite (f64 0)) → T (finite (v .«c_max»)) → T (le (f64 0) (v .«c_max»))
+      → T (solidFits c (m * v .n) (v .«c_max»)) → T (allFinite (particlesWith v c d m) (m * v .n)) → T (solidFits (particlesWith v c d m) (m * v .n) (v .«c_max»))
+  unfolding solidFits
+  solid-closed m r z p q t f =
+      let u = m * v .n in
+      let out = particlesWith v c d m in
+      let n : 512 ≤ length c = long 512 c u (f64 0) (v .«c_max») t in
+      all-of (λ i. placeFits (at out i) (ltb i u) (f64 0) (v .«c_max»)) 512
+      (λ i l. ⊎-elim
+        (λ (h : i < u). used-fits (at out i) (f64 0) (v .«c_max») (ltb i u) (lt-ltb i u h)
+          (held-in (at out i) (f64 0) (v .«c_max») (particles-held m i (omega (arith, r, n)) h) z p q (all-at (λ j. finite (at out j)) u i h f)))
+        (λ (h : u ≤ i). rw (particles-kept m i h) (all-at (λ j. placeFits (at c j) (ltb j u) (f64 0) (v .«c_max»)) 512 i l t))
+        (lt-or-ge i u))
+
+-- ---- the salt
+abbrev low : Float
+low = f64 0x4059_0000_0000_0000
+
+abbrev high : Float
+high = f64 0x40a7_7000_0000_0000
+
+abbrev least : Float
+least = f64 0x3ff0_0000_0000_0000
+
+abbrev most : Float
+most = f64 0x40f8_6a00_0000_0000
+
+low-finite : T (finite low)
+unfolding ofBits
+low-finite = tt
+
+high-finite : T (finite high)
+unfolding ofBits
+high-finite = tt
+
+least-finite : T (finite least)
+unfolding ofBits
+least-finite = tt
+
+most-finite : T (finite most)
+unfolding ofBits
+most-finite = tt
+
+low-high : T (le low high)
+unfolding ofBits le
+low-high = tt
+
+least-low : T (le least low)
+unfolding ofBits le
+least-low = tt
+
+high-most : T (le high most)
+unfolding ofBits le
+high-most = tt
+
+-- 100 to 3,000 is in 1 to 1e5
+wider : (y : Float) → T (finite y) → T (inRange y low high) → T (inRange y least most)
+wider y f t =
+    and-i (le least y) (le y most)
+    (le-chain least low y least-finite low-finite f least-low (and-l (le low y) (le y high) t))
+    (le-chain y high most f high-finite most-finite (and-r (le low y) (le y high) t) high-most)
+
+pub salt-closed : (neg pos : Region) (c d : List Float) → neg .n + 1 + pos .n ≤ 33
+    → T (electrolyteFits c (neg .n + 1 + pos .n)) → T (allFinite (Salt.nodesWith neg pos c d) (neg .n + 1 + pos .n)) → T (electrolyteFits (Salt.nodesWith neg pos c d) (neg .n + 1 + pos .n))
+unfolding electrolyteFits Salt.nodesWith
+salt-closed neg pos c d r t f =
+    let u = neg .n + 1 + pos .n in
+    let g : ℕ → Float = λ i. clampOf (Salt.nodeWith neg pos c d i) low high in
+    let out = firstBy u g c in
+    let n : 33 ≤ length c = long 33 c u least most t in
+    all-of (λ i. placeFits (at out i) (ltb i u) least most) 33
+    (λ i l. ⊎-elim
+      (λ (h : i < u).
+        let y = all-at (λ j. finite (at out j)) u i h f in
+        used-fits (at out i) least most (ltb i u) (lt-ltb i u h)
+        (wider (at out i) y (held-in (at out i) low high (record { from = Salt.nodeWith neg pos c d i; is = first-below g c u i nan h (omega (arith, r, n)) }) low-finite high-finite low-high y)))
+      (λ (h : u ≤ i). rw (first-above g c u i nan h) (all-at (λ j. placeFits (at c j) (ltb j u) least most) 33 i l t))
+      (lt-or-ge i u))

@@ -1,0 +1,1 @@
+// Specifications only: a cell that a step leaves passes the checks again, in specs/.
