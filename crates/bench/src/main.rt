@@ -6,10 +6,10 @@ mod electrolytes;
 mod functions;
 mod list;
 mod particles;
+mod porous;
 mod ranges;
 mod sheets;
 mod systems;
-mod porous;
 
 use libc::STDOUT_FILENO;
 use list::AGREES;
@@ -65,9 +65,13 @@ const CELL_STEP: u64 = 22;
 const CELL_NUMBERS: u64 = 23;
 
 const SIMULATE_DISCHARGE: u64 = 24;
+
 const READY_PARAMETERS: u64 = 25;
+
 const DFN_NEW: u64 = 26;
+
 const DFN_STEP: u64 = 27;
+
 const RUN_GALVANOSTATIC: u64 = 28;
 
 fn line(which: u64, fd: i32) -> u64 {

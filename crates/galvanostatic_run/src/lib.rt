@@ -1,8 +1,14 @@
 // A run of the Doyle-Fuller-Newman cell at one current, with a row of eight places for each step in a lent slice. A changed translation of
 // src/battery/p2d/dfn.rs (`run_galvanostatic`).
-use dfn::{DfnSolver, DfnStep};
-use runs::{ending_of, put_row, Ending, GOING, REFUSED, TIME, VOLTAGE};
-
+use dfn::DfnSolver;
+use dfn::DfnStep;
+use runs::Ending;
+use runs::GOING;
+use runs::REFUSED;
+use runs::TIME;
+use runs::VOLTAGE;
+use runs::ending_of;
+use runs::put_row;
 ghost use mathlib.Core.Path.{_≡_};
 ghost use Prim.Native.Nat.{_*_, _^_, _≤_, _<_};
 ghost use lib.ListN.{length};
@@ -55,7 +61,16 @@ fn flag(b: bool) -> f64
 fn row_of(r: DfnStep) -> [f64; 8]
     ensures { λ l. ⌜ l ≡ rowOf r ⌝ }
 {
-    [r.voltage, r.current, r.time_s, r.theta_neg, r.theta_pos, r.delta_c_e_max, flag(r.cutoff), 1.0]
+    [
+        r.voltage,
+        r.current,
+        r.time_s,
+        r.theta_neg,
+        r.theta_pos,
+        r.delta_c_e_max,
+        flag(r.cutoff),
+        1.0,
+    ]
 }
 
 // One turn of a run that is not over.
@@ -68,18 +83,36 @@ fn turn(w: Feed, s: Course) -> Course
     let cell = a.cell;
     if a.refusal != 0 {
         let row = s.row;
-        return Course { cell, row, rows: s.rows, over: REFUSED, refusal: a.refusal };
+        return Course {
+            cell,
+            row,
+            rows: s.rows,
+            over: REFUSED,
+            refusal: a.refusal,
+        };
     }
     let report = a.report;
     let row = row_of(report);
-    Course { cell, row, rows: s.rows + 1, over: over_after(w.limit, report), refusal: 0 }
+    Course {
+        cell,
+        row,
+        rows: s.rows + 1,
+        over: over_after(w.limit, report),
+        refusal: 0,
+    }
 }
 
 // The run before its first step.
 fn start(cell: DfnSolver) -> Course
     ensures { λ r. ⌜ r ≡ started cell ⌝ }
 {
-    Course { cell, row: [0.0; 8], rows: 0, over: GOING, refusal: 0 }
+    Course {
+        cell,
+        row: [0.0; 8],
+        rows: 0,
+        over: GOING,
+        refusal: 0,
+    }
 }
 
 // What a run that has stopped answers.
@@ -87,7 +120,11 @@ fn finished(s: Course) -> DfnRun
     ensures { λ r. ⌜ runSaid r ≡ finishedRun s ⌝ }
 {
     let cell = s.cell;
-    DfnRun { ending: ending_of(s.over, s.refusal), rows: s.rows, cell }
+    DfnRun {
+        ending: ending_of(s.over, s.refusal),
+        rows: s.rows,
+        cell,
+    }
 }
 
 // At most `total` turns of a run, each step with its row.
@@ -122,18 +159,35 @@ fn run_refusal(cell: DfnSolver, w: Feed, places: usize) -> u64
     let short = refusal::refusal_unless(8 <= places, refusal::LENGTH);
     let limit = refusal::refusal_unless(refusal::is_finite(w.limit), refusal::INTERVAL);
     let step = cell.step_refusal(w.current, w.dt);
-    refusal::first_met(grid, refusal::first_met(short, refusal::first_met(step, limit)))
+    refusal::first_met(
+        grid,
+        refusal::first_met(short, refusal::first_met(step, limit)),
+    )
 }
 
 // Runs the cell at a current, A, by intervals of dt_s, until a voltage outside the limits, the cell's clock at max_time_s, or the end of the rows.
-pub fn run_galvanostatic(cell: DfnSolver, current_a: f64, dt_s: f64, max_time_s: f64, rows: &mut [f64]) -> DfnRun
+pub fn run_galvanostatic(
+    cell: DfnSolver,
+    current_a: f64,
+    dt_s: f64,
+    max_time_s: f64,
+    rows: &mut [f64],
+) -> DfnRun
     ensures answer { λ r. ⌜ runSaid r ≡ galvanostatic cell «current_a» «dt_s» «max_time_s» (length (now (rows .entry))) ⌝ }
     ensures rows { λ r. ⌜ now (rows .exit) ≡ galvanostaticRows cell «current_a» «dt_s» «max_time_s» (now (rows .entry)) ⌝ }
 {
-    let w = Feed { current: current_a, dt: dt_s, limit: max_time_s };
+    let w = Feed {
+        current: current_a,
+        dt: dt_s,
+        limit: max_time_s,
+    };
     let number = run_refusal(cell, w, rows.len());
     if number != 0 {
-        return DfnRun { ending: Ending::Refused(number), rows: 0, cell };
+        return DfnRun {
+            ending: Ending::Refused(number),
+            rows: 0,
+            cell,
+        };
     }
     let total = rows.len() / 8;
     run_rows(w, start(cell), rows, total)

@@ -60,9 +60,10 @@ loop-less c = omega (arith, c .before .before .before .before .before .before .b
 
 loop-again : tie.Need-loop-again Inv-loop μ-loop
 loop-again c = let t = c .before .before .before .before .before .before .before .before .before .turn .ensures in
-    let l = c .before .before .before .before .before .before .before .before .before .before .before .loop in
-    (going-on overOf (turned (c .before .before .before .before .before .before .before .before .before .before .before .before .before .args .w)) lastRow _ _ _ _ _ _ (l .inv .0) _ _ _ t (c .before .before .before .before .before .before .before .if1 .left) refl (c .before .before .before .before .put-row .ensures) (c .before .before .before .before .put-row .kept .0) (c .before .before .before .before .before .before .before .before .before .before .loop-test .taken) (c .if2 .left),
-    ap (λ (r : Course). r .rows) t ∙ turned-rows (c .before .before .before .before .before .before .before .before .before .before .before .before .before .args .w) (l .run) (rw t at (c .before .before .before .before .before .before .before .if1 .left)) ∙ ap (λ (k : ℕ). k + 1) (l .inv .1))
+    let l = c .before .before .before .before .before .before .before .before .before .before .before .loop in (
+      going-on overOf (turned (c .before .before .before .before .before .before .before .before .before .before .before .before .before .args .w)) lastRow _ _ _ _ _ _ (l .inv .0) _ _ _ t (c .before .before .before .before .before .before .before .if1 .left) refl (c .before .before .before .before .put-row .ensures) (c .before .before .before .before .put-row .kept .0) (c .before .before .before .before .before .before .before .before .before .before .loop-test .taken) (c .if2 .left),
+      ap (λ (r : Course). r .rows) t ∙ turned-rows (c .before .before .before .before .before .before .before .before .before .before .before .before .before .args .w) (l .run) (rw t at (c .before .before .before .before .before .before .before .if1 .left)) ∙ ap (λ (k : ℕ). k + 1) (l .inv .1),
+    )
 
 finished-requires-3 : tie.Need-finished-requires-3 Inv-loop μ-loop
 finished-requires-3 c κs = search needs
