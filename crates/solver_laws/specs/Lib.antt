@@ -20,3 +20,4 @@ pub mod Closure
 pub mod Demand
 pub mod Ordered
 pub mod Ranking
+pub mod Instance
