@@ -60,20 +60,20 @@ clock-reported s r h =
     (finite (r .«time_s»)) h
 
 module _ (s : SpmSolver) (i dt t : Float) where
-  abbrev plan : Plan
+  abbrev pub plan : Plan
   plan = planOf s i dt t
 
   abbrev pub next : SpmSolver
   next = advanced s plan dt
 
-  abbrev report : SpmState
+  abbrev pub report : SpmState
   report = reported next plan i t
 
   -- an electrode's particle after the step
-  abbrev particleNext : Electrode → ParticleDiffusion
+  abbrev pub particleNext : Electrode → ParticleDiffusion
   particleNext e = withProfile (particleAt e s) (profileAfter (particleAt e s) (diffusivityIn e plan) (fluxIn e plan) dt (subStepsOf plan))
 
-  electrode-next : inputRefusal s i dt t ≡ 0 → planRefusal plan ≡ 0 → (e : Electrode) → particleRefusal (particleNext e) ≡ 0
+  pub electrode-next : inputRefusal s i dt t ≡ 0 → planRefusal plan ≡ 0 → (e : Electrode) → particleRefusal (particleNext e) ≡ 0
   unfolding profileAfter times
   electrode-next h g e = go (subStepsOf plan) (count-most plan g)
     where
@@ -126,6 +126,11 @@ module _ (s : SpmSolver) (i dt t : Float) where
       input : (k : ℕ) → inputRefusal s i dt t ≡ k → Leads (cond (eqb k 0) (planned s plan i dt t) (refusedStep k s))
       input zero h = middle (planRefusal plan) refl h
       input (suc k) h = rw (eqb·suc-zero k) (Leads.refused k)
+
+  -- accepted: nothing refuses it before it is made, nor its plan, and all that it gives is finite
+  pub accepted-where : inputRefusal s i dt t ≡ 0 → planRefusal plan ≡ 0 → T (finiteStep next report) → stepped s i dt t .refusal ≡ 0
+  unfolding stepped planned finished
+  accepted-where h g f = rw (h, g, is-true (finiteStep next report) f)
 
   -- A STEP THAT IS ACCEPTED leads to a cell that passes the checks
   pub step-passes : stepped s i dt t .refusal ≡ 0 → cellRefusal (stepped s i dt t .solver) ≡ 0
