@@ -148,6 +148,14 @@ module _ (s : SpmSolver) (i dt t : Float) where
       go a (Leads.refused k) = h
       go a (Leads.moved h g f) = next-passes h g f
 
+  -- with the count of its plan
+  pub step-count : stepped s i dt t .refusal ≡ 0 → stepped s i dt t .«sub_steps» ≡ subStepsOf plan
+  step-count = go (stepped s i dt t) leads
+    where
+      go : (a : SpmStep) → Leads a → a .refusal ≡ 0 → a .«sub_steps» ≡ subStepsOf plan
+      go a (Leads.refused k) z = absurd (omega (arith, z))
+      go a (Leads.moved h g f) z = refl
+
   -- A STEP THAT IS REFUSED leaves the cell as it is, bit for bit, and reports no sub-steps
   pub step-refused : (stepped s i dt t .refusal ≡ 0 → ⊥) → (stepped s i dt t .solver ≡ s) × (stepped s i dt t .«sub_steps» ≡ 0)
   step-refused = go (stepped s i dt t) leads

@@ -1,13 +1,15 @@
 -- A worked instance of theorems 2 and 3: the ready cell of graphite and lithium iron phosphate, 11 nodes, a second at 298.15 K, and a refused call. Computed. Assumes nothing.
-use Prim.Native.Nat.{ℕ, _^_, _<_}
+use Prim.Native.Nat.{ℕ, _+_, _^_, _<_}
 use mathlib.Core.Path.{_≡_, refl, sym, ap, _∙_, subst}
 use mathlib.Core.Bool.{Bool, true, false, cond, _&&_}
 use mathlib.Core.List.{List, [], _∷_}
-use lib.Dec.{T, eqb}
+use native.Mathlib.Omega.{arith}
+use lib.Dec.{T}
 use lib.Ieee.{Float, nan, isNan, neg, le, lt, add, sub, mul, div, round, size, ofInt, fits, ofBits}
 use lib.Ieee.Bits.{is-true}
 use lib.Ieee.Fits.{and-i}
 use Rattle.fraction.specs.Fraction.{whole, nat, pow2, negF, _+F_, _-F_, _*F_, _/F_, ∣_∣, _≤F_, _within_}
+use Rattle.fraction.specs.Field.{≈F-refl}
 use Rattle.fraction.specs.Order.{lit≤F}
 use Rattle.binary64.specs.Operators.{_⊖_, _⊗_, _⊘_, f64, count}
 use Rattle.binary64.specs.Range.{Within, Sized, sized, neg-most}
@@ -29,7 +31,7 @@ use Rattle.diffusion.specs.SubStep.{rate, node, subStep}
 use Rattle.profile.specs.Places.{finiteProfile, filled}
 use Rattle.diffusion.specs.Exact.{Numbers}
 use Rattle.diffusion.specs.Premises.{Kept}
-use Rattle.diffusion.specs.Run.{Each}
+use Rattle.diffusion.specs.Run.{Each, Both}
 use Rattle.particle.specs.declared.ParticleDiffusion.{ParticleDiffusion}
 use Rattle.particle.specs.declared.ParticleAnswer.{ParticleAnswer}
 use Rattle.particle.specs.Checks.{particleRefusal, fieldsFit, fields-of}
@@ -46,9 +48,10 @@ use Rattle.solver.specs.declared.SpmSolver.{SpmSolver}
 use Rattle.solver.specs.declared.Plan.{Plan}
 use Rattle.solver.specs.Cell.{gridFits, cellFits, cellRefusal, buildRefusal, freshSolver, built, ready}
 use Rattle.solver.specs.Step.{inputRefusal, stepped, reported, finiteStep, planRefusal, profileAfter, advanced, voltageOf, currentDensity, planOf, subStepsOf, quotient}
-use Rattle.solver_laws.specs.Electrodes.{Electrode, particleAt, diffusivityIn, fluxIn}
-use Rattle.solver_laws.specs.Closure.{electrode-next, accepted-where}
-use Rattle.solver_laws.specs.Demand.{Call, answer, planFor, numbersAt}
+use Rattle.solver_laws.specs.Electrodes.{Electrode, particleAt, diffusivityIn, fluxIn, nodes-are}
+use Rattle.solver_laws.specs.Closure.{electrode-next, accepted-where, step-stays, step-count}
+use Rattle.solver_laws.specs.Demand.{Call, answer, taken, K, planFor, numbersAt, KeptAt, place, exactPlace, solver-near, Accepted, at-accepted, Refused, at-refused}
+use Rattle.solver_laws.specs.Ranking.{Paired, Ranked, solver-ranking}
 
 -- the config's defaults
 abbrev pub config : SpmConfig
@@ -198,9 +201,12 @@ current-refused : (s : SpmSolver) → cellRefusal s ≡ 0 → inputRefusal s nan
 unfolding inputRefusal firstMet refusalUnless le neg ofBits
 current-refused s h = rw h
 
-no-current-refused : (s : SpmSolver) → cellRefusal s ≡ 0 → eqb (answer s no-current .refusal) 0 ≡ false
+no-current-number : (s : SpmSolver) → cellRefusal s ≡ 0 → answer s no-current .refusal ≡ 3
 unfolding stepped
-no-current-refused s h = rw (current-refused s h)
+no-current-number s h = rw (current-refused s h)
+
+no-current-refused : (s : SpmSolver) → cellRefusal s ≡ 0 → answer s no-current .refusal ≡ 0 → ⊥
+no-current-refused s h z = let a = no-current-number s h in absurd (omega (arith, a, z))
 
 -- ---- the draw is accepted
 abbrev drawn : SpmSolver
@@ -329,3 +335,63 @@ draw-accepted : answer start draw .refusal ≡ 0
 draw-accepted =
     accepted-where start (draw .current) (draw .dt) (draw .temp) draw-input draw-plan
     (subst (λ (p : Plan). T (finiteStep (advanced start p one) (reported (advanced start p one) p (draw .current) room))) (sym plan-is) (all-fine drawn thePlan (draw .current) room drawn-passes voltage-fine clock-fine))
+
+-- ---- three calls, two of them refused
+abbrev pub discharge : List Call
+discharge = no-current ∷ draw ∷ no-current ∷ []
+
+abbrev then : SpmSolver
+then = answer start draw .solver
+
+then-passes : cellRefusal then ≡ 0
+then-passes = step-stays start (draw .current) (draw .dt) (draw .temp) start-passes
+
+first-refused : Refused Electrode.anode start start no-current (draw ∷ no-current ∷ []) []
+first-refused = at-refused Electrode.anode start start no-current (draw ∷ no-current ∷ []) [] (no-current-refused start start-passes)
+
+second-accepted : Accepted Electrode.anode start start draw (no-current ∷ []) []
+second-accepted = at-accepted Electrode.anode start start draw (no-current ∷ []) [] draw-accepted
+
+third-refused : Refused Electrode.anode start then no-current [] []
+third-refused = at-refused Electrode.anode start then no-current [] [] (no-current-refused then then-passes)
+
+none-taken : (taken then [] ≡ []) × (K then [] ≡ 0)
+unfolding taken K
+none-taken = (refl, refl)
+
+discharge-taken : taken start discharge ≡ draw ∷ []
+discharge-taken = first-refused .calls ∙ second-accepted .calls ∙ ap (λ (l : List Call). draw ∷ l) (third-refused .calls ∙ none-taken .0)
+
+one-sub-step : subStepsOf thePlan ≡ 1
+unfolding ceilOf ofBits
+one-sub-step = refl
+
+-- K = 1
+discharge-counted : K start discharge ≡ 1
+discharge-counted =
+    first-refused .count ∙ second-accepted .count
+    ∙ ap (λ (k : ℕ). k + K then (no-current ∷ [])) (step-count start (draw .current) (draw .dt) (draw .temp) draw-accepted ∙ ap subStepsOf plan-is ∙ one-sub-step)
+    ∙ ap (λ (k : ℕ). 1 + k) (third-refused .count ∙ none-taken .1)
+
+discharge-keeps : (e : Electrode) → KeptAt e start discharge
+discharge-keeps e = rw discharge-taken (Each.more (draw-kept e) Each.none)
+
+-- THEOREM 2 for them
+pub discharge-near : (e : Electrode) (i : ℕ) → i < 11 → place e start discharge i -F exactPlace e start discharge i within nat 1 *F val (particleAt e start .params .«c_s_max») /F pow2 49
+discharge-near e i l = rw (← discharge-counted) (solver-near e start discharge start-passes (discharge-keeps e) i (rw (nodes-are start start-passes e) l))
+
+-- ---- THEOREM 3 for these calls and the draw alone: the refused calls stand in one list only
+draw-taken : taken start (draw ∷ []) ≡ draw ∷ []
+draw-taken = at-accepted Electrode.anode start start draw [] [] draw-accepted .calls ∙ ap (λ (l : List Call). draw ∷ l) (none-taken .0)
+
+draw-keeps : (e : Electrode) → KeptAt e start (draw ∷ [])
+draw-keeps e = rw draw-taken (Each.more (draw-kept e) Each.none)
+
+same-current : T (le (draw .current) (draw .current))
+unfolding le ofBits
+same-current = tt
+
+pub draw-ranked : Ranked start start discharge (draw ∷ [])
+draw-ranked =
+    solver-ranking start start discharge (draw ∷ []) start-passes start-passes (record { config = refl; sheet = λ e. refl; nodes = λ e i l. ≈F-refl }) discharge-keeps draw-keeps
+    (rw (discharge-taken, draw-taken) (Both.more (record { dt = refl; temp = refl; current = same-current }) Both.none))
