@@ -60,20 +60,20 @@ clock-reported s r h =
     (finite (r .«time_s»)) h
 
 module _ (s : SpmSolver) (i dt t : Float) where
-  abbrev plan : Plan
+  abbrev pub plan : Plan
   plan = planOf s i dt t
 
   abbrev pub next : SpmSolver
   next = advanced s plan dt
 
-  abbrev report : SpmState
+  abbrev pub report : SpmState
   report = reported next plan i t
 
   -- an electrode's particle after the step
-  abbrev particleNext : Electrode → ParticleDiffusion
+  abbrev pub particleNext : Electrode → ParticleDiffusion
   particleNext e = withProfile (particleAt e s) (profileAfter (particleAt e s) (diffusivityIn e plan) (fluxIn e plan) dt (subStepsOf plan))
 
-  electrode-next : inputRefusal s i dt t ≡ 0 → planRefusal plan ≡ 0 → (e : Electrode) → particleRefusal (particleNext e) ≡ 0
+  pub electrode-next : inputRefusal s i dt t ≡ 0 → planRefusal plan ≡ 0 → (e : Electrode) → particleRefusal (particleNext e) ≡ 0
   unfolding profileAfter times
   electrode-next h g e = go (subStepsOf plan) (count-most plan g)
     where
@@ -127,6 +127,11 @@ module _ (s : SpmSolver) (i dt t : Float) where
       input zero h = middle (planRefusal plan) refl h
       input (suc k) h = rw (eqb·suc-zero k) (Leads.refused k)
 
+  -- accepted: nothing refuses it before it is made, nor its plan, and all that it gives is finite
+  pub accepted-where : inputRefusal s i dt t ≡ 0 → planRefusal plan ≡ 0 → T (finiteStep next report) → stepped s i dt t .refusal ≡ 0
+  unfolding stepped planned finished
+  accepted-where h g f = rw (h, g, is-true (finiteStep next report) f)
+
   -- A STEP THAT IS ACCEPTED leads to a cell that passes the checks
   pub step-passes : stepped s i dt t .refusal ≡ 0 → cellRefusal (stepped s i dt t .solver) ≡ 0
   step-passes = go (stepped s i dt t) leads
@@ -142,6 +147,14 @@ module _ (s : SpmSolver) (i dt t : Float) where
       go : (a : SpmStep) → Leads a → cellRefusal (a .solver) ≡ 0
       go a (Leads.refused k) = h
       go a (Leads.moved h g f) = next-passes h g f
+
+  -- with the count of its plan
+  pub step-count : stepped s i dt t .refusal ≡ 0 → stepped s i dt t .«sub_steps» ≡ subStepsOf plan
+  step-count = go (stepped s i dt t) leads
+    where
+      go : (a : SpmStep) → Leads a → a .refusal ≡ 0 → a .«sub_steps» ≡ subStepsOf plan
+      go a (Leads.refused k) z = absurd (omega (arith, z))
+      go a (Leads.moved h g f) z = refl
 
   -- A STEP THAT IS REFUSED leaves the cell as it is, bit for bit, and reports no sub-steps
   pub step-refused : (stepped s i dt t .refusal ≡ 0 → ⊥) → (stepped s i dt t .solver ≡ s) × (stepped s i dt t .«sub_steps» ≡ 0)

@@ -3,6 +3,8 @@ use Prim.Native.Nat.{ℕ, zero, suc, _+_, _<_, _≤_}
 use mathlib.Core.Path.{_≡_, refl, sym, ap, _∙_, subst}
 use mathlib.Core.Bool.{Bool, true, false, cond}
 use mathlib.Core.List.{List, [], _∷_, map}
+use borrow.Author.Tests.{eq-eqb, ne-eqb}
+use native.Mathlib.Nat.{zero-add}
 use lib.Dec.{T, eqb, eqb·suc-zero}
 use lib.Ieee.{Float}
 use lib.ListN.{length, getD, replicate, length-replicate}
@@ -12,7 +14,7 @@ use Rattle.binary64.specs.Value.{val}
 use Rattle.diffusion.specs.SubStep.{Drive, subStep}
 use Rattle.diffusion.specs.Exact.{Numbers, numbers}
 use Rattle.diffusion.specs.Premises.{Kept, Sound, Whole}
-use Rattle.diffusion.specs.Run.{Grid, Move, drive, run, Each}
+use Rattle.diffusion.specs.Run.{Grid, Move, drive, run, exactRun, Each}
 use Rattle.diffusion.specs.Calls.{Stepper, after, accepted, total, exactAfter, Lawful}
 use Rattle.diffusion.specs.CallLaws.{calls-near, each-with}
 use Rattle.diffusion.specs.Copies.{run-times, each-copies}
@@ -26,7 +28,7 @@ use Rattle.solver.specs.declared.Plan.{Plan}
 use Rattle.solver.specs.Cell.{cellRefusal}
 use Rattle.solver.specs.Step.{inputRefusal, currentDensity, planOf, planRefusal, subStepsOf, profileAfter, advanced, stepped}
 use Rattle.solver_laws.specs.Electrodes.{Electrode, particleAt, diffusivityIn, fluxIn, electrode-passes, count-most, sub-step-ranged}
-use Rattle.solver_laws.specs.Closure.{SameMake, Leads, leads, step-stays, step-make, next}
+use Rattle.solver_laws.specs.Closure.{SameMake, Leads, leads, step-stays, step-refused, step-make, next}
 
 -- ---- what is folded
 -- a call of `step`: any floats, NaN and infinities too
@@ -209,3 +211,30 @@ pub after-passes : (qs : List Call) (s : SpmSolver) → cellRefusal s ≡ 0 → 
 unfolding cellAfter
 after-passes [] s h = h
 after-passes (q ∷ qs) s h = after-passes qs (answer s q .solver) (step-stays s (q .current) (q .dt) (q .temp) h)
+
+-- ---- how the folds go on at a call, from a cell r in the middle of the list
+module _ (e : Electrode) (s r : SpmSolver) (q : Call) (qs : List Call) (x : List Fraction) where
+  -- an accepted one: a new cell, the exact sub-steps of its plan, K more by the count that it reports
+  pub record Accepted : Type 0 where
+    pub cell : cellAfter r (q ∷ qs) ≡ cellAfter (answer r q .solver) qs
+    pub exact : exactAfter (steps e s) r (q ∷ qs) x ≡ exactAfter (steps e s) (answer r q .solver) qs (exactRun (gridAt e s) (movesBy e (planFor s q) (q .dt)) x)
+    pub calls : taken r (q ∷ qs) ≡ q ∷ taken (answer r q .solver) qs
+    pub count : K r (q ∷ qs) ≡ answer r q .«sub_steps» + K (answer r q .solver) qs
+
+  pub at-accepted : answer r q .refusal ≡ 0 → Accepted
+  unfolding cellAfter exactAfter taken K
+  at-accepted h = let t = eq-eqb (answer r q .refusal) 0 h in record { cell = refl; exact = rw t; calls = rw t; count = refl }
+
+  -- a refused one: nothing changes
+  pub record Refused : Type 0 where
+    pub cell : cellAfter r (q ∷ qs) ≡ cellAfter r qs
+    pub exact : exactAfter (steps e s) r (q ∷ qs) x ≡ exactAfter (steps e s) r qs x
+    pub calls : taken r (q ∷ qs) ≡ taken r qs
+    pub count : K r (q ∷ qs) ≡ K r qs
+
+  pub at-refused : (answer r q .refusal ≡ 0 → ⊥) → Refused
+  unfolding cellAfter exactAfter taken K
+  at-refused n =
+      let t = ne-eqb (answer r q .refusal) 0 n in
+      let z = step-refused r (q .current) (q .dt) (q .temp) n in
+      record { cell = rw (z .0); exact = rw (t, z .0); calls = rw (t, z .0); count = rw (z .0, z .1) (zero-add (K r qs)) }
