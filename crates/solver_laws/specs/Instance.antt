@@ -1,14 +1,14 @@
 -- A worked instance of theorems 2 and 3: the ready cell of graphite and lithium iron phosphate, 11 nodes, a second at 298.15 K, and a refused call. Computed. Assumes nothing.
 use Prim.Native.Nat.{ℕ, _+_, _^_, _<_}
 use mathlib.Core.Path.{_≡_, refl, sym, ap, _∙_, subst}
-use mathlib.Core.Bool.{Bool, true, false, cond, _&&_}
+use mathlib.Core.Bool.{_&&_}
 use mathlib.Core.List.{List, [], _∷_}
 use native.Mathlib.Omega.{arith}
 use lib.Dec.{T}
 use lib.Ieee.{Float, nan, isNan, neg, le, lt, add, sub, mul, div, round, size, ofInt, fits, ofBits}
 use lib.Ieee.Bits.{is-true}
 use lib.Ieee.Fits.{and-i}
-use Rattle.fraction.specs.Fraction.{whole, nat, pow2, negF, _+F_, _-F_, _*F_, _/F_, ∣_∣, _≤F_, _within_}
+use Rattle.fraction.specs.Fraction.{whole, nat, pow2, negF, _-F_, _*F_, _/F_, ∣_∣, _≤F_, _within_}
 use Rattle.fraction.specs.Field.{≈F-refl}
 use Rattle.fraction.specs.Order.{lit≤F}
 use Rattle.binary64.specs.Operators.{_⊖_, _⊗_, _⊘_, f64, count}
@@ -51,7 +51,7 @@ use Rattle.solver.specs.Step.{inputRefusal, stepped, reported, finiteStep, plan
 use Rattle.solver_laws.specs.Electrodes.{Electrode, particleAt, diffusivityIn, fluxIn, nodes-are}
 use Rattle.solver_laws.specs.Closure.{electrode-next, accepted-where, step-stays, step-count}
 use Rattle.solver_laws.specs.Demand.{Call, answer, taken, K, planFor, numbersAt, KeptAt, place, exactPlace, solver-near, Accepted, at-accepted, Refused, at-refused}
-use Rattle.solver_laws.specs.Ranking.{Paired, Ranked, solver-ranking}
+use Rattle.solver_laws.specs.Ranking.{Ranked, solver-ranking}
 
 -- the config's defaults
 abbrev pub config : SpmConfig
