@@ -1,6 +1,6 @@
 -- What a step of the cell leads to: an accepted one to a cell that passes the checks again, a refused one to the cell as it was. Assumes nothing.
 use Prim.Native.Nat.{ℕ, zero, suc, _≤_}
-use mathlib.Core.Path.{_≡_, refl, sym, _∙_, subst}
+use mathlib.Core.Path.{_≡_, refl, sym, subst}
 use mathlib.Core.Bool.{Bool, true, false, cond, _&&_}
 use mathlib.Core.List.{List, [], _∷_}
 use native.Mathlib.Omega.{arith}
@@ -9,7 +9,7 @@ use lib.Ieee.{Float, nan, le}
 use lib.Ieee.Bits.{is-true}
 use lib.Ieee.Fits.{and-l, and-r, and-i}
 use lib.ListN.{getD}
-use Rattle.fraction.specs.Fraction.{nat, _+F_, _≤F_}
+use Rattle.fraction.specs.Fraction.{_≤F_}
 use Rattle.fraction.specs.Field.{≈F-sym, ≤F-of-≈F, ≤F-trans}
 use Rattle.fraction.specs.Certificate.{quote, le-by, _⊞_}
 use Rattle.binary64.specs.Operators.{_⊕_, _⊘_, f64, count}
@@ -25,7 +25,7 @@ use Rattle.diffusion.specs.Profile as Profile
 use Rattle.profile.specs.Places.{finiteProfile}
 use Rattle.particle.specs.declared.ParticleDiffusion.{ParticleDiffusion}
 use Rattle.particle.specs.Checks.{fieldsFit, particleRefusal, fields-of}
-use Rattle.particle.specs.Particle.{spacing, withProfile, driveWith}
+use Rattle.particle.specs.Particle.{withProfile, driveWith}
 use Rattle.particle_laws.specs.Ranges.{Ranged, nodes-passed, sheet-passed}
 use Rattle.particle_laws.specs.Checked.{unused-passed, particle-whole, particle-passes}
 use Rattle.particle_laws.specs.Nodes.{node-in}
@@ -34,7 +34,7 @@ use Rattle.solver.specs.declared.SpmSolver.{SpmSolver}
 use Rattle.solver.specs.declared.SpmState.{SpmState}
 use Rattle.solver.specs.declared.SpmStep.{SpmStep}
 use Rattle.solver.specs.declared.Plan.{Plan}
-use Rattle.solver.specs.Cell.{gridFits, cellFits, cellRefusal}
+use Rattle.solver.specs.Cell.{gridFits, cellRefusal}
 use Rattle.solver.specs.Step.{inputRefusal, planOf, planRefusal, subStepsOf, profileAfter, advanced, reported, finiteStep, refusedStep, finished, planned, stepped}
 use Rattle.solver_laws.specs.Electrodes.{Electrode, particleAt, diffusivityIn, fluxIn, config-passed, clock-passed, electrode-passes, grid-passed, count-most, cell-passed, interval-size, sub-step-ranged}
 

@@ -1,7 +1,7 @@
 -- THEOREM 2 of the third demand: a cell, any list of calls of `step`, refused ones among them, and at each electrode the exact scheme beside it. Assumes nothing.
 use Prim.Native.Nat.{ℕ, zero, suc, _+_, _<_, _≤_}
 use mathlib.Core.Path.{_≡_, refl, sym, ap, _∙_, subst}
-use mathlib.Core.Bool.{Bool, true, false, cond}
+use mathlib.Core.Bool.{cond}
 use mathlib.Core.List.{List, [], _∷_, map}
 use borrow.Author.Tests.{eq-eqb, ne-eqb}
 use native.Mathlib.Nat.{zero-add}
@@ -11,22 +11,20 @@ use lib.ListN.{length, getD, replicate, length-replicate}
 use Rattle.fraction.specs.Fraction.{Fraction, nat, pow2, _-F_, _*F_, _/F_, _within_}
 use Rattle.binary64.specs.Operators.{_⊘_, count}
 use Rattle.binary64.specs.Value.{val}
-use Rattle.diffusion.specs.SubStep.{Drive, subStep}
 use Rattle.diffusion.specs.Exact.{Numbers, numbers}
 use Rattle.diffusion.specs.Premises.{Kept, Sound, Whole}
 use Rattle.diffusion.specs.Run.{Grid, Move, drive, run, exactRun, Each}
 use Rattle.diffusion.specs.Calls.{Stepper, after, accepted, total, exactAfter, Lawful}
 use Rattle.diffusion.specs.CallLaws.{calls-near, each-with}
 use Rattle.diffusion.specs.Copies.{run-times, each-copies}
-use Rattle.particle.specs.declared.ParticleDiffusion.{ParticleDiffusion}
-use Rattle.particle.specs.Particle.{spacing, placeOf, stableStep, driveWith}
+use Rattle.particle.specs.Particle.{spacing, placeOf, stableStep}
 use Rattle.particle_laws.specs.Ranges.{ranged-sound}
 use Rattle.particle_laws.specs.Checked.{particle-whole}
 use Rattle.solver.specs.declared.SpmSolver.{SpmSolver}
 use Rattle.solver.specs.declared.SpmStep.{SpmStep}
 use Rattle.solver.specs.declared.Plan.{Plan}
 use Rattle.solver.specs.Cell.{cellRefusal}
-use Rattle.solver.specs.Step.{inputRefusal, currentDensity, planOf, planRefusal, subStepsOf, profileAfter, advanced, stepped}
+use Rattle.solver.specs.Step.{inputRefusal, currentDensity, planOf, subStepsOf, profileAfter, advanced, stepped}
 use Rattle.solver_laws.specs.Electrodes.{Electrode, particleAt, diffusivityIn, fluxIn, electrode-passes, count-most, sub-step-ranged}
 use Rattle.solver_laws.specs.Closure.{SameMake, Leads, leads, step-stays, step-refused, step-make, next}
 

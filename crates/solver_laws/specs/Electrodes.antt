@@ -12,7 +12,7 @@ use lib.Ieee.Fits.{and-l, and-r, and-i, down-pos}
 use lib.Ieee.Positive.{num, den}
 use Rattle.fraction.specs.Fraction.{nat, _≤F_, _<F_}
 use Rattle.fraction.specs.Size.{size-pos}
-use Rattle.binary64.specs.Operators.{_⊗_, _⊘_, f64, count, negative}
+use Rattle.binary64.specs.Operators.{_⊘_, f64, count, negative}
 use Rattle.binary64.specs.Range.{Within, Most, Sized, sized, most-wider, neg-most}
 use Rattle.binary64.specs.RangeTests.{literal, tested-within, tested-sized}
 use Rattle.binary64.specs.RangeOps.{mul-between, div-between, div-most, div-count}
@@ -20,12 +20,12 @@ use Rattle.binary64.specs.Bounds.{within-scaled}
 use Rattle.binary64.specs.Order.{neg-le}
 use Rattle.binary64.specs.OrderLaws.{div-le}
 use Rattle.binary64.specs.Value.{val, val-is, ratio-nn, le-val}
-use Rattle.elementary.specs.Count.{ceilOf, ceilDiv}
+use Rattle.elementary.specs.Count.{ceilOf}
 use Rattle.elementary.proofs.CountLaws.{ceil-least}
 use Rattle.refusal.specs.Numbers.{firstMet, refusalUnless, grid, load, interval, temperature, subSteps, none-met, passed}
 use Rattle.refusal.specs.Ranges.{loadFits, intervalFits, temperatureFits, clockFits}
 use Rattle.electrode.specs.declared.ElectrodeParams.{ElectrodeParams}
-use Rattle.electrode.specs.Sheet.{sheetFits, specificArea, diffusivityAt}
+use Rattle.electrode.specs.Sheet.{sheetFits, specificArea}
 use Rattle.particle.specs.declared.ParticleDiffusion.{ParticleDiffusion}
 use Rattle.particle.specs.Checks.{nodesFit, fieldsFit, particleRefusal}
 use Rattle.particle.specs.Particle.{driveWith}
@@ -34,7 +34,7 @@ use Rattle.kinetics.specs.declared.SpmConfig.{SpmConfig}
 use Rattle.kinetics.specs.Kinetics.{configFits, wallCurrent}
 use Rattle.solver.specs.declared.SpmSolver.{SpmSolver}
 use Rattle.solver.specs.declared.Plan.{Plan}
-use Rattle.solver.specs.Cell.{gridFits, cellFits, cellRefusal, NodesMet, anode-nodes, cathode-nodes, cell-met}
+use Rattle.solver.specs.Cell.{gridFits, cellRefusal, NodesMet, anode-nodes, cathode-nodes, cell-met}
 use Rattle.solver.specs.Step.{inputRefusal, currentDensity, planOf, planRefusal, subStepsOf}
 
 pub data Electrode : Type 0 where

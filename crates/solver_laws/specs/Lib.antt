@@ -7,11 +7,12 @@
 --               `after-passes`: after any list of calls the cell passes the checks, so its nodes are finite
 --   Ranking     THEOREM 3, `solver-ranking`: two cells of one make with equal profiles (`Twins`), two lists that keep the conditions at both electrodes, their accepted calls paired
 --               (`Paired`): then (`Ranked`) at no place is the second cathode more than 2·K·M / 2 ^ 49 below the first, or the second anode more than that above
---   Instance    the ready cell of graphite and lithium iron phosphate, 11 nodes, with refused calls in the lists
+--   Instance    the ready cell of graphite and lithium iron phosphate, 11 nodes: `discharge-near`, theorem 2 for 3 A between two refused calls, and `draw-ranked`, theorem 3 for
+--               that list and 4 A; every premise computed, that the cell accepts them too
 --
 -- WHAT ELSE IS PROVED
 --   Closure     `step-passes`: an accepted step leads to a cell that passes the checks again;  `step-refused`: a refused one leaves the cell as it is and reports no sub-steps;
---               `step-make`: config, sheets and counts of nodes stay;  `Leads`: what a step answers, in two cases
+--               `accepted-where`: what acceptance takes;  `step-make`: config, sheets and counts of nodes stay;  `Leads`: what a step answers, in two cases
 --   Electrodes  an electrode's particle and its numbers in a plan;  `sub-step-ranged`: each sub-step of an accepted call is in its ranges;  `count-most`: at most 4,096 of them;
 --               `cathode-flux`, `anode-flux`: with the current the flux grows at the cathode and falls at the anode
 --   Ordered     the exact scheme keeps the order of two profiles over two lists of calls

@@ -1,20 +1,20 @@
 -- THEOREM 3 of the third demand: of two lists of calls the one with the greater currents leaves more in the cathode and less in the anode, but for the roundings. Assumes nothing.
 use Prim.Native.Nat.{ℕ, _^_, _<_}
-use mathlib.Core.Path.{_≡_, refl, sym, ap, _∙_, subst}
+use mathlib.Core.Path.{_≡_, sym, ap, _∙_, subst}
 use mathlib.Core.List.{List, [], _∷_, map}
 use lib.Dec.{T, eqb, eqb·suc-zero}
-use lib.Ieee.{Float, nan, le}
+use lib.Ieee.{Float, le}
 use lib.ListN.{getD, length-map, replicate}
-use Rattle.fraction.specs.Fraction.{Fraction, nat, pow2, _+F_, _-F_, _*F_, _/F_, _≈F_, _≤F_, _within_}
+use Rattle.fraction.specs.Fraction.{nat, pow2, _+F_, _-F_, _*F_, _/F_, _≈F_, _≤F_, _within_}
 use Rattle.fraction.specs.Field.{≈F-sym, ≤F-of-≈F}
 use Rattle.fraction.specs.Certificate.{quote, le-by, up, hi, lo, _⊞_}
 use Rattle.binary64.specs.Operators.{_⊘_, count}
 use Rattle.binary64.specs.Range.{Sized}
 use Rattle.binary64.specs.Value.{val}
-use Rattle.diffusion.specs.Exact.{Numbers, numbers}
+use Rattle.diffusion.specs.Exact.{numbers}
 use Rattle.diffusion.specs.Premises.{Kept, Sound}
 use Rattle.diffusion.specs.Profile.{values-at}
-use Rattle.diffusion.specs.Run.{Grid, Move, drive, Each, Both, AllReady, Stronger}
+use Rattle.diffusion.specs.Run.{Grid, drive, Each, Both, AllReady, Stronger}
 use Rattle.diffusion.specs.RunLaws.{share, bound}
 use Rattle.diffusion.specs.Calls.{accepted, exactAfter}
 use Rattle.diffusion.specs.CallLaws.{each-with, both-flip, of-accepted, calls-total}
@@ -24,7 +24,7 @@ use Rattle.solver.specs.declared.SpmStep.{SpmStep}
 use Rattle.solver.specs.declared.Plan.{Plan}
 use Rattle.solver.specs.Cell.{cellRefusal}
 use Rattle.solver.specs.Step.{planOf, subStepsOf}
-use Rattle.solver_laws.specs.Electrodes.{Electrode, particleAt, diffusivityIn, fluxIn, nodes-are, current-fits, cathode-flux, anode-flux}
+use Rattle.solver_laws.specs.Electrodes.{Electrode, particleAt, diffusivityIn, nodes-are, current-fits, cathode-flux, anode-flux}
 use Rattle.solver_laws.specs.Closure.{SameMake, Leads, leads}
 use Rattle.solver_laws.specs.Ordered.{Ordered, ordered-calls, both-with, both-copied}
 use Rattle.solver_laws.specs.Demand.{Call, answer, taken, K, planFor, moveBy, movesBy, gridAt, steps, numbersAt, KeptAt, place, Inv, itself, same-plan, same-grid, lawful, taken-is, total-is, keeps, whole, near-from}
