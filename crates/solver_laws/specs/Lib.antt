@@ -15,10 +15,12 @@
 --               `accepted-where`: what acceptance takes;  `step-make`: config, sheets and counts of nodes stay;  `Leads`: what a step answers, in two cases
 --   Electrodes  an electrode's particle and its numbers in a plan;  `sub-step-ranged`: each sub-step of an accepted call is in its ranges;  `count-most`: at most 4,096 of them;
 --               `cathode-flux`, `anode-flux`: with the current the flux grows at the cathode and falls at the anode
+--   RunLists    `run-is-list`: the cell after a run is the cell after that many calls of `step`, so theorems 2 and 3 hold of the steps that a run makes
 --   Ordered     the exact scheme keeps the order of two profiles over two lists of calls
 pub mod Electrodes
 pub mod Closure
 pub mod Demand
 pub mod Ordered
 pub mod Ranking
+pub mod RunLists
 pub mod Instance
