@@ -1,5 +1,10 @@
 // The lists of the elementary functions.
-use crate::list::{next_word, next_f64, next_u64, is_f64, verdict, OVER};
+use crate::list::OVER;
+use crate::list::is_f64;
+use crate::list::next_f64;
+use crate::list::next_u64;
+use crate::list::next_word;
+use crate::list::verdict;
 
 // E, L, S and H.
 pub(crate) fn elementary_line(fd: i32) -> u64 {
@@ -34,8 +39,12 @@ pub(crate) fn small_line(fd: i32) -> u64 {
     let low = next_f64(fd);
     let high = next_f64(fd);
     let y = next_f64(fd);
-    let powers = is_f64(fd, elementary::square(x)) & is_f64(fd, elementary::cube(x)) & is_f64(fd, elementary::fourth(x));
-    let choices = is_f64(fd, elementary::clamp(x, low, high)) & is_f64(fd, elementary::max(x, y)) & is_f64(fd, elementary::min(x, y));
+    let powers = is_f64(fd, elementary::square(x))
+        & is_f64(fd, elementary::cube(x))
+        & is_f64(fd, elementary::fourth(x));
+    let choices = is_f64(fd, elementary::clamp(x, low, high))
+        & is_f64(fd, elementary::max(x, y))
+        & is_f64(fd, elementary::min(x, y));
     let signs = is_f64(fd, elementary::signum(x)) & is_f64(fd, elementary::abs(x));
     verdict(powers & choices & signs)
 }

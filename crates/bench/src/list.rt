@@ -9,7 +9,9 @@ pub struct Word {
 
 // What a line is found to be.
 pub const OVER: u64 = 0;
+
 pub const AGREES: u64 = 1;
+
 pub const DIFFERS: u64 = 2;
 
 fn wide(b: u8) -> u64 {
@@ -37,7 +39,10 @@ pub(crate) fn next_word(fd: i32) -> Word {
     if n < 17 {
         return Word { value: 0, end: 0 };
     }
-    Word { value: word_of(&text), end: text[16] }
+    Word {
+        value: word_of(&text),
+        end: text[16],
+    }
 }
 
 pub(crate) fn next_u64(fd: i32) -> u64 {

@@ -1,8 +1,15 @@
 // The lists of the particle's calls.
-use crate::list::{next_word, next_u64, next_f64, is_answer, verdict, OVER};
-use crate::sheets::{next_sheet, same_sheet};
+use crate::list::OVER;
+use crate::list::is_answer;
+use crate::list::next_f64;
+use crate::list::next_u64;
+use crate::list::next_word;
+use crate::list::verdict;
+use crate::sheets::next_sheet;
+use crate::sheets::same_sheet;
 use electrode::ElectrodeParams;
-use particle::{ParticleAnswer, ParticleDiffusion};
+use particle::ParticleAnswer;
+use particle::ParticleDiffusion;
 
 // A profile: how many places are listed, then these; the others are +0.
 pub(crate) fn next_places(fd: i32) -> [f64; 64] {
@@ -51,7 +58,11 @@ pub(crate) fn next_particle(fd: i32, electrode_type: u64) -> ParticleDiffusion {
     let params = next_sheet(fd, electrode_type);
     let n_nodes = next_u64(fd) as usize;
     let c_s = next_places(fd);
-    ParticleDiffusion { params, n_nodes, c_s }
+    ParticleDiffusion {
+        params,
+        n_nodes,
+        c_s,
+    }
 }
 
 // Whether the next answer is a: of an accepted call the profile beside the old fields, of a refused one the particle as it was.

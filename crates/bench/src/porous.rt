@@ -1,9 +1,19 @@
 // The lists of the Doyle-Fuller-Newman cell's calls.
-use crate::list::{next_word, next_u64, next_f64, is_f64, verdict, OVER};
+use crate::discharges::is_ending;
+use crate::list::OVER;
+use crate::list::is_f64;
+use crate::list::next_f64;
+use crate::list::next_u64;
+use crate::list::next_word;
+use crate::list::verdict;
 use crate::sheets::same;
-use dfn::{DfnAnswer, DfnSolver, DfnStep};
-use dfn_parameters::{DfnConfig, DfnParams};
-use galvanostatic_run::{run_galvanostatic, DfnRun, Ending};
+use dfn::DfnAnswer;
+use dfn::DfnSolver;
+use dfn::DfnStep;
+use dfn_parameters::DfnConfig;
+use dfn_parameters::DfnParams;
+use galvanostatic_run::DfnRun;
+use galvanostatic_run::run_galvanostatic;
 
 // ---- arrays
 
@@ -192,11 +202,21 @@ fn next_config(fd: i32) -> DfnConfig {
     let n_r = next_u64(fd) as usize;
     let v_min = next_f64(fd);
     let v_max = next_f64(fd);
-    DfnConfig { n_x_neg, n_x_pos, n_r, v_min, v_max }
+    DfnConfig {
+        n_x_neg,
+        n_x_pos,
+        n_r,
+        v_min,
+        v_max,
+    }
 }
 
 fn same_config(a: DfnConfig, b: DfnConfig) -> bool {
-    (a.n_x_neg == b.n_x_neg) & (a.n_x_pos == b.n_x_pos) & (a.n_r == b.n_r) & same(a.v_min, b.v_min) & same(a.v_max, b.v_max)
+    (a.n_x_neg == b.n_x_neg)
+        & (a.n_x_pos == b.n_x_pos)
+        & (a.n_r == b.n_r)
+        & same(a.v_min, b.v_min)
+        & same(a.v_max, b.v_max)
 }
 
 // A cell whose first number is read already.
@@ -311,7 +331,10 @@ pub(crate) fn ready_line(fd: i32) -> u64 {
     next_u64(fd);
     let nmc = next_parameters(fd, next_u64(fd));
     let lfp = next_parameters(fd, next_u64(fd));
-    verdict(same_parameters(nmc, DfnParams::nmc_graphite()) & same_parameters(lfp, DfnParams::lfp_graphite()))
+    verdict(
+        same_parameters(nmc, DfnParams::nmc_graphite())
+            & same_parameters(lfp, DfnParams::lfp_graphite()),
+    )
 }
 
 pub(crate) fn new_line(fd: i32) -> u64 {
@@ -327,9 +350,17 @@ pub(crate) fn new_line(fd: i32) -> u64 {
     let p = cell.params;
     let g = cell.config;
     if number != 0 {
-        return verdict((b.refusal == number) & (g.n_x_neg == 0) & (g.n_x_pos == 0) & (g.n_r == 0) & same(p.l_neg, 0.0));
+        return verdict(
+            (b.refusal == number)
+                & (g.n_x_neg == 0)
+                & (g.n_x_pos == 0)
+                & (g.n_r == 0)
+                & same(p.l_neg, 0.0),
+        );
     }
-    verdict((b.refusal == 0) & same_parameters(p, params) & same_config(g, config) & is_state(fd, cell))
+    verdict(
+        (b.refusal == 0) & same_parameters(p, params) & same_config(g, config) & is_state(fd, cell),
+    )
 }
 
 // Whether the next answer is a: of an accepted step the report and the new state, of a refused one the cell as it was.
@@ -383,29 +414,27 @@ fn is_rows(fd: i32, rows: &[f64]) -> bool {
     agrees
 }
 
-fn ending_number(e: Ending) -> u64 {
-    match e {
-        Ending::Voltage => 1,
-        Ending::Time => 2,
-        Ending::Full => 3,
-        Ending::Refused => 4,
-    }
-}
-
 // Whether the next answer is r: the ending, the refusal, the rows, and the new state where there is a row.
 fn is_run(fd: i32, before: DfnSolver, r: DfnRun, rows: &[f64]) -> bool {
     let kind = r.ending;
-    let ending = ending_number(kind) == next_u64(fd);
-    let number = r.refusal == next_u64(fd);
+    let number = next_u64(fd);
+    let ending = is_ending(kind, number, next_u64(fd));
     let written = is_rows(fd, rows);
     let cell = r.cell;
     if r.rows == 0 {
-        return ending & number & written & same_cell(before, cell);
+        return ending & written & same_cell(before, cell);
     }
-    ending & number & written & same_make(before, cell) & is_state(fd, cell)
+    ending & written & same_make(before, cell) & is_state(fd, cell)
 }
 
-fn run_agrees(fd: i32, cell: DfnSolver, current: f64, dt: f64, limit: f64, rows: &mut [f64]) -> bool {
+fn run_agrees(
+    fd: i32,
+    cell: DfnSolver,
+    current: f64,
+    dt: f64,
+    limit: f64,
+    rows: &mut [f64],
+) -> bool {
     mark_all(rows);
     let r = run_galvanostatic(cell, current, dt, limit, rows);
     is_run(fd, cell, r, rows)

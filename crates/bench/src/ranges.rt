@@ -1,5 +1,9 @@
 // The list of the tests of a range: x and a range's ends, what each test finds, and the numbers that follow.
-use crate::list::{next_word, next_u64, is_flag, verdict, OVER};
+use crate::list::OVER;
+use crate::list::is_flag;
+use crate::list::next_u64;
+use crate::list::next_word;
+use crate::list::verdict;
 
 fn tests_agree(x: f64, low: f64, high: f64, fd: i32) -> bool {
     let inside = next_word(fd);
@@ -39,7 +43,13 @@ pub(crate) fn line(fd: i32) -> u64 {
     let flow = words::from_bits(low.value);
     let fhigh = words::from_bits(high.value);
     let tests = tests_agree(fx, flow, fhigh, fd);
-    let numbers = numbers_agree(refusal::within(fx, flow, fhigh), x.value, low.value, high.value, fd);
+    let numbers = numbers_agree(
+        refusal::within(fx, flow, fhigh),
+        x.value,
+        low.value,
+        high.value,
+        fd,
+    );
     let same_bits = words::to_bits(fx) == x.value;
     verdict(tests & numbers & same_bits & (high.end == b'\t'))
 }

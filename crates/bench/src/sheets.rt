@@ -1,5 +1,11 @@
 // The lists of the electrode sheet's calls.
-use crate::list::{next_word, next_u64, next_f64, is_f64, is_answer, verdict, OVER};
+use crate::list::OVER;
+use crate::list::is_answer;
+use crate::list::is_f64;
+use crate::list::next_f64;
+use crate::list::next_u64;
+use crate::list::next_word;
+use crate::list::verdict;
 use electrode::ElectrodeParams;
 
 // A sheet whose chemistry is read already.

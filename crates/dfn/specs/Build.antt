@@ -35,12 +35,35 @@ fresh p g = record {
 -- ---- the record whose every number is +0 and whose counts are 0, beside a refused build
 abbrev noParameters : DfnParams
 noParameters = record {
-  «l_neg» = f64 0; «l_sep» = f64 0; «l_pos» = f64 0; area = f64 0;
-  «r_neg» = f64 0; «d_s_neg_ref» = f64 0; «c_s_neg_max» = f64 0; «eps_neg» = f64 0; «theta_neg_0» = f64 0; «k_neg» = f64 0;
-  «r_pos» = f64 0; «d_s_pos_ref» = f64 0; «c_s_pos_max» = f64 0; «eps_pos» = f64 0; «theta_pos_0» = f64 0; «k_pos» = f64 0;
-  «c_e0» = f64 0; «d_e0» = f64 0; «gamma_e» = f64 0; «t_plus» = f64 0; kappa0 = f64 0; «eps_e_elec» = f64 0; «eps_e_sep» = f64 0; brugg = f64 0;
+  «l_neg» = f64 0;
+  «l_sep» = f64 0;
+  «l_pos» = f64 0;
+  area = f64 0;
+  «r_neg» = f64 0;
+  «d_s_neg_ref» = f64 0;
+  «c_s_neg_max» = f64 0;
+  «eps_neg» = f64 0;
+  «theta_neg_0» = f64 0;
+  «k_neg» = f64 0;
+  «r_pos» = f64 0;
+  «d_s_pos_ref» = f64 0;
+  «c_s_pos_max» = f64 0;
+  «eps_pos» = f64 0;
+  «theta_pos_0» = f64 0;
+  «k_pos» = f64 0;
+  «c_e0» = f64 0;
+  «d_e0» = f64 0;
+  «gamma_e» = f64 0;
+  «t_plus» = f64 0;
+  kappa0 = f64 0;
+  «eps_e_elec» = f64 0;
+  «eps_e_sep» = f64 0;
+  brugg = f64 0;
   «temperature_k» = f64 0;
-  «ocv_neg_count» = 0; «ocv_neg_coeffs» = replicate 16 (f64 0); «ocv_pos_count» = 0; «ocv_pos_coeffs» = replicate 16 (f64 0);
+  «ocv_neg_count» = 0;
+  «ocv_neg_coeffs» = replicate 16 (f64 0);
+  «ocv_pos_count» = 0;
+  «ocv_pos_coeffs» = replicate 16 (f64 0);
 }
 
 abbrev noGrid : DfnConfig

@@ -1,11 +1,20 @@
 // The Doyle-Fuller-Newman cell by value: how it is built, checked and stepped. A changed translation of src/battery/p2d/dfn.rs (`DfnSolver`).
 // The particles of an electrode stand in one array, node ri of particle xi at xi * n_r + ri.
 use dfn_electrolyte::update_electrolyte;
-use dfn_parameters::{DfnConfig, DfnParams, Side};
-use dfn_places::{electrolyte_finite, electrolyte_fits, largest_change, solid_finite, solid_fits, uniform_electrolyte, uniform_solid};
-use dfn_solid::{update_solid, Grain, Solid};
+use dfn_parameters::DfnConfig;
+use dfn_parameters::DfnParams;
+use dfn_parameters::Side;
+use dfn_places::electrolyte_finite;
+use dfn_places::electrolyte_fits;
+use dfn_places::largest_change;
+use dfn_places::solid_finite;
+use dfn_places::solid_fits;
+use dfn_places::uniform_electrolyte;
+use dfn_places::uniform_solid;
+use dfn_solid::Grain;
+use dfn_solid::Solid;
+use dfn_solid::update_solid;
 use dfn_voltage::compute_voltage;
-
 ghost use mathlib.Core.Path.{_≡_};
 ghost use Prim.Native.Nat.{_≤_, _*_};
 ghost use Rattle.dfn.specs.Checks.{Met, cellRefusal, stepRefusal};
@@ -129,7 +138,13 @@ fn no_cell() -> DfnSolver
         ocv_pos_count: 0,
         ocv_pos_coeffs: [0.0; 16],
     };
-    let config = DfnConfig { n_x_neg: 0, n_x_pos: 0, n_r: 0, v_min: 0.0, v_max: 0.0 };
+    let config = DfnConfig {
+        n_x_neg: 0,
+        n_x_pos: 0,
+        n_r: 0,
+        v_min: 0.0,
+        v_max: 0.0,
+    };
     DfnSolver {
         params,
         config,
@@ -188,7 +203,11 @@ impl DfnSolver {
         let salt = update_electrolyte(p, g.n_x_neg, g.n_x_pos, c_e, current, dt);
         let anode = update_solid(grain_of(p, p.anode(), g.n_r, -current, dt), neg, g.n_x_neg);
         let cathode = update_solid(grain_of(p, p.cathode(), g.n_r, current, dt), pos, g.n_x_pos);
-        Moved { c_e: salt, neg: anode, pos: cathode }
+        Moved {
+            c_e: salt,
+            neg: anode,
+            pos: cathode,
+        }
     }
 
     // The report of a step.
@@ -268,13 +287,25 @@ impl DfnSolver {
         ensures { λ r. ⌜ r ≡ made params config ⌝ }
     {
         if !config.grid_fits() {
-            return DfnBuild { refusal: refusal::GRID, cell: no_cell() };
+            return DfnBuild {
+                refusal: refusal::GRID,
+                cell: no_cell(),
+            };
         }
         if !(params.fit() & config.limits_fit()) {
-            return DfnBuild { refusal: refusal::SHEET, cell: no_cell() };
+            return DfnBuild {
+                refusal: refusal::SHEET,
+                cell: no_cell(),
+            };
         }
-        let c_s_neg = uniform_solid(params.theta_neg_0 * params.c_s_neg_max, config.n_x_neg * config.n_r);
-        let c_s_pos = uniform_solid(params.theta_pos_0 * params.c_s_pos_max, config.n_x_pos * config.n_r);
+        let c_s_neg = uniform_solid(
+            params.theta_neg_0 * params.c_s_neg_max,
+            config.n_x_neg * config.n_r,
+        );
+        let c_s_pos = uniform_solid(
+            params.theta_pos_0 * params.c_s_pos_max,
+            config.n_x_pos * config.n_r,
+        );
         let c_e = uniform_electrolyte(params.c_e0, config.n_x_neg + 1 + config.n_x_pos);
         let cell = DfnSolver {
             params,
@@ -297,14 +328,26 @@ impl DfnSolver {
     {
         let number = self.step_refusal(current, dt);
         if number != 0 {
-            return DfnAnswer { refusal: number, report: no_report(), cell: self };
+            return DfnAnswer {
+                refusal: number,
+                report: no_report(),
+                cell: self,
+            };
         }
         let m = self.moved(current, dt);
         let report = self.report(m, current, dt);
         let cell = self.with(m, report);
         if cell.all_numbers(report) {
-            return DfnAnswer { refusal: 0, report, cell };
+            return DfnAnswer {
+                refusal: 0,
+                report,
+                cell,
+            };
         }
-        DfnAnswer { refusal: refusal::NOT_FINITE, report: no_report(), cell: self }
+        DfnAnswer {
+            refusal: refusal::NOT_FINITE,
+            report: no_report(),
+            cell: self,
+        }
     }
 }

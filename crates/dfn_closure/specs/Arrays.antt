@@ -82,9 +82,9 @@ module _ (v : Grain) (c d : List Float) where
       ⊎-elim
       (λ (q : i < b). rw (places-before b f l (v .n) i nan q) (particles-held k i (omega arith) q))
       (λ (q : b ≤ i).
-        let e : b + (i - b) ≡ i = omega arith in
-        let n : b + v .n ≤ length l = rw (particles-length k) m′ in
-        record { from = nodeWith v c d b (i - b); is = rw e at (places-inside b f l (v .n) (i - b) nan (omega arith) n) })
+      let e : b + (i - b) ≡ i = omega arith in
+      let n : b + v .n ≤ length l = rw (particles-length k) m′ in
+      record { from = nodeWith v c d b (i - b); is = rw e at (places-inside b f l (v .n) (i - b) nan (omega arith) n) })
       (lt-or-ge i b)
 
   particles-kept : (k i : ℕ) → k * v .n ≤ i → at (particlesWith v c d k) i ≡ at c i
@@ -103,10 +103,10 @@ module _ (v : Grain) (c d : List Float) where
       let n : 512 ≤ length c = long 512 c u (f64 0) (v .«c_max») t in
       all-of (λ i. placeFits (at out i) (ltb i u) (f64 0) (v .«c_max»)) 512
       (λ i l. ⊎-elim
-        (λ (h : i < u). used-fits (at out i) (f64 0) (v .«c_max») (ltb i u) (lt-ltb i u h)
-          (held-in (at out i) (f64 0) (v .«c_max») (particles-held m i (omega (arith, r, n)) h) z p q (all-at (λ j. finite (at out j)) u i h f)))
-        (λ (h : u ≤ i). rw (particles-kept m i h) (all-at (λ j. placeFits (at c j) (ltb j u) (f64 0) (v .«c_max»)) 512 i l t))
-        (lt-or-ge i u))
+      (λ (h : i < u). used-fits (at out i) (f64 0) (v .«c_max») (ltb i u) (lt-ltb i u h)
+      (held-in (at out i) (f64 0) (v .«c_max») (particles-held m i (omega (arith, r, n)) h) z p q (all-at (λ j. finite (at out j)) u i h f)))
+      (λ (h : u ≤ i). rw (particles-kept m i h) (all-at (λ j. placeFits (at c j) (ltb j u) (f64 0) (v .«c_max»)) 512 i l t))
+      (lt-or-ge i u))
 
 -- ---- the salt
 abbrev low : Float
@@ -166,9 +166,9 @@ salt-closed neg pos c d r t f =
     let n : 33 ≤ length c = long 33 c u least most t in
     all-of (λ i. placeFits (at out i) (ltb i u) least most) 33
     (λ i l. ⊎-elim
-      (λ (h : i < u).
-        let y = all-at (λ j. finite (at out j)) u i h f in
-        used-fits (at out i) least most (ltb i u) (lt-ltb i u h)
-        (wider (at out i) y (held-in (at out i) low high (record { from = Salt.nodeWith neg pos c d i; is = first-below g c u i nan h (omega (arith, r, n)) }) low-finite high-finite low-high y)))
-      (λ (h : u ≤ i). rw (first-above g c u i nan h) (all-at (λ j. placeFits (at c j) (ltb j u) least most) 33 i l t))
-      (lt-or-ge i u))
+    (λ (h : i < u).
+    let y = all-at (λ j. finite (at out j)) u i h f in
+    used-fits (at out i) least most (ltb i u) (lt-ltb i u h)
+    (wider (at out i) y (held-in (at out i) low high (record { from = Salt.nodeWith neg pos c d i; is = first-below g c u i nan h (omega (arith, r, n)) }) low-finite high-finite low-high y)))
+    (λ (h : u ≤ i). rw (first-above g c u i nan h) (all-at (λ j. placeFits (at c j) (ltb j u) least most) 33 i l t))
+    (lt-or-ge i u))

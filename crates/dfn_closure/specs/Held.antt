@@ -39,6 +39,7 @@ clamp-in x lo hi p q h =
   where
     In : Float → Type 0
     In y = T (finite y) → T (le lo y && le y hi)
+
     top : T (le lo hi && le hi hi)
     top = and-i (le lo hi) (le hi hi) h (le-self hi q)
 

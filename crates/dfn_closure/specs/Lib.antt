@@ -8,4 +8,3 @@ pub mod Held
 pub mod Tests
 pub mod Arrays
 pub mod Closure
-

@@ -1,7 +1,7 @@
 // The electrolyte's nodes after a step, all from the old ones: the anode's, one for the separator, the cathode's. A changed translation of
 // src/battery/p2d/dfn.rs (`update_electrolyte`, `d_eff_e`). Each node's diffusivity is worked out once.
-use dfn_parameters::{DfnParams, Side};
-
+use dfn_parameters::DfnParams;
+use dfn_parameters::Side;
 ghost use mathlib.Core.Path.{_≡_};
 ghost use Prim.Native.Nat.{_+_, _<_, _≤_};
 ghost use Rattle.dfn_electrolyte.specs.Electrolyte.{saltOf, regionOf, dEff, dEffs, flowWith, movedWith, nodeWith, nodesWith, electrolyteAfter};
@@ -25,7 +25,12 @@ pub struct Region {
 fn salt_of(p: DfnParams) -> Salt
     ensures { λ r. ⌜ r ≡ saltOf p ⌝ }
 {
-    Salt { factor: elementary::powf(p.eps_e_elec, p.brugg), d_e0: p.d_e0, gamma_e: p.gamma_e, c_e0: p.c_e0 }
+    Salt {
+        factor: elementary::powf(p.eps_e_elec, p.brugg),
+        d_e0: p.d_e0,
+        gamma_e: p.gamma_e,
+        c_e0: p.c_e0,
+    }
 }
 
 // The n nodes of one electrode, into whose pores the flux j goes.
@@ -34,7 +39,12 @@ fn region_of(p: DfnParams, side: Side, n: usize, j: f64, dt: f64) -> Region
 {
     let dx = side.l / std::num::nearest_u64_to_f64(n as u64);
     let source = (1.0 - p.t_plus) * side.specific_area() * j * 96485.0;
-    Region { n, dx, rate: dt / (p.eps_e_elec * dx), push: dt * source / p.eps_e_elec }
+    Region {
+        n,
+        dx,
+        rate: dt / (p.eps_e_elec * dx),
+        push: dt * source / p.eps_e_elec,
+    }
 }
 
 // The effective diffusivity at a concentration.
@@ -101,7 +111,14 @@ fn nodes(neg: Region, pos: Region, c: [f64; 33], d: &[f64; 33]) -> [f64; 33]
 }
 
 // The electrolyte after an interval with a current: of the n_neg nodes in the anode, the separator's and the n_pos in the cathode.
-pub fn update_electrolyte(p: DfnParams, n_neg: usize, n_pos: usize, c: [f64; 33], current: f64, dt: f64) -> [f64; 33]
+pub fn update_electrolyte(
+    p: DfnParams,
+    n_neg: usize,
+    n_pos: usize,
+    c: [f64; 33],
+    current: f64,
+    dt: f64,
+) -> [f64; 33]
     requires { ⌜ («n_neg» ≤ 16) × («n_pos» ≤ 16) ⌝ }
     ensures { λ r. ⌜ r ≡ electrolyteAfter p «n_neg» «n_pos» c current dt ⌝ }
 {

@@ -101,9 +101,43 @@ impl DfnParams {
             brugg: 1.5,
             temperature_k: 298.15,
             ocv_neg_count: 2,
-            ocv_neg_coeffs: [-1.5, 1.2, 0.0, 0.0, 0.0, 0.0, 0.0, 0.0, 0.0, 0.0, 0.0, 0.0, 0.0, 0.0, 0.0, 0.0],
+            ocv_neg_coeffs: [
+                -1.5,
+                1.2,
+                0.0,
+                0.0,
+                0.0,
+                0.0,
+                0.0,
+                0.0,
+                0.0,
+                0.0,
+                0.0,
+                0.0,
+                0.0,
+                0.0,
+                0.0,
+                0.0,
+            ],
             ocv_pos_count: 2,
-            ocv_pos_coeffs: [-2.0, 4.5, 0.0, 0.0, 0.0, 0.0, 0.0, 0.0, 0.0, 0.0, 0.0, 0.0, 0.0, 0.0, 0.0, 0.0],
+            ocv_pos_coeffs: [
+                -2.0,
+                4.5,
+                0.0,
+                0.0,
+                0.0,
+                0.0,
+                0.0,
+                0.0,
+                0.0,
+                0.0,
+                0.0,
+                0.0,
+                0.0,
+                0.0,
+                0.0,
+                0.0,
+            ],
         }
     }
 
@@ -138,9 +172,43 @@ impl DfnParams {
             brugg: 1.5,
             temperature_k: 298.15,
             ocv_neg_count: 2,
-            ocv_neg_coeffs: [-1.5, 1.2, 0.0, 0.0, 0.0, 0.0, 0.0, 0.0, 0.0, 0.0, 0.0, 0.0, 0.0, 0.0, 0.0, 0.0],
+            ocv_neg_coeffs: [
+                -1.5,
+                1.2,
+                0.0,
+                0.0,
+                0.0,
+                0.0,
+                0.0,
+                0.0,
+                0.0,
+                0.0,
+                0.0,
+                0.0,
+                0.0,
+                0.0,
+                0.0,
+                0.0,
+            ],
             ocv_pos_count: 2,
-            ocv_pos_coeffs: [-0.1, 3.45, 0.0, 0.0, 0.0, 0.0, 0.0, 0.0, 0.0, 0.0, 0.0, 0.0, 0.0, 0.0, 0.0, 0.0],
+            ocv_pos_coeffs: [
+                -0.1,
+                3.45,
+                0.0,
+                0.0,
+                0.0,
+                0.0,
+                0.0,
+                0.0,
+                0.0,
+                0.0,
+                0.0,
+                0.0,
+                0.0,
+                0.0,
+                0.0,
+                0.0,
+            ],
         }
     }
 
@@ -148,31 +216,56 @@ impl DfnParams {
     pub fn numbers_fit(self) -> bool
         ensures { λ r. ⌜ r ≡ numbersFit self ⌝ }
     {
-        (1e-7 <= self.l_neg) & (self.l_neg <= 1e-2)
-            & (1e-7 <= self.l_sep) & (self.l_sep <= 1e-2)
-            & (1e-7 <= self.l_pos) & (self.l_pos <= 1e-2)
-            & (1e-6 <= self.area) & (self.area <= 1e4)
-            & (1e-8 <= self.r_neg) & (self.r_neg <= 1e-3)
-            & (1e-20 <= self.d_s_neg_ref) & (self.d_s_neg_ref <= 1e-8)
-            & (1.0 <= self.c_s_neg_max) & (self.c_s_neg_max <= 131072.0)
-            & (0.01 <= self.eps_neg) & (self.eps_neg <= 1.0)
-            & (0.0 <= self.theta_neg_0) & (self.theta_neg_0 <= 1.0)
-            & (1e-16 <= self.k_neg) & (self.k_neg <= 1.0)
-            & (1e-8 <= self.r_pos) & (self.r_pos <= 1e-3)
-            & (1e-20 <= self.d_s_pos_ref) & (self.d_s_pos_ref <= 1e-8)
-            & (1.0 <= self.c_s_pos_max) & (self.c_s_pos_max <= 131072.0)
-            & (0.01 <= self.eps_pos) & (self.eps_pos <= 1.0)
-            & (0.0 <= self.theta_pos_0) & (self.theta_pos_0 <= 1.0)
-            & (1e-16 <= self.k_pos) & (self.k_pos <= 1.0)
-            & (1.0 <= self.c_e0) & (self.c_e0 <= 1e5)
-            & (1e-16 <= self.d_e0) & (self.d_e0 <= 1e-6)
-            & (0.0 <= self.gamma_e) & (self.gamma_e <= 1000.0)
-            & (0.0 <= self.t_plus) & (self.t_plus <= 1.0)
-            & (1e-6 <= self.kappa0) & (self.kappa0 <= 100.0)
-            & (0.01 <= self.eps_e_elec) & (self.eps_e_elec <= 1.0)
-            & (0.01 <= self.eps_e_sep) & (self.eps_e_sep <= 1.0)
-            & (0.0 <= self.brugg) & (self.brugg <= 4.0)
-            & (200.0 <= self.temperature_k) & (self.temperature_k <= 400.0)
+        (1e-7 <= self.l_neg)
+            & (self.l_neg <= 1e-2)
+            & (1e-7 <= self.l_sep)
+            & (self.l_sep <= 1e-2)
+            & (1e-7 <= self.l_pos)
+            & (self.l_pos <= 1e-2)
+            & (1e-6 <= self.area)
+            & (self.area <= 1e4)
+            & (1e-8 <= self.r_neg)
+            & (self.r_neg <= 1e-3)
+            & (1e-20 <= self.d_s_neg_ref)
+            & (self.d_s_neg_ref <= 1e-8)
+            & (1.0 <= self.c_s_neg_max)
+            & (self.c_s_neg_max <= 131072.0)
+            & (0.01 <= self.eps_neg)
+            & (self.eps_neg <= 1.0)
+            & (0.0 <= self.theta_neg_0)
+            & (self.theta_neg_0 <= 1.0)
+            & (1e-16 <= self.k_neg)
+            & (self.k_neg <= 1.0)
+            & (1e-8 <= self.r_pos)
+            & (self.r_pos <= 1e-3)
+            & (1e-20 <= self.d_s_pos_ref)
+            & (self.d_s_pos_ref <= 1e-8)
+            & (1.0 <= self.c_s_pos_max)
+            & (self.c_s_pos_max <= 131072.0)
+            & (0.01 <= self.eps_pos)
+            & (self.eps_pos <= 1.0)
+            & (0.0 <= self.theta_pos_0)
+            & (self.theta_pos_0 <= 1.0)
+            & (1e-16 <= self.k_pos)
+            & (self.k_pos <= 1.0)
+            & (1.0 <= self.c_e0)
+            & (self.c_e0 <= 1e5)
+            & (1e-16 <= self.d_e0)
+            & (self.d_e0 <= 1e-6)
+            & (0.0 <= self.gamma_e)
+            & (self.gamma_e <= 1000.0)
+            & (0.0 <= self.t_plus)
+            & (self.t_plus <= 1.0)
+            & (1e-6 <= self.kappa0)
+            & (self.kappa0 <= 100.0)
+            & (0.01 <= self.eps_e_elec)
+            & (self.eps_e_elec <= 1.0)
+            & (0.01 <= self.eps_e_sep)
+            & (self.eps_e_sep <= 1.0)
+            & (0.0 <= self.brugg)
+            & (self.brugg <= 4.0)
+            & (200.0 <= self.temperature_k)
+            & (self.temperature_k <= 400.0)
     }
 
     // Whether every field is in its range.
@@ -220,9 +313,12 @@ impl DfnConfig {
     pub fn grid_fits(self) -> bool
         ensures { λ r. ⌜ r ≡ gridFits self ⌝ }
     {
-        (1 <= self.n_x_neg) & (self.n_x_neg <= 16)
-            & (1 <= self.n_x_pos) & (self.n_x_pos <= 16)
-            & (2 <= self.n_r) & (self.n_r <= 32)
+        (1 <= self.n_x_neg)
+            & (self.n_x_neg <= 16)
+            & (1 <= self.n_x_pos)
+            & (self.n_x_pos <= 16)
+            & (2 <= self.n_r)
+            & (self.n_r <= 32)
     }
 
     // Whether the voltages are in their range.

@@ -118,5 +118,8 @@ pub fn update_solid(v: Grain, c: [f64; 512], count: usize) -> Solid
         move_particle(v, &c, &d, i * n, &mut out);
         sum = sum + out[i * n + (n - 1)] / v.c_max;
     }
-    Solid { c: out, theta: sum / std::num::nearest_u64_to_f64(at_least_one(count)) }
+    Solid {
+        c: out,
+        theta: sum / std::num::nearest_u64_to_f64(at_least_one(count)),
+    }
 }

@@ -1,7 +1,8 @@
 // The terminal voltage of a Doyle-Fuller-Newman cell. A changed translation of src/battery/p2d/dfn.rs (`compute_voltage`). Its fluxes have no
 // factor of Faraday, its signs are the Rust's.
-use dfn_parameters::{ocv, DfnParams, Side};
-
+use dfn_parameters::DfnParams;
+use dfn_parameters::Side;
+use dfn_parameters::ocv;
 ghost use mathlib.Core.Path.{_≡_};
 ghost use Prim.Native.Nat.{_≤_};
 ghost use Rattle.dfn_voltage.specs.Voltage.{layerOf, resistanceOf, exchangeOf, overOf, sideOf, openOf, voltageOf};
@@ -28,7 +29,11 @@ fn resistance(p: DfnParams, c_e_mid: f64) -> f64
 fn exchange_current(k: f64, c_e_mid: f64, c: f64, c_max: f64) -> f64
     ensures { λ r. ⌜ r ≡ exchangeOf k «c_e_mid» c «c_max» ⌝ }
 {
-    k * 96485.0 * square_root::sqrt(c_e_mid) * square_root::sqrt(c) * elementary::max(square_root::sqrt(c_max - c), 0.0)
+    k
+        * 96485.0
+        * square_root::sqrt(c_e_mid)
+        * square_root::sqrt(c)
+        * elementary::max(square_root::sqrt(c_max - c), 0.0)
 }
 
 // The overpotential of a flux j at the exchange current density i0.
@@ -42,7 +47,14 @@ fn overpotential(rt_f: f64, i0: f64, j: f64) -> f64
 }
 
 // The overpotential of one electrode, at a stoichiometry of its surface, for a current over plates of an area.
-fn side_overpotential(rt_f: f64, side: Side, theta: f64, c_e_mid: f64, area: f64, current: f64) -> f64
+fn side_overpotential(
+    rt_f: f64,
+    side: Side,
+    theta: f64,
+    c_e_mid: f64,
+    area: f64,
+    current: f64,
+) -> f64
     ensures { λ r. ⌜ r ≡ sideOf «rt_f» side theta «c_e_mid» area current ⌝ }
 {
     let i0 = exchange_current(side.k, c_e_mid, theta * side.c_s_max, side.c_s_max);
@@ -56,21 +68,42 @@ fn open_voltage(p: DfnParams, theta_neg: f64, theta_pos: f64) -> f64
 {
     let neg = p.ocv_neg_coeffs;
     let pos = p.ocv_pos_coeffs;
-    let u_neg = ocv(&neg, p.ocv_neg_count, elementary::clamp(theta_neg, 0.001, 0.999));
-    let u_pos = ocv(&pos, p.ocv_pos_count, elementary::clamp(theta_pos, 0.001, 0.999));
+    let u_neg = ocv(
+        &neg,
+        p.ocv_neg_count,
+        elementary::clamp(theta_neg, 0.001, 0.999),
+    );
+    let u_pos = ocv(
+        &pos,
+        p.ocv_pos_count,
+        elementary::clamp(theta_pos, 0.001, 0.999),
+    );
     u_pos - u_neg
 }
 
 // The terminal voltage from the mean stoichiometries of the surfaces and the electrolyte's concentration in the middle of the anode.
-pub fn compute_voltage(p: DfnParams, theta_neg: f64, theta_pos: f64, c_e_mid: f64, current: f64) -> f64
+pub fn compute_voltage(
+    p: DfnParams,
+    theta_neg: f64,
+    theta_pos: f64,
+    c_e_mid: f64,
+    current: f64,
+) -> f64
     requires { ⌜ (p .«ocv_neg_count» ≤ 16) × (p .«ocv_pos_count» ≤ 16) ⌝ }
     ensures { λ r. ⌜ r ≡ voltageOf p «theta_neg» «theta_pos» «c_e_mid» current ⌝ }
 {
     let rt_f = 8.314 * p.temperature_k / 96485.0;
     let ocv = open_voltage(p, theta_neg, theta_pos);
     let r_ion = resistance(p, c_e_mid);
-    let eta_conc = 2.0 * rt_f * (1.0 - p.t_plus) * elementary::ln(elementary::max(c_e_mid / p.c_e0, 1e-9));
+    let eta_conc = 2.0
+        * rt_f
+        * (1.0 - p.t_plus)
+        * elementary::ln(elementary::max(c_e_mid / p.c_e0, 1e-9));
     let eta_neg = side_overpotential(rt_f, p.anode(), theta_neg, c_e_mid, p.area, -current);
     let eta_pos = side_overpotential(rt_f, p.cathode(), theta_pos, c_e_mid, p.area, current);
-    elementary::clamp(ocv - current * r_ion - eta_neg + eta_pos + eta_conc, 0.0, 5.0)
+    elementary::clamp(
+        ocv - current * r_ion - eta_neg + eta_pos + eta_conc,
+        0.0,
+        5.0,
+    )
 }

@@ -90,16 +90,26 @@ impl ElectrodeParams {
     pub fn fits(self) -> bool
         ensures { λ r. ⌜ r ≡ sheetFits self ⌝ }
     {
-        (1 <= self.electrode_type) & (self.electrode_type <= 3)
-            & (1e-8 <= self.r_particle) & (self.r_particle <= 1e-3)
-            & (1e-20 <= self.d_s_ref) & (self.d_s_ref <= 1e-8)
-            & (1.0 <= self.c_s_max) & (self.c_s_max <= 131072.0)
-            & (0.0 <= self.theta_init) & (self.theta_init <= 1.0)
-            & (1e-7 <= self.thickness) & (self.thickness <= 1e-2)
-            & (0.01 <= self.epsilon_s) & (self.epsilon_s <= 1.0)
-            & (1e-6 <= self.area) & (self.area <= 1e4)
-            & (0.0 <= self.e_a_ds) & (self.e_a_ds <= 1e5)
-            & (1e-16 <= self.k_bv) & (self.k_bv <= 1.0)
+        (1 <= self.electrode_type)
+            & (self.electrode_type <= 3)
+            & (1e-8 <= self.r_particle)
+            & (self.r_particle <= 1e-3)
+            & (1e-20 <= self.d_s_ref)
+            & (self.d_s_ref <= 1e-8)
+            & (1.0 <= self.c_s_max)
+            & (self.c_s_max <= 131072.0)
+            & (0.0 <= self.theta_init)
+            & (self.theta_init <= 1.0)
+            & (1e-7 <= self.thickness)
+            & (self.thickness <= 1e-2)
+            & (0.01 <= self.epsilon_s)
+            & (self.epsilon_s <= 1.0)
+            & (1e-6 <= self.area)
+            & (self.area <= 1e4)
+            & (0.0 <= self.e_a_ds)
+            & (self.e_a_ds <= 1e5)
+            & (1e-16 <= self.k_bv)
+            & (self.k_bv <= 1.0)
     }
 
     // The diffusivity at a temperature, by Arrhenius.
@@ -159,7 +169,10 @@ impl ElectrodeParams {
     pub fn ocp(self, theta: f64) -> refusal::Answer
         ensures { λ r. ⌜ said r ≡ ocpCall self theta ⌝ }
     {
-        let unfit = refusal::refusal_unless(self.fits() & refusal::is_finite(theta), refusal::SHEET);
+        let unfit = refusal::refusal_unless(
+            self.fits() & refusal::is_finite(theta),
+            refusal::SHEET,
+        );
         refusal::answered(unfit, self.open_circuit(theta))
     }
 
@@ -167,7 +180,10 @@ impl ElectrodeParams {
     pub fn docp_dtheta(self, theta: f64) -> refusal::Answer
         ensures { λ r. ⌜ said r ≡ slopeCall self theta ⌝ }
     {
-        let unfit = refusal::refusal_unless(self.fits() & refusal::is_finite(theta), refusal::SHEET);
+        let unfit = refusal::refusal_unless(
+            self.fits() & refusal::is_finite(theta),
+            refusal::SHEET,
+        );
         refusal::answered(unfit, self.open_circuit_slope(theta))
     }
 }
@@ -187,7 +203,8 @@ fn ocp_lfp(x0: f64) -> f64
     ensures { λ r. ⌜ r ≡ lfpCurve x0 ⌝ }
 {
     let x = elementary::clamp(x0, 0.01, 0.99);
-    let backbone = 3.414 + 0.12 * elementary::square(x) - 0.17 * elementary::cube(x) + 0.05 * elementary::fourth(x);
+    let backbone = 3.414 + 0.12 * elementary::square(x) - 0.17 * elementary::cube(x)
+        + 0.05 * elementary::fourth(x);
     let low_soc = 0.20 / (1.0 + elementary::exp(80.0 * (x - 0.08)));
     let high_soc = 0.15 / (1.0 + elementary::exp(80.0 * (0.92 - x)));
     backbone - low_soc + high_soc

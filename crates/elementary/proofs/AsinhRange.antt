@@ -10,15 +10,16 @@ use lib.Ieee.Fits.{add-fits}
 use lib.Ieee.Positive.{num, den, positive}
 use Rattle.binary64.specs.Operators.{_⊕_, _⊗_, f64, negative}
 use Rattle.binary64.specs.Range.{Most, Within, Sized, sized, neg-most}
-use Rattle.binary64.specs.RangeOps.{mul-most, add-alike, literal, least-zero, tested-within}
+use Rattle.binary64.specs.RangeOps.{mul-most, add-alike, least-zero}
+use Rattle.binary64.specs.RangeTests.{tested-within, within-positive, within-ge, most-le}
 use Rattle.square_root.specs.Root.{sqrtOf, rounded, wholeRoot, rootBelow}
 use Rattle.square_root.specs.Standard.{natural}
-use Rattle.square_root.proofs.Monotone.{sqrt-mono}
+use Rattle.square_root.proofs.Range.{sqrt-within}
 use Rattle.elementary.specs.Exp.{one}
 use Rattle.elementary.specs.Ln.{lnOf}
 use Rattle.elementary.specs.Choice.{absOf}
 use Rattle.elementary.specs.Asinh.{asinhAt, asinhOf}
-use Rattle.elementary.proofs.ExpRange.{within-positive, within-le}
+use Rattle.elementary.proofs.Constants.{at-1}
 use Rattle.elementary.proofs.LnRange.{ln-finite}
 
 abs-most : (x : Float) (A C : ℕ) → Sized x A C → Most (absOf x) false A C
@@ -26,42 +27,28 @@ abs-most nan A C h = absurd (h .fine)
 abs-most (inf s) A C h = absurd (h .fine)
 abs-most (fin s m e) A C h = record { over = h .over; fine = tt; sign = refl; most = h .most }
 
-unit : Within one 1 1 1 1
-unfolding ofBits
-unit = literal one 1 1 1 1 tt tt tt tt tt
-
 -- the root of what is from 1 to 2 ^ 1000, by the roots of the ends: 2 ^ 1000 and 2 ^ 500
 root-ends : (sqrtOf one ≡ one) × (sqrtOf (f64 0x7e70_0000_0000_0000) ≡ f64 0x5f30_0000_0000_0000)
 unfolding sqrtOf rounded wholeRoot rootBelow round size ofBits
 root-ends = (refl, refl)
 
-positive-natural : (x : Float) → T (positive x) → T (natural x)
-positive-natural nan p = absurd p
-positive-natural (inf s) p = absurd p
-positive-natural (fin true m e) p = absurd p
-positive-natural (fin false m e) p = tt
-
 root-within : (z : Float) → T (fits binary64 z) → Within z (2 ^ 1000) 1 1 1 → Within (sqrtOf z) (2 ^ 500) 1 1 1
 unfolding ofBits
 root-within z f w =
     let top = f64 0x7e70_0000_0000_0000 in
-    let b = within-le one z top (2 ^ 1000) 1 1 1 tt tt tt tt tt w in
-    let n = positive-natural z (within-positive z (2 ^ 1000) 1 1 1 (zero-lt-suc 0) w) in
-    tested-within one (sqrtOf z) (f64 0x5f30_0000_0000_0000) tt tt
-    (subst (λ (r : Float). T (le r (sqrtOf z))) (root-ends .0) (sqrt-mono one z (ofBits-fits binary64 0x3ff0_0000_0000_0000) f tt n (b .0)))
-    (subst (λ (r : Float). T (le (sqrtOf z) r)) (root-ends .1) (sqrt-mono z top f (ofBits-fits binary64 0x7e70_0000_0000_0000) n tt (b .1)))
+    sqrt-within one top one (f64 0x5f30_0000_0000_0000) (ofBits-fits binary64 0x3ff0_0000_0000_0000) (ofBits-fits binary64 0x7e70_0000_0000_0000) tt tt tt tt (root-ends .0) (root-ends .1) z f (within-ge w one tt tt tt) (most-le (w .0) top tt tt)
 
 at-sized : (a : Float) → Most a false (2 ^ 499) 1 → Sized (asinhAt a) 11939 16
 at-sized a h =
     let z = (a ⊗ a) ⊕ one in
-    let w : Within z (2 ^ 1000) 1 1 1 = add-alike (mul-most h h (2 ^ 998) 1 tt tt, least-zero) unit (2 ^ 1000) 1 1 1 tt tt tt tt in
+    let w : Within z (2 ^ 1000) 1 1 1 = add-alike (mul-most h h (2 ^ 998) 1 tt tt, least-zero) at-1 (2 ^ 1000) 1 1 1 tt tt tt tt in
     let r = root-within z (add-fits binary64 (a ⊗ a) one) w in
     let v : Within (a ⊕ sqrtOf z) (2 ^ 501) 1 1 1 = add-alike (h, least-zero) r (2 ^ 501) 1 1 1 tt tt tt tt in
-    ln-finite (a ⊕ sqrtOf z) (add-fits binary64 a (sqrtOf z)) (within-positive (a ⊕ sqrtOf z) (2 ^ 501) 1 1 1 (zero-lt-suc 0) v)
+    ln-finite (a ⊕ sqrtOf z) (add-fits binary64 a (sqrtOf z)) (within-positive v tt)
 
-pub asinh-finite : (x : Float) → Sized x (2 ^ 499) 1 → Sized (asinhOf x) 11939 16
+pub asinh-finite : {x : Float} → Sized x (2 ^ 499) 1 → Sized (asinhOf x) 11939 16
 unfolding asinhOf
-asinh-finite x h = go (negative x)
+asinh-finite {x} h = go (negative x)
   where
     r : Sized (asinhAt (absOf x)) 11939 16
     r = at-sized (absOf x) (abs-most x (2 ^ 499) 1 h)

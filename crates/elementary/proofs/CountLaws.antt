@@ -2,7 +2,7 @@
 use mathlib.Core.Path.{_≡_, refl, sym, ap, _∙_, subst}
 use mathlib.Core.Bool.{Bool, true, false, _&&_, cond, true≢false, false≢true}
 use Prim.Native.Nat.{ℕ, zero, suc, _+_, _-_, _*_, _/_, _%_, _^_, _≤_, _<_, min}
-use native.Mathlib.Nat.{le-refl, le-of-eq, le-of-lt, lt-of-le-of-lt, zero-add, mul-le-mul-right, mul-lt-mul-of-pos-right, mul-one, mul-right-comm, add-mul, zero-mul, div-one, div-eq-of-lt, div-le-self, div-mul-le-self, div-eq-of-lt-le, le-div-iff-mul-le, div-lt-iff-lt-mul}
+use native.Mathlib.Nat.{le-refl, le-trans, le-of-eq, le-of-lt, lt-of-le-of-lt, zero-add, mul-le-mul-right, mul-lt-mul-of-pos-right, mul-one, mul-right-comm, add-mul, zero-mul, div-one, div-eq-of-lt, div-le-self, div-mul-le-self, div-eq-of-lt-le, le-div-iff-mul-le, div-lt-iff-lt-mul}
 use native.Mathlib.Omega.{arith}
 use lib.IntN.{ℤ, pos, negsuc}
 use lib.Dec.{T, ltb, leb, eqb, ltb→lt, lt→ltb, lit<}
@@ -12,19 +12,22 @@ use lib.Ieee.Back.{round-whole}
 use lib.Ieee.Exact.{HasValue}
 use lib.Ieee.Fits.{down-pos, and-l, and-r}
 use borrow.Author.Tests.{ltb-true, ltb-false, lt-ltb, le-ltb}
+use lib.Ieee.Positive.{num, den, den-pos, positive}
+use Rattle.square_root.proofs.Monotone.{positive-num}
 use Rattle.binary64.specs.Operators.{f64}
 use Rattle.binary64.specs.Order.{le→below, not→lt}
 use Rattle.binary64.specs.Held.{own-round}
 use Rattle.elementary.specs.Count.{ceilDiv, ceilOf}
+use Rattle.elementary.proofs.Format.{held}
+
+after : (n : ℕ) → n < n + 1
+after n = omega arith
 
 -- ---- `ceilDiv a d` is the least n with a ≤ n * d
 pub ceil-reaches : (a d : ℕ) → 0 < d → a ≤ ceilDiv a d * d
 ceil-reaches a d p =
-    let l : a + (d - 1) < (ceilDiv a d + 1) * d = div-lt-iff-lt-mul p .0 (next (ceilDiv a d)) in
+    let l : a + (d - 1) < (ceilDiv a d + 1) * d = div-lt-iff-lt-mul p .0 (after (ceilDiv a d)) in
     omega (arith, add-mul (ceilDiv a d) 1 d)
-  where
-    next : (n : ℕ) → n < n + 1
-    next n = omega arith
 
 pub ceil-least : (a d n : ℕ) → 0 < d → a ≤ n * d → ceilDiv a d ≤ n
 ceil-least a d n p h =
@@ -39,11 +42,8 @@ ceil-at a d p h =
 
 ceil-next : (a d : ℕ) → 0 < d → a / d * d < a → a / d + 1 ≡ ceilDiv a d
 ceil-next a d p h =
-    let u : a < (a / d + 1) * d = div-lt-iff-lt-mul p .0 (next (a / d)) in
+    let u : a < (a / d + 1) * d = div-lt-iff-lt-mul p .0 (after (a / d)) in
     sym (div-eq-of-lt-le d (omega (arith, add-mul (a / d) 1 d)) (omega (arith, add-mul (a / d) 1 d, add-mul (a / d + 1) 1 d)))
-  where
-    next : (n : ℕ) → n < n + 1
-    next n = omega arith
 
 -- ---- what is not above zero, and what is too large
 pub ceil-zero : (q : Float) → lt (f64 0) q ≡ false → 0 ≡ ceilOf q
@@ -140,7 +140,7 @@ part-counted m j l =
     })
 
 pub counted : (q : Float) → T (fits binary64 q) → lt (f64 0) q ≡ true → le (f64 0x43f0_0000_0000_0000) q ≡ false → CountedBy q (toUnsigned 64 q)
-unfolding lt le ofBits fits
+unfolding lt le ofBits
 counted nan f h k = absurd (false≢true h)
 counted (inf true) f h k = absurd (false≢true h)
 counted (inf false) f h k = absurd (true≢false k)
@@ -150,8 +150,29 @@ counted (fin false m (pos j)) f h k = whole-counted m j f (below m j (ltb→lt (
     below : (m j : ℕ) → m * 2 ^ j * 1 < 1 * 2 ^ 64 * 1 → m * 2 ^ j < 2 ^ 64
     below m j h = omega arith
 counted (fin false zero (negsuc j)) f h k = part-counted 0 j (lit< tt)
-counted (fin false (suc m) (negsuc j)) f h k =
-    let a = eqb (suc m % 2) 1 in
-    let b = ltb (suc m) (2 ^ 53) in
-    let c = leb (2 ^ suc j) (2 ^ 1074) in
-    part-counted (suc m) j (ltb→lt (suc m) (2 ^ 53) (and-r a b (and-l (a && b) c (and-l (a && b && c) (ltb (suc m * 1) (2 ^ 1024 * 2 ^ suc j)) f))))
+counted (fin false (suc m) (negsuc j)) f h k = part-counted (suc m) j (held false m (negsuc j) f .digits)
+
+-- ---- the count as a caller needs it: q is not above it, it is the least such, and above zero it is 1 at least
+module _ (q : Float) (p : T (positive q)) where
+  number : ceilOf q ≡ min (ceilDiv (num q) (den q)) (2 ^ 64 - 1)
+  unfolding ceilOf
+  number = go q p
+    where
+      go : (q : Float) → T (positive q) → ceilOf q ≡ min (ceilDiv (num q) (den q)) (2 ^ 64 - 1)
+      go nan p = absurd p
+      go (inf s) p = absurd p
+      go (fin true m e) p = absurd p
+      go (fin false m e) p = refl
+
+  pub count-reaches : ceilOf q < 2 ^ 64 - 1 → num q ≤ ceilOf q * den q
+  count-reaches h =
+      let e : ceilOf q ≡ ceilDiv (num q) (den q) = omega (arith, number) in
+      le-trans (ceil-reaches (num q) (den q) (den-pos q)) (le-of-eq (ap (λ (n : ℕ). n * den q) (sym e)))
+
+  pub count-least : (n : ℕ) → num q ≤ n * den q → ceilOf q ≤ n
+  count-least n h = let l = ceil-least (num q) (den q) n (den-pos q) h in omega (arith, number)
+
+  pub count-positive : 1 ≤ ceilOf q
+  count-positive =
+      let l : 1 ≤ ceilDiv (num q) (den q) = le-div-iff-mul-le (den-pos q) .1 (omega (arith, positive-num q p, den-pos q)) in
+      omega (arith, number)

@@ -6,7 +6,7 @@ use native.Mathlib.Nat.{lt-irrefl}
 use native.Mathlib.Omega.{arith}
 use lib.Ieee.{Float, inf, neg, lt}
 use Rattle.binary64.specs.Operators.{_⊕_, _⊗_, _⊘_, f64, count}
-use Rattle.elementary.specs.Exp.{one, series, squarings, powered, expOf}
+use Rattle.elementary.specs.Exp.{one, series, squarings, powered, expOf, highest, lowest, scale}
 
 pub series-end : (k : ℕ) (y a : Float) → k ≡ 0 → series k y a ≡ a
 unfolding series
@@ -27,19 +27,19 @@ squarings-step zero a h = absurd (lt-irrefl 0 h)
 squarings-step (suc n) a h = let e : suc n - 1 ≡ n = omega arith in ap (λ (j : ℕ). squarings j (a ⊗ a)) e
 
 -- ---- the three branches
-exp-is : (t : Float) (a b : Bool) → lt (f64 0x4086_2800_0000_0000) t ≡ a → lt t (neg (f64 0x4086_2000_0000_0000)) ≡ b → expOf t ≡ cond a (inf false) (cond b (f64 0) (powered t))
+exp-is : (t : Float) (a b : Bool) → lt highest t ≡ a → lt t lowest ≡ b → expOf t ≡ cond a (inf false) (cond b (f64 0) (powered t))
 unfolding expOf
-exp-is t a b h k = ap (λ (z : Bool). cond z (inf false) (cond (lt t (neg (f64 0x4086_2000_0000_0000))) (f64 0) (powered t))) h ∙ ap (λ (z : Bool). cond a (inf false) (cond z (f64 0) (powered t))) k
+exp-is t a b h k = ap (λ (z : Bool). cond z (inf false) (cond (lt t lowest) (f64 0) (powered t))) h ∙ ap (λ (z : Bool). cond a (inf false) (cond z (f64 0) (powered t))) k
 
-pub exp-high : (t : Float) → lt (f64 0x4086_2800_0000_0000) t ≡ true → expOf t ≡ inf false
-exp-high t h = exp-is t true (lt t (neg (f64 0x4086_2000_0000_0000))) h refl
+pub exp-high : (t : Float) → lt highest t ≡ true → expOf t ≡ inf false
+exp-high t h = exp-is t true (lt t lowest) h refl
 
-pub exp-low : (t : Float) → lt (f64 0x4086_2800_0000_0000) t ≡ false → lt t (neg (f64 0x4086_2000_0000_0000)) ≡ true → expOf t ≡ f64 0
+pub exp-low : (t : Float) → lt highest t ≡ false → lt t lowest ≡ true → expOf t ≡ f64 0
 exp-low t h k = exp-is t false true h k
 
-pub exp-mid : (t : Float) → lt (f64 0x4086_2800_0000_0000) t ≡ false → lt t (neg (f64 0x4086_2000_0000_0000)) ≡ false → expOf t ≡ powered t
+pub exp-mid : (t : Float) → lt highest t ≡ false → lt t lowest ≡ false → expOf t ≡ powered t
 exp-mid t h k = exp-is t false false h k
 
-pub powered-is : (t : Float) → squarings 10 (series 18 (t ⊘ f64 0x4090_0000_0000_0000) one) ≡ powered t
+pub powered-is : (t : Float) → squarings 10 (series 18 (t ⊘ scale) one) ≡ powered t
 unfolding powered
 powered-is t = refl

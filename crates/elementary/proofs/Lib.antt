@@ -1,3 +1,4 @@
+pub mod Format
 pub mod ExpLaws
 pub mod LnLaws
 pub mod LnSplits
@@ -5,7 +6,12 @@ pub mod SignLaws
 pub mod CountLaws
 pub mod BenchCells
 pub mod Literals
+pub mod Constants
 pub mod ExpRange
 pub mod LnRange
 pub mod PowRange
 pub mod AsinhRange
+pub mod ArrheniusRange
+pub mod Specials
+pub mod ChoiceLaws
+pub mod ExpTotal

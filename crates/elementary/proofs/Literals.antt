@@ -2,27 +2,31 @@
 use mathlib.Core.Path.{_≡_, refl}
 use mathlib.Core.Bool.{false}
 use Prim.Native.Nat.{ℕ, _^_}
-use lib.Ieee.{Float, binary64, round, size, ofBits}
+use lib.Ieee.{Float, binary64, neg, round, size, ofBits}
 use Rattle.binary64.specs.Operators.{f64}
+use Rattle.elementary.specs.Exp.{one, highest, lowest, scale}
+use Rattle.elementary.specs.Ln.{two, threeHalves, twentyThree, ln2}
+use Rattle.elementary.specs.Arrhenius.{gasConstant}
 
 -- a / 10 ^ k
 abbrev pub decimal : ℕ → ℕ → Float
 decimal a k = round binary64 false a (10 ^ k)
 
 pub record Literals : Type 0 where
-  pub zero : f64 0 ≡ decimal 0 0
-  pub one : f64 0x3ff0_0000_0000_0000 ≡ decimal 1 0
-  pub one-and-a-half : f64 0x3ff8_0000_0000_0000 ≡ decimal 15 1
-  pub two : f64 0x4000_0000_0000_0000 ≡ decimal 2 0
-  pub twenty-three : f64 0x4037_0000_0000_0000 ≡ decimal 23 0
-  pub limit-709 : f64 0x4086_2800_0000_0000 ≡ decimal 709 0
-  pub limit-708 : f64 0x4086_2000_0000_0000 ≡ decimal 708 0
-  pub scale-1024 : f64 0x4090_0000_0000_0000 ≡ decimal 1024 0
+  pub one-is : one ≡ decimal 1 0
+  pub two-is : two ≡ decimal 2 0
+  pub threeHalves-is : threeHalves ≡ decimal 15 1
+  pub twentyThree-is : twentyThree ≡ decimal 23 0
+  pub highest-is : highest ≡ decimal 709 0
+  pub lowest-is : lowest ≡ neg (decimal 708 0)
+  pub scale-is : scale ≡ decimal 1024 0
   -- the natural logarithm of 2
-  pub c : f64 0x3FE6_2E42_FEFA_39EF ≡ decimal 69314718055994530941723212145818 32
-  -- 2 ^ 64, from which a count is too large
+  pub ln2-is : ln2 ≡ decimal 69314718055994530941723212145818 32
+  pub gasConstant-is : gasConstant ≡ decimal 8314 3
+  -- of the laws and the program: 298.15, and 2 ^ 64, from which a count is too large
+  pub reference : f64 0x4072_a266_6666_6666 ≡ decimal 29815 2
   pub count-limit : f64 0x43f0_0000_0000_0000 ≡ decimal 18446744073709551616 0
 
 pub literals : Literals
-unfolding round size ofBits
-literals = record { zero = refl; one = refl; one-and-a-half = refl; two = refl; twenty-three = refl; limit-709 = refl; limit-708 = refl; scale-1024 = refl; c = refl; count-limit = refl }
+unfolding neg round size ofBits
+literals = record { one-is = refl; two-is = refl; threeHalves-is = refl; twentyThree-is = refl; highest-is = refl; lowest-is = refl; scale-is = refl; ln2-is = refl; gasConstant-is = refl; reference = refl; count-limit = refl }

@@ -1,11 +1,11 @@
 -- L(x) of an x that is finite and above zero is finite: bounds on its size, by the exponent of x. Assumes nothing.
 use mathlib.Core.Path.{_≡_, refl, sym, ap, _∙_, subst}
 use mathlib.Core.Bool.{Bool, true, false, not, _&&_, cond, true≢false}
-use Prim.Native.Nat.{ℕ, zero, suc, _+_, _-_, _*_, _%_, _^_, _≤_, _<_}
+use Prim.Native.Nat.{ℕ, zero, suc, _+_, _-_, _*_, _%_, _^_, _≤_, _<_, zero-le}
 use native.Mathlib.Nat.{le-trans, le-of-eq, le-of-lt, lt-of-lt-of-le, lt-of-le-of-lt, lt-of-not-le, lt-irrefl, le-of-suc-le-suc, le-suc, mul-comm, mul-right-comm, mul-assoc, mul-one, one-mul, mul-pos, mul-le-mul, mul-le-mul-left, mul-le-mul-right, mul-lt-mul-of-pos-right, le-of-mul-le-mul-right, lt-of-mul-lt-mul-right, pow-succ', zero-lt-suc}
 use native.Mathlib.Decide.{decLe}
 use native.Mathlib.Omega.{arith}
-use lib.IntN.{ℤ, pos, negsuc}
+use lib.IntN.{ℤ, pos, negsuc, natAbs}
 use lib.Arith.{lt→nleb}
 use lib.Dec.{T, le→leb, ltb, leb, eqb, ltb→lt, leb→le, lit≤, lit<}
 use lib.Pow.{pow-pos, pow-add, pow-mono}
@@ -18,48 +18,13 @@ use lib.Ieee.Positive.{num, den, den-pos, positive}
 use Rattle.binary64.specs.Operators.{_⊕_, _⊖_, _⊗_, _⊘_, f64, count, negative}
 use Rattle.binary64.specs.Order.{not→lt}
 use Rattle.binary64.specs.Range.{exact, Most, Least, Between, Within, Sized, sized, most-wider, least-wider, least-of-le, round-most}
-use Rattle.binary64.specs.RangeOps.{mul-most, div-most, div-between, div-count, add-most, add-alike, literal, least-zero}
+use Rattle.binary64.specs.RangeOps.{mul-most, div-most, div-between, div-count, add-most, add-alike, sub-alike, least-zero}
+use Rattle.binary64.specs.RangeTests.{int-between, within-positive}
 use Rattle.elementary.specs.Exp.{one}
-use Rattle.elementary.specs.Ln.{two, ln2, terms, lnParts, raise, lnSplit, mant, expo, lnOf}
+use Rattle.elementary.specs.Ln.{two, ln2, terms, lnParts, raise, lnSplit, mant, expo, lnOf, threeHalves, twentyThree}
+use Rattle.elementary.proofs.Format.{held, lead-le, lead-lt, minus-up, minus-down}
 use Rattle.elementary.proofs.LnLaws.{parts-is}
-
--- ---- literals
-unit : Within one 1 1 1 1
-unfolding ofBits
-unit = literal one 1 1 1 1 tt tt tt tt tt
-
-pair : Within two 2 1 2 1
-unfolding ofBits
-pair = literal two 2 1 2 1 tt tt tt tt tt
-
-twenty-three : Within (f64 0x4037_0000_0000_0000) 23 1 23 1
-unfolding ofBits
-twenty-three = literal (f64 0x4037_0000_0000_0000) 23 1 23 1 tt tt tt tt tt
-
-ln2-most : Most ln2 false 1420 2048
-unfolding ofBits
-ln2-most = literal ln2 1420 2048 0 1 tt tt tt tt tt .0
-
--- ---- m - 1 and m + 1, for m from 3/4 to 3/2
-minus-one : (m : Float) → Within m 3 2 3 4 → Sized (m ⊖ one) 1 2
-unfolding sub add sum neg ofBits
-minus-one nan w = absurd (w .0 .fine)
-minus-one (inf _) w = absurd (w .0 .fine)
-minus-one (fin true n e) w = absurd (true≢false (w .0 .sign))
-minus-one (fin false n e) w = go (ltb (n * up e * 1) (1 * 1 * down e))
-  where
-    over : 0 < down e * 1
-    over = omega (arith, down-pos e)
-
-    lo : (1 * 1 * down e - n * up e * 1) * 2 ≤ 1 * (down e * 1)
-    lo = omega (arith, w .1 .least)
-
-    hi : (n * up e * 1 - 1 * 1 * down e) * 2 ≤ 1 * (down e * 1)
-    hi = omega (arith, w .0 .most)
-
-    go : (v : Bool) → Sized (cond v (round binary64 true (1 * 1 * down e - n * up e * 1) (down e * 1)) (round binary64 false (n * up e * 1 - 1 * 1 * down e) (down e * 1))) 1 2
-    go true = sized (round-most true (1 * 1 * down e - n * up e * 1) (down e * 1) over 1 2 tt lo)
-    go false = sized (round-most false (n * up e * 1 - 1 * 1 * down e) (down e * 1) over 1 2 tt hi)
+use Rattle.elementary.proofs.Constants.{at-1, at-2, at-23, ln2-most}
 
 -- ---- the terms: a from 0 to 37/32, q from 0 to 1/8
 terms-most : (j : ℕ) (q a : Float) → j ≤ 2 ^ 50 → Most q false 1 8 → Most a false 37 32 → Most (terms j q a) false 37 32
@@ -67,7 +32,7 @@ unfolding terms
 terms-most zero q a h b w = w
 terms-most (suc j) q a h b w =
     terms-most j q ((one ⊘ count (2 * j + 1)) ⊕ (q ⊗ a)) (le-trans (le-suc j) h) b
-    (add-alike (div-count (unit .0) (2 * j + 1) 1 1 1 (omega arith) (omega arith) tt tt tt, least-zero) (mul-most b w 37 256 tt tt, least-zero) 37 32 0 1 tt tt tt tt .0)
+    (add-alike (div-count (at-1 .0) (2 * j + 1) 1 1 1 (omega arith) (omega arith) tt tt tt, least-zero) (mul-most b w 37 256 tt tt, least-zero) 37 32 0 1 tt tt tt tt .0)
 
 square-sign : (s : Bool) → unlike s s ≡ false
 square-sign true = refl
@@ -79,31 +44,15 @@ parts-sized J G ex same ey bound m k sk w kb =
     let s = (m ⊖ one) ⊘ (m ⊕ one) in
     let q = s ⊗ s in
     let σ = unlike (negative (m ⊖ one)) false in
-    let a = terms 11 q (one ⊘ f64 0x4037_0000_0000_0000) in
-    let sm : Most s σ 5 16 = div-most (minus-one m w) (add-alike w unit 5 2 7 4 tt tt tt tt) 5 16 tt tt tt in
+    let a = terms 11 q (one ⊘ twentyThree) in
+    let sm : Most s σ 5 16 = div-most (sub-alike w at-1 1 2 tt tt tt) (add-alike w at-1 5 2 7 4 tt tt tt tt) 5 16 tt tt tt in
     let qm : Most q false 1 8 = subst (λ (z : Bool). Most q z 1 8) (square-sign σ) (mul-most sm sm 1 8 tt tt) in
-    let am : Most a false 37 32 = terms-most 11 q (one ⊘ f64 0x4037_0000_0000_0000) (lit≤ tt) qm (most-wider (div-most (unit .0) twenty-three 1 16 tt tt tt) 37 32 tt tt) in
+    let am : Most a false 37 32 = terms-most 11 q (one ⊘ twentyThree) (lit≤ tt) qm (most-wider (div-most (at-1 .0) at-23 1 16 tt tt tt) 37 32 tt tt) in
     let km : Most (k ⊗ ln2) (unlike sk false) (J * 1420) 2048 = mul-most kb ln2-most (J * 1420) 2048 ex same in
-    let pm : Most ((two ⊗ s) ⊗ a) (unlike (unlike false σ) false) 3 4 = mul-most (mul-most (pair .0) sm 5 8 tt tt) am 3 4 tt tt in
+    let pm : Most ((two ⊗ s) ⊗ a) (unlike (unlike false σ) false) 3 4 = mul-most (mul-most (at-2 .0) sm 5 8 tt tt) am 3 4 tt tt in
     subst (λ (z : Float). Sized z G 16) (parts-is m k s refl) (add-most km pm G 16 ey bound)
 
 -- ---- the significand is from 1 to 2: as it is below 3/2, from there on halved
-size-pos : (n : ℕ) → 0 < n → 0 < size n
-size-pos n np = lt-of-not-le (λ (g : size n ≤ 0). lt-irrefl 0 (lt-of-lt-of-le np (le-of-suc-le-suc (lt-of-lt-of-le (size-lt n) (pow-mono g)))))
-
--- 2 ^ (size n - 1) ≤ n < 2 * 2 ^ (size n - 1)
-lead-le : (n : ℕ) → 0 < n → 2 ^ (size n - 1) ≤ n
-lead-le n np = size-reaches n (size n - 1) (before (size n) (size-pos n np))
-  where
-    before : (z : ℕ) → 0 < z → z - 1 < z
-    before z h = omega arith
-
-lead-lt : (n : ℕ) → 0 < n → n < 2 * 2 ^ (size n - 1)
-lead-lt n np = lt-of-lt-of-le (size-lt n) (le-of-eq (ap (λ (z : ℕ). 2 ^ z) (sym (suc-pred (size n) (size-pos n np))) ∙ pow-succ' 2 (size n - 1)))
-  where
-    suc-pred : (z : ℕ) → 0 < z → suc (z - 1) ≡ z
-    suc-pred z h = omega arith
-
 mant-within : (n : ℕ) → 0 < n → Within (mant n) 2 1 1 1
 mant-within n np =
     let j = size n - 1 in
@@ -117,7 +66,7 @@ mant-within n np =
     let t : x ≤ 2 * d = le-of-mul-le-mul-right hi (pow-pos j) in
     (record { over = lit< tt; fine = tt; sign = refl; most = omega arith }, record { over = lit< tt; least = omega arith })
 
-small-within : (m : Float) → le (f64 0x3ff8_0000_0000_0000) m ≡ false → Within m 2 1 1 1 → Within m 3 2 3 4
+small-within : (m : Float) → le threeHalves m ≡ false → Within m 2 1 1 1 → Within m 3 2 3 4
 unfolding lt ofBits
 small-within nan h w = absurd (w .0 .fine)
 small-within (inf _) h w = absurd (w .0 .fine)
@@ -126,11 +75,11 @@ small-within (fin false n e) h w =
     let l : n * up e * 2 ^ 1 < 3 * 1 * down e = ltb→lt (n * up e * 2 ^ 1) (3 * 1 * down e) (not→lt (fin false n e) (fin false 3 (negsuc 0)) tt tt (λ u. subst T h u)) in
     (record { over = lit< tt; fine = tt; sign = refl; most = omega arith }, least-wider (w .1) 3 4 tt tt)
 
-large-within : (m : Float) → le (f64 0x3ff8_0000_0000_0000) m ≡ true → Within m 2 1 1 1 → Within (m ⊘ two) 3 2 3 4
+large-within : (m : Float) → le threeHalves m ≡ true → Within m 2 1 1 1 → Within (m ⊘ two) 3 2 3 4
 unfolding ofBits
 large-within m h w =
-    let l : Least m 3 2 = least-of-le (f64 0x3ff8_0000_0000_0000) m 3 2 (w .0 .sign) (w .0 .fine) (lit< tt) (refl, refl) (subst T (sym h) tt) in
-    div-between (w .0, l) pair 3 2 3 4 tt tt tt tt tt
+    let l : Least m 3 2 = least-of-le threeHalves m 3 2 (w .0 .sign) (w .0 .fine) (lit< tt) (refl, refl) (subst T (sym h) tt) in
+    div-between (w .0, l) at-2 3 2 3 4 tt tt tt tt tt
 
 -- ---- the exponent k of x, where 2 ^ -j ≤ x < 2 ^ (i + 1)
 abbrev From : ℕ → ℕ → ℤ → Type 0
@@ -142,13 +91,9 @@ pow-lt-back i p h = lt-of-not-le (λ (g : p ≤ i). lt-irrefl (2 ^ i) (lt-of-lt-
 
 minus-from : (a b i j : ℕ) → a < suc i + b → b ≤ a + j → From j i (minus a b)
 minus-from a b i j h k = elim (decLe b a) [
-  | yes l ↦ subst (From j i) (sym (cond-yes (leb b a) (le→leb b a l))) (omega arith)
-  | no n ↦ let l : a < b = lt-of-not-le n in subst (From j i) (sym (cond-no (leb b a) (pos (a - b)) (negsuc (b - suc a)) (lt→nleb b a l))) (omega arith)
+  | yes l ↦ subst (From j i) (sym (minus-up a b l)) (omega arith)
+  | no n ↦ let l : a < b = lt-of-not-le n in subst (From j i) (sym (minus-down a b l)) (omega arith)
 ]
-  where
-    cond-yes : (t : Bool) → T t → cond t (pos (a - b)) (negsuc (b - suc a)) ≡ pos (a - b)
-    cond-yes true u = refl
-    cond-yes false u = absurd u
 
 expo-from : (n : ℕ) (e : ℤ) (i j : ℕ) → 0 < n → n * up e < 2 ^ suc i * down e → down e ≤ n * up e * 2 ^ j → From j i (expo n e)
 expo-from n (pos a) i j p h k =
@@ -168,14 +113,16 @@ raise-from j i (pos k) h = omega arith
 raise-from j i (negsuc zero) h = omega arith
 raise-from j i (negsuc (suc k)) h = omega arith
 
-int-most : (J j i : ℕ) (k : ℤ) → T (exact J 1) → j ≤ J → i ≤ J → From j i k → Sized (ofInt binary64 k) J 1
-unfolding ofInt
-int-most J j i (pos k) ex l m h = sized (round-most false k 1 (lit< tt) J 1 ex (mul-le-mul-right 1 (le-trans h m)))
-int-most J j i (negsuc k) ex l m h = sized (round-most true (suc k) 1 (lit< tt) J 1 ex (mul-le-mul-right 1 (le-trans h l)))
+int-most : (J j i : ℕ) (k : ℤ) → J ≤ 2 ^ 53 → j ≤ J → i ≤ J → From j i k → Sized (ofInt binary64 k) J 1
+int-most J j i k b l m h = sized (int-between k J 0 (at-most k h) zero-le (le-trans (at-most k h) b) .0)
+  where
+    at-most : (k : ℤ) → From j i k → natAbs k ≤ J
+    at-most (pos k) h = le-trans h m
+    at-most (negsuc k) h = le-trans h l
 
 -- ---- the whole
 record Logarithm (J G j i : ℕ) : Type 0 where
-  exponents : T (exact J 1)
+  exponents : J ≤ 2 ^ 53
   products : T (exact (J * 1420) 2048)
   same : T (leb (J * 1420 * 2048) (J * 1420 * (1 * 2048)))
   results : T (exact G 16)
@@ -186,7 +133,7 @@ record Logarithm (J G j i : ℕ) : Type 0 where
 module _ (J G j i : ℕ) (g : Logarithm J G j i) where
   split-sized : (m : Float) (k : ℤ) → Within m 2 1 1 1 → From j i k → Sized (lnSplit m k) G 16
   unfolding lnSplit
-  split-sized m k w h = go (le (f64 0x3ff8_0000_0000_0000) m) refl
+  split-sized m k w h = go (le threeHalves m) refl
     where
       parts : (m : Float) (k : ℤ) → Within m 3 2 3 4 → From j (suc i) k → Sized (lnParts m (ofInt binary64 k)) G 16
       parts m k w h = parts-sized J G (g .products) (g .same) (g .results) (g .bound) m (ofInt binary64 k) (negative (ofInt binary64 k)) w (int-most J j (suc i) k (g .exponents) (g .low) (g .high) h)
@@ -195,7 +142,7 @@ module _ (J G j i : ℕ) (g : Logarithm J G j i) where
       wider (pos k) h = omega arith
       wider (negsuc k) h = h
 
-      go : (b : Bool) → le (f64 0x3ff8_0000_0000_0000) m ≡ b → Sized (cond b (lnParts (m ⊘ two) (ofInt binary64 (raise k))) (lnParts m (ofInt binary64 k))) G 16
+      go : (b : Bool) → le threeHalves m ≡ b → Sized (cond b (lnParts (m ⊘ two) (ofInt binary64 (raise k))) (lnParts m (ofInt binary64 k))) G 16
       go true e = parts (m ⊘ two) (raise k) (large-within m e w) (raise-from j i k h)
       go false e = parts m k (small-within m e w) (wider k h)
 
@@ -209,24 +156,19 @@ module _ (J G j i : ℕ) (g : Logarithm J G j i) where
 
 -- ---- every x that is finite and above zero: at most 746.2
 fits-range : (x : Float) → T (fits binary64 x) → T (positive x) → (num x < 2 ^ 1024 * den x) × (den x ≤ num x * 2 ^ 1074)
-unfolding fits
 fits-range nan f p = absurd p
 fits-range (inf _) f p = absurd p
 fits-range (fin true m e) f p = absurd p
 fits-range (fin false zero e) f p = absurd p
 fits-range (fin false (suc m) e) f p =
-    let a = eqb (suc m % 2) 1 && ltb (suc m) (2 ^ 53) in
-    let c = leb (down e) (2 ^ 1074) in
-    let d = ltb (suc m * up e) (2 ^ 1024 * down e) in (
-      ltb→lt (suc m * up e) (2 ^ 1024 * down e) (and-r (a && c) d f),
-      le-trans (leb→le (down e) (2 ^ 1074) (and-r a c (and-l (a && c) d f))) (le-trans (le-of-eq (sym (one-mul (2 ^ 1074)))) (mul-le-mul-right (2 ^ 1074) (mul-pos (zero-lt-suc m) (up-pos e)))),
-    )
+    let h = held false m e f in
+    (h .most, le-trans (h .least) (le-trans (le-of-eq (sym (one-mul (2 ^ 1074)))) (mul-le-mul-right (2 ^ 1074) (mul-pos (zero-lt-suc m) (up-pos e)))))
 
 pub ln-finite : (x : Float) → T (fits binary64 x) → T (positive x) → Sized (lnOf x) 11939 16
 ln-finite x f p =
     let r = fits-range x f p in
-    ln-sized 1075 11939 1074 1023 (record { exponents = tt; products = tt; same = tt; results = tt; bound = tt; low = lit≤ tt; high = lit≤ tt }) x p (r .0) (r .1)
+    ln-sized 1075 11939 1074 1023 (record { exponents = lit≤ tt; products = tt; same = tt; results = tt; bound = tt; low = lit≤ tt; high = lit≤ tt }) x p (r .0) (r .1)
 
 -- ---- x from 1/128 to 1: at most 5.625
-pub ln-part : (x : Float) → T (positive x) → Within x 1 1 1 128 → Sized (lnOf x) 90 16
-ln-part x p w = ln-sized 7 90 7 0 (record { exponents = tt; products = tt; same = tt; results = tt; bound = tt; low = lit≤ tt; high = lit≤ tt }) x p (omega (arith, w .0 .most, den-pos x)) (omega (arith, w .1 .least))
+pub ln-part : {x : Float} → Within x 1 1 1 128 → Sized (lnOf x) 90 16
+ln-part {x} w = ln-sized 7 90 7 0 (record { exponents = lit≤ tt; products = tt; same = tt; results = tt; bound = tt; low = lit≤ tt; high = lit≤ tt }) x (within-positive w tt) (omega (arith, w .0 .most, den-pos x)) (omega (arith, w .1 .least))

@@ -17,6 +17,7 @@ use Rattle.square_root.specs.Parts.{Normal}
 use Rattle.square_root.specs.Standard.{belowZero}
 use Rattle.square_root.proofs.Patterns.{low-bits}
 use Rattle.elementary.specs.Ln.{mant, expo, lnSplit, lnOf}
+use Rattle.elementary.proofs.Format.{held, size-pos, lead-le, minus-up}
 use Rattle.elementary.proofs.LnLaws.{minus-same}
 
 -- ---- an odd number with i zeros after it is written as itself (private in the logic's `Lib/Ieee/Bits.antt`)
@@ -43,17 +44,6 @@ odd-shift d s m i k l o h =
   where
     odd-is-pos : (m : ℕ) → m % 2 ≡ 1 → 0 < m
     odd-is-pos m o = omega arith
-
--- ---- of a value that fits: its number is odd, and has at most 53 digits
-fits-says : (s : Bool) (m : ℕ) (e : ℤ) → T (fits binary64 (fin s (suc m) e)) → (suc m % 2 ≡ 1) × (suc m < 2 ^ 53)
-unfolding fits
-fits-says s m e t =
-    let a = eqb (suc m % 2) 1 in
-    let b = ltb (suc m) (2 ^ 53) in
-    let c = leb (down e) (2 ^ 1074) in
-    let d = ltb (suc m * up e) (2 ^ 1024 * down e) in
-    let ab : T (a && b) = and-l (a && b) c (and-l (a && b && c) d t) in
-    (eqb→eq (suc m % 2) 1 (and-l a b ab), ltb→lt (suc m) (2 ^ 53) (and-r a b ab))
 
 -- ---- a number of 53 digits before a power of two is determined
 differ : (p q u v : ℕ) → p < 2 ^ 53 → 2 ^ 52 ≤ q → p * 2 ^ u ≡ q * 2 ^ v → u < v → ⊥
@@ -83,35 +73,28 @@ module _ (n : ℕ) (np : 0 < n) (nb : n < 2 ^ 53) where
       low-one : (z : ℕ) → z ≤ 53 → z - 1 ≤ 52
       low-one z h = omega arith
 
-  size-pos : 0 < size n
-  size-pos = lt-of-not-le (λ (g : size n ≤ 0). lt-irrefl 0 (lt-of-lt-of-le np (le-of-suc-le-suc (lt-of-lt-of-le (size-lt n) (pow-mono g)))))
-
   full-ge : 2 ^ 52 ≤ n * 2 ^ (52 - (size n - 1))
   full-ge =
       le-trans (le-of-eq (ap (λ (x : ℕ). 2 ^ x) (whole (size n - 1) j-le) ∙ pow-add 2 (size n - 1) (52 - (size n - 1))))
-      (mul-le-mul-right (2 ^ (52 - (size n - 1))) (size-reaches n (size n - 1) (before (size n) size-pos)))
+      (mul-le-mul-right (2 ^ (52 - (size n - 1))) (lead-le n np))
     where
       whole : (j : ℕ) → j ≤ 52 → 52 ≡ j + (52 - j)
       whole j h = omega arith
 
-      before : (z : ℕ) → 0 < z → z - 1 < z
-      before z h = omega arith
-
   full-lt : n * 2 ^ (52 - (size n - 1)) < 2 ^ 53
   full-lt =
       lt-of-lt-of-le (mul-lt-mul-of-pos-right (size-lt n) (pow-pos (52 - (size n - 1))))
-      (le-of-eq (sym (pow-add 2 (size n) (52 - (size n - 1))) ∙ ap (λ (x : ℕ). 2 ^ x) (whole (size n) size-pos j-le)))
+      (le-of-eq (sym (pow-add 2 (size n) (52 - (size n - 1))) ∙ ap (λ (x : ℕ). 2 ^ x) (whole (size n) (size-pos n np) j-le)))
     where
       whole : (z : ℕ) → 0 < z → z - 1 ≤ 52 → z + (52 - (z - 1)) ≡ 53
       whole z p h = omega arith
 
--- ---- the two parts, from an equation of numbers: n * 2 ^ u = c * 2 ^ v
-module _ (n c u v : ℕ) (np : 0 < n) (nb : n < 2 ^ 53) (ca : 2 ^ 52 ≤ c) (cb : c < 2 ^ 53) (e : n * 2 ^ u ≡ c * 2 ^ v) where
-  both : (n * 2 ^ (52 - (size n - 1)) ≡ c) × (u ≡ v + (52 - (size n - 1)))
-  both =
-      let i = 52 - (size n - 1) in
-      unique (n * 2 ^ i) c u (v + i) (full-ge n np nb) (full-lt n np nb) ca cb
-      (mul-right-comm n (2 ^ i) (2 ^ u) ∙ ap (λ (x : ℕ). x * 2 ^ i) e ∙ mul-assoc c (2 ^ v) (2 ^ i) ∙ ap (λ (x : ℕ). c * x) (sym (pow-add 2 v i)))
+-- ---- the two parts, from an equation of numbers
+both : (n c u v : ℕ) → 0 < n → n < 2 ^ 53 → 2 ^ 52 ≤ c → c < 2 ^ 53 → n * 2 ^ u ≡ c * 2 ^ v → (n * 2 ^ (52 - (size n - 1)) ≡ c) × (u ≡ v + (52 - (size n - 1)))
+both n c u v np nb ca cb e =
+    let i = 52 - (size n - 1) in
+    unique (n * 2 ^ i) c u (v + i) (full-ge n np nb) (full-lt n np nb) ca cb
+    (mul-right-comm n (2 ^ i) (2 ^ u) ∙ ap (λ (x : ℕ). x * 2 ^ i) e ∙ mul-assoc c (2 ^ v) (2 ^ i) ∙ ap (λ (x : ℕ). c * x) (sym (pow-add 2 v i)))
 
 -- the significand, by its bits
 mant-bits : (n c : ℕ) → n % 2 ≡ 1 → size n - 1 ≤ 52 → 2 ^ 52 ≤ c → c < 2 ^ 53 → n * 2 ^ (52 - (size n - 1)) ≡ c → ofBits binary64 (0x3fe0_0000_0000_0000 + c) ≡ mant n
@@ -142,25 +125,12 @@ mant-bits n c o jl ca cb e =
 
 -- the exponent
 whole-exp : (a j w : ℕ) → j ≤ 52 → a + 1126 ≡ w + (52 - j) → pos (a + j) ≡ minus w 1074
-whole-exp a j w h e = sym (cond-is (leb 1074 w) (le→leb 1074 w (ge a j w h e))) ∙ refl
-  where
-    ge : (a j w : ℕ) → j ≤ 52 → a + 1126 ≡ w + (52 - j) → 1074 ≤ w
-    ge a j w h e = omega arith
-
-    val : (a j w : ℕ) → j ≤ 52 → a + 1126 ≡ w + (52 - j) → w - 1074 ≡ a + j
-    val a j w h e = omega arith
-
-    cond-is : (b : Bool) → T b → cond b (pos (w - 1074)) (negsuc (1074 - suc w)) ≡ pos (a + j)
-    cond-is true t = ap pos (val a j w h e)
-    cond-is false t = absurd t
+whole-exp a j w h e = let f : a + j ≡ w - 1074 = omega arith in ap pos f ∙ sym (minus-up w 1074 (omega arith))
 
 part-exp : (b j w : ℕ) → j ≤ 52 → 1126 ≡ w + suc b + (52 - j) → minus j (suc b) ≡ minus w 1074
-part-exp b j w h e = minus-same j (suc b) w 1074 (sum b j w h e)
-  where
-    sum : (b j w : ℕ) → j ≤ 52 → 1126 ≡ w + suc b + (52 - j) → j + 1074 ≡ w + suc b
-    sum b j w h e = omega arith
+part-exp b j w h e = minus-same j (suc b) w 1074 (omega arith)
 
--- ---- `lnS` of a number that is finite and above zero
+-- ---- `lnOf` of a number that is finite and above zero
 pub ln-split : (x : Float) (N c w : ℕ) → T (fits binary64 x) → HasValue x false N (2 ^ 1074) → 0 < N → Normal N c w → lnOf x ≡ lnSplit (ofBits binary64 (0x3fe0_0000_0000_0000 + c)) (minus w 1074)
 unfolding lnOf
 ln-split nan N c w f h p r = absurd h
@@ -169,23 +139,23 @@ ln-split (fin true m e) N c w f h p r = absurd (true≢false (h .0))
 ln-split (fin false zero e) N c w f h p r = absurd (lt-irrefl 0 (subst (λ (x : ℕ). 0 < x) (sym (h .1) ∙ ap (λ (x : ℕ). x * 2 ^ 1074) (zero-mul (up e)) ∙ zero-mul (2 ^ 1074)) (mul-pos p (down-pos e))))
 ln-split (fin false (suc m) (pos a)) N c w f h p r =
     let n = suc m in
-    let s = fits-says false m (pos a) f in
+    let s = held false m (pos a) f in
     let eq : n * 2 ^ (a + 1126) ≡ c * 2 ^ w =
     ap (λ (x : ℕ). n * x) (pow-add 2 a 1126) ∙ sym (mul-assoc n (2 ^ a) (2 ^ 1126)) ∙ ap (λ (x : ℕ). n * 2 ^ a * x) (pow-add 2 1074 52)
     ∙ sym (mul-assoc (n * 2 ^ a) (2 ^ 1074) (2 ^ 52)) ∙ ap (λ (x : ℕ). x * 2 ^ 52) (h .1 ∙ mul-one N) ∙ r .same in
-    let b = both n c (a + 1126) w (zero-lt-suc m) (s .1) (r .from) (r .below) eq in
-    let jl = j-le n (zero-lt-suc m) (s .1) in
-    ap (λ (y : Float). lnSplit y (pos (a + (size n - 1)))) (sym (mant-bits n c (s .0) jl (r .from) (r .below) (b .0)))
+    let b = both n c (a + 1126) w (zero-lt-suc m) (s .digits) (r .from) (r .below) eq in
+    let jl = j-le n (zero-lt-suc m) (s .digits) in
+    ap (λ (y : Float). lnSplit y (pos (a + (size n - 1)))) (sym (mant-bits n c (s .odd) jl (r .from) (r .below) (b .0)))
     ∙ ap (lnSplit (ofBits binary64 (0x3fe0_0000_0000_0000 + c))) (whole-exp a (size n - 1) w jl (b .1))
 ln-split (fin false (suc m) (negsuc d)) N c w f h p r =
     let n = suc m in
-    let s = fits-says false m (negsuc d) f in
+    let s = held false m (negsuc d) f in
     let eq : n * 2 ^ 1126 ≡ c * 2 ^ (w + suc d) =
     ap (λ (x : ℕ). n * x) (pow-add 2 1074 52) ∙ sym (mul-assoc n (2 ^ 1074) (2 ^ 52)) ∙ ap (λ (x : ℕ). x * 2 ^ 1074 * 2 ^ 52) (sym (mul-one n)) ∙ ap (λ (x : ℕ). x * 2 ^ 52) (h .1)
     ∙ mul-right-comm N (2 ^ suc d) (2 ^ 52) ∙ ap (λ (x : ℕ). x * 2 ^ suc d) (r .same) ∙ mul-assoc c (2 ^ w) (2 ^ suc d) ∙ ap (λ (x : ℕ). c * x) (sym (pow-add 2 w (suc d))) in
-    let b = both n c 1126 (w + suc d) (zero-lt-suc m) (s .1) (r .from) (r .below) eq in
-    let jl = j-le n (zero-lt-suc m) (s .1) in
-    ap (λ (y : Float). lnSplit y (minus (size n - 1) (suc d))) (sym (mant-bits n c (s .0) jl (r .from) (r .below) (b .0)))
+    let b = both n c 1126 (w + suc d) (zero-lt-suc m) (s .digits) (r .from) (r .below) eq in
+    let jl = j-le n (zero-lt-suc m) (s .digits) in
+    ap (λ (y : Float). lnSplit y (minus (size n - 1) (suc d))) (sym (mant-bits n c (s .odd) jl (r .from) (r .below) (b .0)))
     ∙ ap (lnSplit (ofBits binary64 (0x3fe0_0000_0000_0000 + c))) (part-exp d (size n - 1) w jl (b .1))
 
 -- ---- the other arguments

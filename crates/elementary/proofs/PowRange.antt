@@ -10,9 +10,9 @@ use Rattle.binary64.specs.Range.{Most, Within, Sized}
 use Rattle.binary64.specs.RangeOps.{mul-most}
 use Rattle.elementary.specs.Ln.{lnOf}
 use Rattle.elementary.specs.Power.{powfOf}
-use Rattle.elementary.proofs.ExpRange.{within-positive, exp-22}
+use Rattle.elementary.proofs.ExpRange.{exp-22}
 use Rattle.elementary.proofs.LnRange.{ln-part}
 
-pub powf-within : (x b : Float) → Within x 1 1 1 128 → Sized b 4 1 → Within (powfOf x b) (2 ^ 33) 1 1 (2 ^ 34)
+pub powf-within : {x b : Float} → Within x 1 1 1 128 → Sized b 4 1 → Within (powfOf x b) (2 ^ 33) 1 1 (2 ^ 34)
 unfolding powfOf
-powf-within x b w h = exp-22 (b ⊗ lnOf x) (unlike (negative b) (negative (lnOf x))) (mul-most h (ln-part x (within-positive x 1 1 1 128 (zero-lt-suc 0) w) w) 45 2 tt tt)
+powf-within w h = exp-22 (mul-most h (ln-part w) 45 2 tt tt)

@@ -8,6 +8,18 @@ use Rattle.binary64.specs.Operators.{_⊕_, _⊗_, _⊘_, f64, count}
 abbrev pub one : Float
 one = f64 0x3ff0_0000_0000_0000
 
+-- 709
+abbrev pub highest : Float
+highest = f64 0x4086_2800_0000_0000
+
+-- -708
+abbrev pub lowest : Float
+lowest = neg (f64 0x4086_2000_0000_0000)
+
+-- 1024
+abbrev pub scale : Float
+scale = f64 0x4090_0000_0000_0000
+
 -- a = 1 + (a * y) / k, for k down to 1
 unfoldable pub series : ℕ → Float → Float → Float
 series zero y a = a
@@ -18,10 +30,10 @@ unfoldable pub squarings : ℕ → Float → Float
 squarings zero a = a
 squarings (suc n) a = squarings n (a ⊗ a)
 
--- the exponential of a t that is between the limits: t / 1024
+-- the exponential of a t between the limits
 unfoldable pub powered : Float → Float
-powered t = squarings 10 (series 18 (t ⊘ f64 0x4090_0000_0000_0000) one)
+powered t = squarings 10 (series 18 (t ⊘ scale) one)
 
--- above 709 it is +infinity, below -708 it is +0
+-- above 709 it is +infinity, below -708 it is +0. A NaN is neither, and stays one.
 unfoldable pub expOf : Float → Float
-expOf t = cond (lt (f64 0x4086_2800_0000_0000) t) (inf false) (cond (lt t (neg (f64 0x4086_2000_0000_0000))) (f64 0) (powered t))
+expOf t = cond (lt highest t) (inf false) (cond (lt t lowest) (f64 0) (powered t))

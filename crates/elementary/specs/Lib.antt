@@ -4,3 +4,4 @@ pub mod Choice
 pub mod Asinh
 pub mod Power
 pub mod Count
+pub mod Arrhenius

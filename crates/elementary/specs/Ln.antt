@@ -10,6 +10,14 @@ use Rattle.elementary.specs.Exp.{one}
 abbrev pub two : Float
 two = f64 0x4000_0000_0000_0000
 
+-- 1.5
+abbrev pub threeHalves : Float
+threeHalves = f64 0x3ff8_0000_0000_0000
+
+-- 23
+abbrev pub twentyThree : Float
+twentyThree = f64 0x4037_0000_0000_0000
+
 -- c, the logarithm of 2
 abbrev pub ln2 : Float
 ln2 = f64 0x3FE6_2E42_FEFA_39EF
@@ -24,7 +32,7 @@ unfoldable pub lnParts : Float → Float → Float
 lnParts m k =
     let s = (m ⊖ one) ⊘ (m ⊕ one) in
     let q = s ⊗ s in
-    (k ⊗ ln2) ⊕ ((two ⊗ s) ⊗ terms 11 q (one ⊘ f64 0x4037_0000_0000_0000))
+    (k ⊗ ln2) ⊕ ((two ⊗ s) ⊗ terms 11 q (one ⊘ twentyThree))
 
 abbrev pub raise : ℤ → ℤ
 raise (pos k) = pos (suc k)
@@ -33,7 +41,7 @@ raise (negsuc (suc k)) = negsuc k
 
 -- where m is 1.5 or more, it is halved and k raised
 unfoldable pub lnSplit : Float → ℤ → Float
-lnSplit m k = cond (le (f64 0x3ff8_0000_0000_0000) m) (lnParts (m ⊘ two) (ofInt binary64 (raise k))) (lnParts m (ofInt binary64 k))
+lnSplit m k = cond (le threeHalves m) (lnParts (m ⊘ two) (ofInt binary64 (raise k))) (lnParts m (ofInt binary64 k))
 
 -- n * 2 ^ e is mant n * 2 ^ expo n e, with 1 ≤ mant n < 2, subnormals too: n has `size n` binary digits
 abbrev pub mant : ℕ → Float

@@ -1,5 +1,6 @@
 // The elementary functions of the cell models, each with a result for every f64. They stand in for the library's, to
-// the last bit: each operation rounds once, in the order of the definitions in specs/.
+// the last bit: each operation rounds once, in the order of the definitions in specs/. The square root has a crate of
+// its own, square_root.
 ghost use mathlib.Core.Path.{_≡_};
 ghost use Prim.Native.Nat.{_≤_};
 ghost use lib.Ieee.{binary64, ofInt, minus};

@@ -1,8 +1,4 @@
--- The run of the Doyle-Fuller-Newman cell, from document 01 and dfn.rs.
---
--- Endings: what the answer says, by document 01's words and numbers.
--- Runs: the run as a fold of `stepped`, and the whole final content of the slice.
--- RunLaws: a run turn by turn.
-pub mod Endings
-pub mod Runs
-pub mod RunLaws
+-- A run of the Doyle-Fuller-Newman cell, from document 01 ("Runs") and dfn.rs: every row is a step of the cell, the endings come in the paper's order, and
+-- what the run gives and leaves in the slice is given whole.
+pub mod Galvanostatic
+pub mod Laws

@@ -1,26 +1,18 @@
 // A run of the Doyle-Fuller-Newman cell at one current, with a row of eight places for each step in a lent slice. A changed translation of
 // src/battery/p2d/dfn.rs (`run_galvanostatic`).
-use dfn::{DfnSolver, DfnStep};
-
+use dfn::DfnSolver;
+use dfn::DfnStep;
+use runs::Ending;
+use runs::GOING;
+use runs::REFUSED;
+use runs::TIME;
+use runs::VOLTAGE;
+use runs::ending_of;
+use runs::put_row;
 ghost use mathlib.Core.Path.{_≡_};
-ghost use Prim.Native.Nat.{_+_, _/_, _^_, _≤_, _<_};
-ghost use lib.ListN.{length, getD};
-ghost use lib.Ieee.{nan};
-ghost use Rattle.places.specs.Places.{placesBy};
-ghost use Rattle.galvanostatic_run.specs.Endings.{saidRun};
-ghost use Rattle.galvanostatic_run.specs.Runs.{overAfter, flagOf, rowOf, turned, started, finishedRun, runAfter, rowsAfter, runRefusal, galvanostatic, galvanostaticRows};
-
-// How a run ends.
-pub enum Ending {
-    // A step's voltage was outside the limits.
-    Voltage,
-    // The cell's clock reached the time limit.
-    Time,
-    // Every whole row is written.
-    Full,
-    // A step, or the run as a whole, was refused.
-    Refused,
-}
+ghost use Prim.Native.Nat.{_*_, _^_, _≤_, _<_};
+ghost use lib.ListN.{length};
+ghost use Rattle.galvanostatic_run.specs.Galvanostatic.{overAfter, flagOf, rowOf, turned, started, runSaid, finishedRun, allTurns, allRows, runRefusal, galvanostatic, galvanostaticRows};
 
 // The current, A, the interval and the time limit, s.
 pub struct Feed {
@@ -38,10 +30,9 @@ pub struct Course {
     pub refusal: u64,
 }
 
-// What a run answers: how it ended, the number of the refusal or 0, how many rows it wrote, and the cell after them.
+// What a run answers: how it ended, how many rows it wrote, and the cell after them.
 pub struct DfnRun {
     pub ending: Ending,
-    pub refusal: u64,
     pub rows: usize,
     pub cell: DfnSolver,
 }
@@ -51,12 +42,12 @@ fn over_after(limit: f64, r: DfnStep) -> u64
     ensures { λ k. ⌜ k ≡ overAfter limit r ⌝ }
 {
     if r.cutoff {
-        return 1;
+        return VOLTAGE;
     }
     if r.time_s >= limit {
-        return 2;
+        return TIME;
     }
-    0
+    GOING
 }
 
 // 1 for yes, +0 for no.
@@ -70,12 +61,21 @@ fn flag(b: bool) -> f64
 fn row_of(r: DfnStep) -> [f64; 8]
     ensures { λ l. ⌜ l ≡ rowOf r ⌝ }
 {
-    [r.voltage, r.current, r.time_s, r.theta_neg, r.theta_pos, r.delta_c_e_max, flag(r.cutoff), 1.0]
+    [
+        r.voltage,
+        r.current,
+        r.time_s,
+        r.theta_neg,
+        r.theta_pos,
+        r.delta_c_e_max,
+        flag(r.cutoff),
+        1.0,
+    ]
 }
 
 // One turn of a run that is not over.
 fn turn(w: Feed, s: Course) -> Course
-    requires { ⌜ s .rows < 2 ^ 60 ⌝ }
+    requires { ⌜ s .rows < 2 ^ 61 ⌝ }
     ensures { λ r. ⌜ r ≡ turned w s ⌝ }
 {
     let old = s.cell;
@@ -83,61 +83,71 @@ fn turn(w: Feed, s: Course) -> Course
     let cell = a.cell;
     if a.refusal != 0 {
         let row = s.row;
-        return Course { cell, row, rows: s.rows, over: 4, refusal: a.refusal };
+        return Course {
+            cell,
+            row,
+            rows: s.rows,
+            over: REFUSED,
+            refusal: a.refusal,
+        };
     }
     let report = a.report;
     let row = row_of(report);
-    Course { cell, row, rows: s.rows + 1, over: over_after(w.limit, report), refusal: 0 }
-}
-
-// Puts a row at the place `base`.
-fn put_row(out: &mut [f64], base: usize, row: [f64; 8])
-    requires { ⌜ base + 8 ≤ length (now out) ⌝ }
-    ensures { λ _. ⌜ now (out .exit) ≡ placesBy base 8 (λ k. getD row k nan) (now (out .entry)) ⌝ }
-{
-    for k in 0..8 {
-        out[base + k] = row[k];
+    Course {
+        cell,
+        row,
+        rows: s.rows + 1,
+        over: over_after(w.limit, report),
+        refusal: 0,
     }
 }
 
-// What a run that has stopped answers. One that is not over has filled the slice.
-fn finished(s: Course) -> DfnRun
-    ensures { λ r. ⌜ saidRun r ≡ finishedRun s ⌝ }
+// The run before its first step.
+fn start(cell: DfnSolver) -> Course
+    ensures { λ r. ⌜ r ≡ started cell ⌝ }
 {
-    let over = s.over;
-    let refusal = s.refusal;
-    let rows = s.rows;
-    let cell = s.cell;
-    let ending = match over {
-        0 => Ending::Full,
-        1 => Ending::Voltage,
-        2 => Ending::Time,
-        _ => Ending::Refused,
-    };
-    DfnRun { ending, refusal, rows, cell }
+    Course {
+        cell,
+        row: [0.0; 8],
+        rows: 0,
+        over: GOING,
+        refusal: 0,
+    }
 }
 
-// Steps the cell until an ending holds or the slice has no whole row left.
-fn run_rows(w: Feed, cell: DfnSolver, out: &mut [f64]) -> DfnRun
-    ensures answer { λ r. ⌜ saidRun r ≡ finishedRun (runAfter w (started cell) (length (now (out .entry)) / 8)) ⌝ }
-    ensures rows { λ r. ⌜ now (out .exit) ≡ rowsAfter w (started cell) (length (now (out .entry)) / 8) (now (out .entry)) ⌝ }
+// What a run that has stopped answers.
+fn finished(s: Course) -> DfnRun
+    ensures { λ r. ⌜ runSaid r ≡ finishedRun s ⌝ }
 {
-    let total = out.len() / 8;
-    let mut s = Course { cell, row: [0.0; 8], rows: 0, over: 0, refusal: 0 };
+    let cell = s.cell;
+    DfnRun {
+        ending: ending_of(s.over, s.refusal),
+        rows: s.rows,
+        cell,
+    }
+}
+
+// At most `total` turns of a run, each step with its row.
+fn run_rows(w: Feed, first: Course, out: &mut [f64], total: usize) -> DfnRun
+    requires { ⌜ (first .over ≡ 0) × ((first .rows ≡ 0) × ((total < 2 ^ 61) × (total * 8 ≤ length (now out)))) ⌝ }
+    ensures answer { λ r. ⌜ runSaid r ≡ allTurns w first total ⌝ }
+    ensures rows { λ r. ⌜ now (out .exit) ≡ allRows w first total (now (out .entry)) ⌝ }
+{
+    let mut run = first;
     let mut i = 0;
     while i < total {
-        s = turn(w, s);
-        if s.over == 4 {
-            return finished(s);
+        run = turn(w, run);
+        if run.over == 4 {
+            return finished(run);
         }
-        let row = s.row;
+        let row = run.row;
         put_row(out, i * 8, row);
         i += 1;
-        if s.over != 0 {
-            return finished(s);
+        if run.over != 0 {
+            return finished(run);
         }
     }
-    finished(s)
+    finished(run)
 }
 
 // The number of the table that refuses the whole run: 1, 10, 2, 3, 4.
@@ -149,18 +159,36 @@ fn run_refusal(cell: DfnSolver, w: Feed, places: usize) -> u64
     let short = refusal::refusal_unless(8 <= places, refusal::LENGTH);
     let limit = refusal::refusal_unless(refusal::is_finite(w.limit), refusal::INTERVAL);
     let step = cell.step_refusal(w.current, w.dt);
-    refusal::first_met(grid, refusal::first_met(short, refusal::first_met(step, limit)))
+    refusal::first_met(
+        grid,
+        refusal::first_met(short, refusal::first_met(step, limit)),
+    )
 }
 
 // Runs the cell at a current, A, by intervals of dt_s, until a voltage outside the limits, the cell's clock at max_time_s, or the end of the rows.
-pub fn run_galvanostatic(cell: DfnSolver, current_a: f64, dt_s: f64, max_time_s: f64, rows: &mut [f64]) -> DfnRun
-    ensures answer { λ r. ⌜ saidRun r ≡ galvanostatic cell «current_a» «dt_s» «max_time_s» (length (now (rows .entry))) ⌝ }
+pub fn run_galvanostatic(
+    cell: DfnSolver,
+    current_a: f64,
+    dt_s: f64,
+    max_time_s: f64,
+    rows: &mut [f64],
+) -> DfnRun
+    ensures answer { λ r. ⌜ runSaid r ≡ galvanostatic cell «current_a» «dt_s» «max_time_s» (length (now (rows .entry))) ⌝ }
     ensures rows { λ r. ⌜ now (rows .exit) ≡ galvanostaticRows cell «current_a» «dt_s» «max_time_s» (now (rows .entry)) ⌝ }
 {
-    let w = Feed { current: current_a, dt: dt_s, limit: max_time_s };
+    let w = Feed {
+        current: current_a,
+        dt: dt_s,
+        limit: max_time_s,
+    };
     let number = run_refusal(cell, w, rows.len());
     if number != 0 {
-        return DfnRun { ending: Ending::Refused, refusal: number, rows: 0, cell };
+        return DfnRun {
+            ending: Ending::Refused(number),
+            rows: 0,
+            cell,
+        };
     }
-    run_rows(w, cell, rows)
+    let total = rows.len() / 8;
+    run_rows(w, start(cell), rows, total)
 }

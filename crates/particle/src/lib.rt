@@ -1,16 +1,21 @@
 // A particle of an electrode and the diffusion in it. A changed translation of src/battery/p2d/electrode.rs (its
 // `ParticleDiffusion`). The spacing of the nodes is worked out; what does not change within a call is worked out once.
 use electrode::ElectrodeParams;
-use profile::{profile_finite, profile_fits, sums_of, uniform};
+use profile::profile_finite;
+use profile::profile_fits;
+use profile::sums_of;
+use profile::uniform;
 use refusal::Answer;
-use sub_step::{count_f64, inverse_radii, prepare, sub_steps};
-
+use sub_step::count_f64;
+use sub_step::inverse_radii;
+use sub_step::prepare;
+use sub_step::sub_steps;
 ghost use mathlib.Core.Path.{_≡_};
 ghost use Prim.Native.Nat.{_≤_};
 ghost use Rattle.refusal.specs.Answers.{said};
 ghost use Rattle.turns.specs.Turns.{times};
 ghost use Rattle.diffusion.specs.SubStep.{subStep};
-ghost use Rattle.particle.specs.Checks.{particleRefusal};
+ghost use Rattle.particle.specs.Checks.{fieldsFit, particleRefusal};
 ghost use Rattle.particle.specs.Particle.{spacing, driveWith, surfaceTheta, surfacePotential, stableStep, average, averageTheta};
 ghost use Rattle.particle.specs.Calls.{fresh, noParticle, made, stepRefusal, accepted, stepped, dtStable, thetaSurface, thetaAvg, cAvg, ocpSurface};
 
@@ -31,16 +36,27 @@ pub struct ParticleAnswer {
 impl ParticleDiffusion {
     // ---- parts of a particle that fits
 
+    // Whether the sheet and the profile are as they must be.
+    pub fn fields_fit(self) -> bool
+        ensures { λ r. ⌜ r ≡ fieldsFit self ⌝ }
+    {
+        let params = self.params;
+        let c_s = self.c_s;
+        params.fits() & profile_fits(c_s, self.n_nodes, params.c_s_max)
+    }
+
     // The number of the table that the particle meets, 0 for none.
     pub fn refusal(self) -> u64
         ensures { λ r. ⌜ r ≡ particleRefusal self ⌝ }
     {
-        let params = self.params;
-        let n = self.n_nodes;
-        let c_s = self.c_s;
-        let few = refusal::refusal_unless(refusal::count_within(n as u64, 3, 64), refusal::GRID);
-        let fits = params.fits() & profile_fits(c_s, n, params.c_s_max);
-        refusal::first_met(few, refusal::refusal_unless(fits, refusal::SHEET))
+        let few = refusal::refusal_unless(
+            refusal::count_within(self.n_nodes as u64, 3, 64),
+            refusal::GRID,
+        );
+        refusal::first_met(
+            few,
+            refusal::refusal_unless(self.fields_fit(), refusal::SHEET),
+        )
     }
 
     // The distance between two nodes.
@@ -120,13 +136,29 @@ impl ParticleDiffusion {
     pub fn new(params: ElectrodeParams, n_nodes: usize) -> ParticleAnswer
         ensures { λ r. ⌜ r ≡ made params «n_nodes» ⌝ }
     {
-        let few = refusal::refusal_unless(refusal::count_within(n_nodes as u64, 3, 64), refusal::GRID);
-        let refusal = refusal::first_met(few, refusal::refusal_unless(params.fits(), refusal::SHEET));
+        let few = refusal::refusal_unless(
+            refusal::count_within(n_nodes as u64, 3, 64),
+            refusal::GRID,
+        );
+        let refusal = refusal::first_met(
+            few,
+            refusal::refusal_unless(params.fits(), refusal::SHEET),
+        );
         if refusal != 0 {
-            return ParticleAnswer { refusal, particle: no_particle() };
+            return ParticleAnswer {
+                refusal,
+                particle: no_particle(),
+            };
         }
         let c_s = uniform(params.theta_init * params.c_s_max, n_nodes);
-        ParticleAnswer { refusal: 0, particle: ParticleDiffusion { params, n_nodes, c_s } }
+        ParticleAnswer {
+            refusal: 0,
+            particle: ParticleDiffusion {
+                params,
+                n_nodes,
+                c_s,
+            },
+        }
     }
 
     // The number of the table that a step meets before it is made.
@@ -135,8 +167,14 @@ impl ParticleDiffusion {
     {
         let load = refusal::refusal_unless(refusal::load_fits(j_n, 1e13), refusal::LOAD);
         let interval = refusal::refusal_unless(refusal::interval_fits(dt), refusal::INTERVAL);
-        let temperature = refusal::refusal_unless(refusal::temperature_fits(temp_k), refusal::TEMPERATURE);
-        refusal::first_met(self.refusal(), refusal::first_met(load, refusal::first_met(interval, temperature)))
+        let temperature = refusal::refusal_unless(
+            refusal::temperature_fits(temp_k),
+            refusal::TEMPERATURE,
+        );
+        refusal::first_met(
+            self.refusal(),
+            refusal::first_met(load, refusal::first_met(interval, temperature)),
+        )
     }
 
     // The particle with a new profile, or 8 and the particle as it was.
@@ -145,9 +183,19 @@ impl ParticleDiffusion {
     {
         if profile_finite(c_s) {
             let params = self.params;
-            return ParticleAnswer { refusal: 0, particle: ParticleDiffusion { params, n_nodes: self.n_nodes, c_s } };
+            return ParticleAnswer {
+                refusal: 0,
+                particle: ParticleDiffusion {
+                    params,
+                    n_nodes: self.n_nodes,
+                    c_s,
+                },
+            };
         }
-        ParticleAnswer { refusal: refusal::NOT_FINITE, particle: self }
+        ParticleAnswer {
+            refusal: refusal::NOT_FINITE,
+            particle: self,
+        }
     }
 
     // One explicit step: a flux into the particle, mol/(m^2 s), for an interval in s at a temperature in K.
@@ -156,7 +204,10 @@ impl ParticleDiffusion {
     {
         let refusal = self.step_refusal(j_n, dt, temp_k);
         if refusal != 0 {
-            return ParticleAnswer { refusal, particle: self };
+            return ParticleAnswer {
+                refusal,
+                particle: self,
+            };
         }
         let params = self.params;
         let c_s = self.after(params.diffusivity_at(temp_k), j_n, dt, 1);
@@ -167,7 +218,10 @@ impl ParticleDiffusion {
     pub fn dt_stable(self, temp_k: f64) -> Answer
         ensures { λ r. ⌜ said r ≡ dtStable self «temp_k» ⌝ }
     {
-        let temperature = refusal::refusal_unless(refusal::temperature_fits(temp_k), refusal::TEMPERATURE);
+        let temperature = refusal::refusal_unless(
+            refusal::temperature_fits(temp_k),
+            refusal::TEMPERATURE,
+        );
         let number = refusal::first_met(self.refusal(), temperature);
         if number != 0 {
             return refusal::answered(number, 0.0);
@@ -222,7 +276,7 @@ impl ParticleDiffusion {
 }
 
 // The particle beside a refused build: every number +0, every count 0.
-fn no_particle() -> ParticleDiffusion
+pub fn no_particle() -> ParticleDiffusion
     ensures { λ r. ⌜ r ≡ noParticle ⌝ }
 {
     let params = ElectrodeParams {
@@ -237,5 +291,9 @@ fn no_particle() -> ParticleDiffusion
         e_a_ds: 0.0,
         k_bv: 0.0,
     };
-    ParticleDiffusion { params, n_nodes: 0, c_s: [0.0; 64] }
+    ParticleDiffusion {
+        params,
+        n_nodes: 0,
+        c_s: [0.0; 64],
+    }
 }

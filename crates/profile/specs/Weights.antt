@@ -25,4 +25,3 @@ shares n dr (suc k) = shares n dr k ⊕ share n dr k
 unfoldable pub content : ℕ → Float → (ℕ → Float) → ℕ → Float
 content n dr c zero = f64 0
 content n dr c (suc k) = content n dr c k ⊕ share n dr k ⊗ c k
-

@@ -1,7 +1,6 @@
 // The profile of a particle: 64 places, the first n used. What it is checked for, and the sums of its average over the
 // volume. A changed translation of src/battery/p2d/electrode.rs (`ParticleDiffusion::c_avg`).
 use sub_step::count_f64;
-
 ghost use mathlib.Core.Path.{_≡_};
 ghost use Prim.Native.Nat.{_≤_, _<_};
 ghost use Rattle.profile.specs.Places.{placeFits, profileFits, finiteProfile, filled};
@@ -54,10 +53,70 @@ pub fn uniform(x: f64, n: usize) -> [f64; 64]
 
 // The weights of the inner places: 2 at an even one, 4 at an odd one.
 const WEIGHTS: [f64; 64] = [
-    2.0, 4.0, 2.0, 4.0, 2.0, 4.0, 2.0, 4.0, 2.0, 4.0, 2.0, 4.0, 2.0, 4.0, 2.0, 4.0,
-    2.0, 4.0, 2.0, 4.0, 2.0, 4.0, 2.0, 4.0, 2.0, 4.0, 2.0, 4.0, 2.0, 4.0, 2.0, 4.0,
-    2.0, 4.0, 2.0, 4.0, 2.0, 4.0, 2.0, 4.0, 2.0, 4.0, 2.0, 4.0, 2.0, 4.0, 2.0, 4.0,
-    2.0, 4.0, 2.0, 4.0, 2.0, 4.0, 2.0, 4.0, 2.0, 4.0, 2.0, 4.0, 2.0, 4.0, 2.0, 4.0,
+    2.0,
+    4.0,
+    2.0,
+    4.0,
+    2.0,
+    4.0,
+    2.0,
+    4.0,
+    2.0,
+    4.0,
+    2.0,
+    4.0,
+    2.0,
+    4.0,
+    2.0,
+    4.0,
+    2.0,
+    4.0,
+    2.0,
+    4.0,
+    2.0,
+    4.0,
+    2.0,
+    4.0,
+    2.0,
+    4.0,
+    2.0,
+    4.0,
+    2.0,
+    4.0,
+    2.0,
+    4.0,
+    2.0,
+    4.0,
+    2.0,
+    4.0,
+    2.0,
+    4.0,
+    2.0,
+    4.0,
+    2.0,
+    4.0,
+    2.0,
+    4.0,
+    2.0,
+    4.0,
+    2.0,
+    4.0,
+    2.0,
+    4.0,
+    2.0,
+    4.0,
+    2.0,
+    4.0,
+    2.0,
+    4.0,
+    2.0,
+    4.0,
+    2.0,
+    4.0,
+    2.0,
+    4.0,
+    2.0,
+    4.0,
 ];
 
 // The sums over the places so far: of the shares of the volume, and of these with the concentrations.
@@ -94,7 +153,10 @@ fn added(s: Sums, n: usize, dr: f64, i: usize, c: f64) -> Sums
 {
     let r = count_f64(i) * dr;
     let share = weight(n, i) * r * r;
-    Sums { shares: s.shares + share, content: s.content + share * c }
+    Sums {
+        shares: s.shares + share,
+        content: s.content + share * c,
+    }
 }
 
 // The sums over the first n places.
@@ -102,7 +164,10 @@ pub fn sums_of(c: [f64; 64], n: usize, dr: f64) -> Sums
     requires { ⌜ (1 ≤ n) × (n ≤ 64) ⌝ }
     ensures { λ r. ⌜ r ≡ sumsAfter c n dr n ⌝ }
 {
-    let mut s = Sums { shares: 0.0, content: 0.0 };
+    let mut s = Sums {
+        shares: 0.0,
+        content: 0.0,
+    };
     for i in 0..n {
         s = added(s, n, dr, i, c[i]);
     }

@@ -108,5 +108,9 @@ pub fn answered(refusal: u64, x: f64) -> Answer
     ensures { λ r. ⌜ said r ≡ finiteOutcome refusal x ⌝ }
 {
     let number = first_met(refusal, refusal_unless(is_finite(x), NOT_FINITE));
-    if number == 0 { Answer::Value(x) } else { Answer::Refused(number) }
+    if number == 0 {
+        Answer::Value(x)
+    } else {
+        Answer::Refused(number)
+    }
 }

@@ -4,7 +4,9 @@ pub mod Patterns
 pub mod Normalised
 pub mod Rounding
 pub mod Units
+pub mod Fractions
 pub mod Spacing
 pub mod Standard
 pub mod Monotone
 pub mod Unique
+pub mod Range

@@ -53,30 +53,27 @@ below-at C z G s p h k = lt-of-le-of-lt (mul-le-mul k k) (lt-of-le-of-lt (le-of-
 above-at : (C z G s : ℕ) → 0 < G → C < z * z → z * G ≤ s → C * (G * G) < s * s
 above-at C z G s p h k = lt-of-lt-of-le (mul-lt-mul-of-pos-right h (mul-pos p p)) (le-trans (le-of-eq (sym (mul-mul-mul-comm z G z G))) (mul-le-mul k k))
 
+odd-times : (x G : ℕ) → (x * 2 + 1) * G ≡ x * G * 2 + G
+odd-times x G = add-mul (x * 2) 1 G ∙ ap (λ (y : ℕ). y + 1 * G) (mul-right-comm x 2 G) ∙ omega arith
+
+suc-times : (x G : ℕ) → suc x * G ≡ x * G + G
+suc-times x G = omega (arith, add-mul x 1 G)
+
 -- ---- the middle of n = m + 1 units and M * 2 ^ j
 module _ (C m k M j : ℕ) (big : 2 ^ 52 ≤ suc m) (small : M < 2 ^ 53) where
-  three : (x G : ℕ) → (x * 2 + 1) * G ≡ x * G * 2 + G
-  three x G = add-mul (x * 2) 1 G ∙ ap (λ (y : ℕ). y + 1 * G) (mul-right-comm x 2 G) ∙ omega arith
-
-  next : (x G : ℕ) → suc x * G ≡ x * G + G
-  next x G = omega (arith, add-mul x 1 G)
-
   pub units-below : 2 ^ 106 ≤ C → (m * 2 + 1) * (m * 2 + 1) < C → M * 2 ^ j < suc m * 2 ^ k → (suc m * 2 ^ k + M * 2 ^ j) * (suc m * 2 ^ k + M * 2 ^ j) < C * (2 ^ k * 2 ^ k)
   units-below c h l = elim (eq-or-lt-of-le big) [
     | inl e ↦
         let f : suc m * 2 ^ k ≡ 2 ^ 52 * 2 ^ k = ap (λ (x : ℕ). x * 2 ^ k) (sym e) in
         let g : suc m * 2 ^ k + M * 2 ^ j < 2 ^ 53 * 2 ^ k = sum-lt (suc m * 2 ^ k) (M * 2 ^ j) (2 ^ k) f l in
-        below-by C (2 ^ 53) (2 ^ k) (suc m * 2 ^ k + M * 2 ^ j) (square-least C c) g
+        below-by C (2 ^ 53) (2 ^ k) (suc m * 2 ^ k + M * 2 ^ j) c g
     | inr b ↦
         let n : M * 2 ^ j ≤ m * 2 ^ k = next-below M j k m small (pred-le m b) l in
-        below-at C (m * 2 + 1) (2 ^ k) (suc m * 2 ^ k + M * 2 ^ j) (pow-pos k) h (omega (arith, three m (2 ^ k), next m (2 ^ k)))
+        below-at C (m * 2 + 1) (2 ^ k) (suc m * 2 ^ k + M * 2 ^ j) (pow-pos k) h (omega (arith, odd-times m (2 ^ k), suc-times m (2 ^ k)))
   ]
     where
       sum-lt : (a b G : ℕ) → a ≡ 2 ^ 52 * G → b < a → a + b < 2 ^ 53 * G
       sum-lt a b G e h = omega arith
-
-      square-least : (C : ℕ) → 2 ^ 106 ≤ C → 2 ^ 53 * 2 ^ 53 ≤ C
-      square-least C h = h
 
       pred-le : (m : ℕ) → 2 ^ 52 < suc m → 2 ^ 52 ≤ m
       pred-le m h = omega arith
@@ -84,4 +81,4 @@ module _ (C m k M j : ℕ) (big : 2 ^ 52 ≤ suc m) (small : M < 2 ^ 53) where
   pub units-above : C < (m * 2 + 3) * (m * 2 + 3) → suc m * 2 ^ k < M * 2 ^ j → C * (2 ^ k * 2 ^ k) < (suc m * 2 ^ k + M * 2 ^ j) * (suc m * 2 ^ k + M * 2 ^ j)
   units-above h l =
       let n : suc (suc m) * 2 ^ k ≤ M * 2 ^ j = next-above M j k (suc m) small big l in
-      above-at C (m * 2 + 3) (2 ^ k) (suc m * 2 ^ k + M * 2 ^ j) (pow-pos k) h (omega (arith, three (suc m) (2 ^ k), next (suc m) (2 ^ k)))
+      above-at C (m * 2 + 3) (2 ^ k) (suc m * 2 ^ k + M * 2 ^ j) (pow-pos k) h (omega (arith, odd-times (suc m) (2 ^ k), suc-times (suc m) (2 ^ k)))

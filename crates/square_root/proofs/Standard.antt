@@ -16,7 +16,8 @@ use lib.Ieee.Positive.{num, den, den-pos, positive, value→cross, first-pos, va
 use Rattle.square_root.specs.Parts.{unitsOf, Normal}
 use Rattle.square_root.specs.Whole.{NearestWhole, Digits53}
 use Rattle.square_root.specs.Root.{wholeRoot, cut, rounded, sqrtOf}
-use Rattle.square_root.specs.Standard.{natural, belowZero, square, Nearest, SquareRoot}
+use Rattle.square_root.specs.Standard.{natural, belowZero, Nearest, SquareRoot}
+use Rattle.square_root.proofs.Fractions.{positive-natural, value-natural, less, middle-below, middle-above}
 use Rattle.square_root.proofs.Squares.{square-lt}
 use Rattle.square_root.proofs.WholeRoot.{IsRoot, wholeRoot-is, half-up, above-low, below-high}
 use Rattle.square_root.proofs.Patterns.{ofBits-is, fields-value, ones-fields}
@@ -78,6 +79,9 @@ four-times N c w e =
     same N = mul-assoc N (2 ^ 126) (2 ^ 950) ∙ sym (mul-assoc N 4 (2 ^ 1074)) ∙ ap (λ (x : ℕ). x * 2 ^ 1074) (mul-comm N 4)
 
 -- ---- from units to fractions
+abbrev sq : ℕ → ℕ
+sq n = n * n
+
 module _ (nr dr ny dy nx dx Q Y N L : ℕ) (er : nr * L ≡ Q * dr) (ey : ny * L ≡ Y * dy) (ex : nx * L ≡ N * dx) where
   sum-is : (nr * dy + ny * dr) * L ≡ (Q + Y) * (dr * dy)
   sum-is =
@@ -86,17 +90,17 @@ module _ (nr dr ny dy nx dx Q Y N L : ℕ) (er : nr * L ≡ Q * dr) (ey : ny * L
       ∙ ap (λ (x : ℕ). Q * (dr * dy) + x) (mul-right-comm ny dr L ∙ ap (λ (x : ℕ). x * dr) ey ∙ mul-assoc Y dy dr ∙ ap (λ (x : ℕ). Y * x) (mul-comm dy dr))
       ∙ sym (add-mul Q Y (dr * dy))
 
-  left-is : square (nr * dy + ny * dr) * dx * (L * L) ≡ (Q + Y) * (Q + Y) * (square (dr * dy) * dx)
+  left-is : sq (nr * dy + ny * dr) * dx * (L * L) ≡ (Q + Y) * (Q + Y) * (sq (dr * dy) * dx)
   left-is =
-      mul-right-comm (square (nr * dy + ny * dr)) dx (L * L)
-      ∙ ap (λ (x : ℕ). x * dx) (mul-mul-mul-comm (nr * dy + ny * dr) (nr * dy + ny * dr) L L ∙ ap square sum-is ∙ mul-mul-mul-comm (Q + Y) (dr * dy) (Q + Y) (dr * dy))
-      ∙ mul-assoc ((Q + Y) * (Q + Y)) (square (dr * dy)) dx
+      mul-right-comm (sq (nr * dy + ny * dr)) dx (L * L)
+      ∙ ap (λ (x : ℕ). x * dx) (mul-mul-mul-comm (nr * dy + ny * dr) (nr * dy + ny * dr) L L ∙ ap sq sum-is ∙ mul-mul-mul-comm (Q + Y) (dr * dy) (Q + Y) (dr * dy))
+      ∙ mul-assoc ((Q + Y) * (Q + Y)) (sq (dr * dy)) dx
 
-  right-is : 4 * nx * square (dr * dy) * (L * L) ≡ 4 * N * L * (square (dr * dy) * dx)
+  right-is : 4 * nx * sq (dr * dy) * (L * L) ≡ 4 * N * L * (sq (dr * dy) * dx)
   right-is =
-      spread 4 nx (square (dr * dy)) L
-      ∙ ap (λ (x : ℕ). 4 * x * L * square (dr * dy)) ex
-      ∙ gather 4 N dx L (square (dr * dy))
+      spread 4 nx (sq (dr * dy)) L
+      ∙ ap (λ (x : ℕ). 4 * x * L * sq (dr * dy)) ex
+      ∙ gather 4 N dx L (sq (dr * dy))
     where
       spread : (f n D L : ℕ) → f * n * D * (L * L) ≡ f * (n * L) * L * D
       spread f n D L = simp (mul-assoc, mul-comm, mul-left-comm)
@@ -104,11 +108,11 @@ module _ (nr dr ny dy nx dx Q Y N L : ℕ) (er : nr * L ≡ Q * dr) (ey : ny * L
       gather : (f N d L D : ℕ) → f * (N * d) * L * D ≡ f * N * L * (D * d)
       gather f N d L D = simp (mul-assoc, mul-comm, mul-left-comm)
 
-  module _ (dp : 0 < square (dr * dy) * dx) where
-    below-is : (Q + Y) * (Q + Y) < 4 * N * L → square (nr * dy + ny * dr) * dx < 4 * nx * square (dr * dy)
+  module _ (dp : 0 < sq (dr * dy) * dx) where
+    below-is : (Q + Y) * (Q + Y) < 4 * N * L → sq (nr * dy + ny * dr) * dx < 4 * nx * sq (dr * dy)
     below-is h = lt-of-mul-lt-mul-right (L * L) (lt-of-le-of-lt (le-of-eq left-is) (lt-of-lt-of-le (mul-lt-mul-of-pos-right h dp) (le-of-eq (sym right-is))))
 
-    above-is : 4 * N * L < (Q + Y) * (Q + Y) → 4 * nx * square (dr * dy) < square (nr * dy + ny * dr) * dx
+    above-is : 4 * N * L < (Q + Y) * (Q + Y) → 4 * nx * sq (dr * dy) < sq (nr * dy + ny * dr) * dx
     above-is h = lt-of-mul-lt-mul-right (L * L) (lt-of-le-of-lt (le-of-eq right-is) (lt-of-lt-of-le (mul-lt-mul-of-pos-right h dp) (le-of-eq (sym left-is))))
 
 -- the order of the fractions is that of the units
@@ -118,18 +122,6 @@ units-lt na da nb db A B L ea eb lp h =
     (lt-of-le-of-lt (le-of-eq (sym (mul-assoc A da db) ∙ ap (λ (x : ℕ). x * db) (sym ea) ∙ mul-right-comm na L db))
     (lt-of-lt-of-le (mul-lt-mul-of-pos-right h lp)
     (le-of-eq (mul-right-comm nb da L ∙ ap (λ (x : ℕ). x * da) eb ∙ mul-assoc B db da ∙ ap (λ (x : ℕ). B * x) (mul-comm db da)))))
-
-value-natural : (x : Float) (a c : ℕ) → HasValue x false a c → T (natural x)
-value-natural nan a c h = absurd h
-value-natural (inf s) a c h = absurd h
-value-natural (fin true m e) a c h = absurd (true≢false (h .0))
-value-natural (fin false m e) a c h = tt
-
-positive-natural : (x : Float) → T (positive x) → T (natural x)
-positive-natural nan p = p
-positive-natural (inf s) p = absurd p
-positive-natural (fin true m e) p = absurd p
-positive-natural (fin false m e) p = tt
 
 -- ---- the root of a number by its parts
 -- what is known of the root r of x, in units: x is N smallest values, r is n * 2 ^ k
@@ -207,23 +199,27 @@ nearest x fx px =
     let Q : ℕ = suc (f .m) * 2 ^ f .k in
     let cx = value→cross x (f .N) (2 ^ 1074) (f .value) in
     let cr = value→cross r Q (2 ^ 1074) (f .root) in
+    let nx = positive-natural x px in
+    let nr = value-natural r Q (2 ^ 1074) (f .root) in
     record {
-      finite = value-natural r Q (2 ^ 1074) (f .root);
+      finite = nr;
       below = λ y fy ny h.
           let u = natural-units y fy ny in
           let Y : ℕ = u .0 * 2 ^ u .1 in
           let cy = value→cross y Y (2 ^ 1074) (u .4) in
-          below-is (num r) (den r) (num y) (den y) (num x) (den x) Q Y (f .N) (2 ^ 1074) cr cy cx (over x r y)
-          (lt-of-lt-of-le (units-below (4 * f .v) (f .m) (f .k) (u .0) (u .1) (f .digits) (u .2) (f .big) (above-low (f .m) (f .v) (f .near)) (units-lt (num y) (den y) (num r) (den r) Y Q (2 ^ 1074) cy cr (pow-pos 1074) h)) (le-of-eq (f .four)));
+          middle-below x r y nx nr ny
+          (below-is (num r) (den r) (num y) (den y) (num x) (den x) Q Y (f .N) (2 ^ 1074) cr cy cx (over x r y)
+          (lt-of-lt-of-le (units-below (4 * f .v) (f .m) (f .k) (u .0) (u .1) (f .digits) (u .2) (f .big) (above-low (f .m) (f .v) (f .near)) (units-lt (num y) (den y) (num r) (den r) Y Q (2 ^ 1074) cy cr (pow-pos 1074) (less y r ny nr h))) (le-of-eq (f .four))));
       above = λ y fy ny h.
           let u = natural-units y fy ny in
           let Y : ℕ = u .0 * 2 ^ u .1 in
           let cy = value→cross y Y (2 ^ 1074) (u .4) in
-          above-is (num r) (den r) (num y) (den y) (num x) (den x) Q Y (f .N) (2 ^ 1074) cr cy cx (over x r y)
-          (lt-of-le-of-lt (le-of-eq (sym (f .four))) (units-above (4 * f .v) (f .m) (f .k) (u .0) (u .1) (f .digits) (u .2) (below-high (f .m) (f .v) (f .near)) (units-lt (num r) (den r) (num y) (den y) Q Y (2 ^ 1074) cr cy (pow-pos 1074) h)));
+          middle-above x r y nx nr ny
+          (above-is (num r) (den r) (num y) (den y) (num x) (den x) Q Y (f .N) (2 ^ 1074) cr cy cx (over x r y)
+          (lt-of-le-of-lt (le-of-eq (sym (f .four))) (units-above (4 * f .v) (f .m) (f .k) (u .0) (u .1) (f .digits) (u .2) (below-high (f .m) (f .v) (f .near)) (units-lt (num r) (den r) (num y) (den y) Q Y (2 ^ 1074) cr cy (pow-pos 1074) (less r y nr ny h)))));
     }
   where
-    over : (x r y : Float) → 0 < square (den r * den y) * den x
+    over : (x r y : Float) → 0 < sq (den r * den y) * den x
     over x r y = mul-pos (mul-pos (mul-pos (den-pos r) (den-pos y)) (mul-pos (den-pos r) (den-pos y))) (den-pos x)
 
 -- ---- the other cases

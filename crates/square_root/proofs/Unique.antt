@@ -2,24 +2,28 @@
 use mathlib.Core.Path.{_≡_, refl, sym, ap, _∙_, subst}
 use mathlib.Core.Bool.{Bool, true, false}
 use Prim.Native.Nat.{ℕ, zero, suc, _*_}
-use native.Mathlib.Nat.{le-refl, le-antisymm, zero-lt-suc}
+use native.Mathlib.Nat.{le-antisymm, zero-lt-suc}
 use lib.Dec.{T, lt→ltb}
 use lib.Ieee.{Float, nan, inf, fin, binary64, fits, round}
 use lib.Ieee.Positive.{num, den, den-pos}
 use lib.Ieee.Scale.{round-same}
+use Rattle.fraction.specs.Order.{≤F-refl}
 use Rattle.binary64.specs.Operators.{negative}
 use Rattle.binary64.specs.Held.{own-round}
 use Rattle.square_root.specs.Standard.{natural, Nearest, SquareRoot}
-use Rattle.square_root.proofs.Monotone.{natural-finite, nearest-mono}
+use Rattle.square_root.proofs.Fractions.{natural-finite, most-val}
+use Rattle.square_root.proofs.Monotone.{nearest-mono}
 
 own : (r : Float) → T (fits binary64 r) → T (natural r) → r ≡ round binary64 false (num r) (den r)
 own r f n = own-round binary64 r (natural-finite r n .0) f ∙ ap (λ (s : Bool). round binary64 s (num r) (den r)) (natural-finite r n .1)
 
 nearest-unique : (x r q : Float) → T (fits binary64 r) → T (fits binary64 q) → Nearest x r → Nearest x q → r ≡ q
 nearest-unique x r q f g a b =
-    own r f (a .finite)
-    ∙ round-same binary64 false (num r) (den r) (num q) (den q) (den-pos r) (den-pos q) (le-antisymm (nearest-mono x x r q f g a b (le-refl (num x * den x))) (nearest-mono x x q r g f b a (le-refl (num x * den x))))
-    ∙ sym (own q g (b .finite))
+    let n = a .finite in
+    let k = b .finite in
+    own r f n
+    ∙ round-same binary64 false (num r) (den r) (num q) (den q) (den-pos r) (den-pos q) (le-antisymm (most-val r q n k (nearest-mono x x r q f g a b ≤F-refl)) (most-val q r k n (nearest-mono x x q r g f b a ≤F-refl)))
+    ∙ sym (own q g k)
 
 pub unique : (x r q : Float) → SquareRoot x r → SquareRoot x q → r ≡ q
 unique nan r q a b = a .none refl ∙ sym (b .none refl)

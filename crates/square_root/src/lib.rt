@@ -2,10 +2,10 @@
 // known, and a test in integers decides whether it is the root; if it is not, the root is found by halving.
 ghost use mathlib.Core.Path.{_≡_};
 ghost use mathlib.Core.Bool.{_&&_};
-ghost use Prim.Native.Nat.{_+_, _*_, _/_, _%_, _^_, _≤_, _<_};
+ghost use Prim.Native.Nat.{_+_, _*_, _^_, _≤_, _<_};
 ghost use lib.Dec.{leb, ltb};
 ghost use lib.Ieee.{binary64, toBits, ofBits};
-ghost use Rattle.square_root.specs.Parts.{unitsOf, Normal};
+ghost use Rattle.square_root.specs.Parts.{PartsOf};
 ghost use Rattle.square_root.specs.Whole.{Squared, NearestWhole, Digits53};
 ghost use Rattle.square_root.specs.Root.{sqrtOf};
 ghost use Rattle.square_root.specs.Standard.{SquareRoot};
@@ -16,12 +16,16 @@ pub struct Parts {
     pub w: u64,
 }
 
-// The parts of the number whose bits are b.
+// The parts of the number whose bits are b, and zeros where that is not finite or not above zero.
 pub fn parts_of(b: u64) -> Parts
-    requires { ⌜ 0 < b ⌝ }
-    requires { ⌜ b < 0x7ff0_0000_0000_0000 ⌝ }
-    ensures { λ r. ⌜ Normal (unitsOf (b / 2 ^ 52) (b % 2 ^ 52)) (r .c) (r .w) ⌝ }
+    ensures { λ r. ⌜ PartsOf b (r .c) (r .w) ⌝ }
 {
+    if b == 0 {
+        return Parts { c: 0, w: 0 };
+    }
+    if b >= 0x7ff0_0000_0000_0000 {
+        return Parts { c: 0, w: 0 };
+    }
     let e = b / 0x10_0000_0000_0000;
     let t = b % 0x10_0000_0000_0000;
     let mut c: u64 = t;
@@ -37,9 +41,10 @@ pub fn parts_of(b: u64) -> Parts
     Parts { c: c, w: w }
 }
 
-// A whole number near 2 ^ 52 times the root of t, for the t from 1 to 4 with digits c and the exponent odd:
-// two steps of Halley for 1 / root of t from a linear start, then s + (t - s * s) / (s + root of t), where s is
-// the root cut to 26 digits, so that its square is exact.
+// A whole number near 2 ^ 52 times the root of t, for the t from 1 to 4 whose digits are c and whose exponent
+// is odd: y goes to 1 / root of t in two steps of third order, from a start that halves the exponent. Then r,
+// which is near the root, is rounded to s, a multiple of 2 ^ -25 with an exact square, and the root is
+// s + (t - s * s) / (root + s). Nothing is claimed of it but its range.
 fn guess(c: u64, odd: u64) -> u64
     requires { ⌜ c < 2 ^ 53 ⌝ }
     requires { ⌜ odd ≤ 1 ⌝ }

@@ -9,7 +9,7 @@ use lib.IntN.{pos}
 use lib.Ieee.{Float, nan, binary64, minus, fits, nanBits, ofBits, toBits}
 use lib.Ieee.Bits.{ofBits-toBits, toBits-lt, ofBits-fits}
 use Rattle.binary64.specs.Operators.{_⊘_, f64}
-use Rattle.square_root.specs.Parts.{unitsOf}
+use Rattle.square_root.specs.Parts.{unitsOf, Normal}
 use Rattle.square_root.proofs.Patterns.{positive-value, positive-units, at-top, at-negative, no-nan-bits, not-nan, zero-by-zero}
 use Rattle.elementary.specs.Ln.{two, lnParts, lnSplit, lnOf}
 use Rattle.elementary.proofs.SignLaws.{is-nan}
@@ -69,26 +69,32 @@ returns-5 c =
 parts-of-requires : tie.Need-parts-of-requires
 parts-of-requires c κs = search needs
 
+-- the number is above zero, and it has parts
+above : (c : tie.After-parts-of) → 0 < bits (c .before .before .before .before .before)
+above c = omega (arith, c .before .before .if4 .left)
+
+normal : (c : tie.After-parts-of) → Normal (unitsOf (bits (c .before .before .before .before .before) / 2 ^ 52) (bits (c .before .before .before .before .before) % 2 ^ 52)) (c .parts-of .result .c) (c .parts-of .result .w)
+normal c = c .parts-of .ensures .number (above c) (c .before .if5 .left)
+
 add-m : tie.Need-add-m
-add-m c = search needs
+add-m c = omega (arith, normal (c .before) .below)
 
 float-from-bits-m : tie.Need-float-from-bits-m
-float-from-bits-m c = no-nan-bits (0x3fe0_0000_0000_0000 + c .before .parts-of .result .c) (omega (arith, c .before .parts-of .ensures .below))
+float-from-bits-m c = no-nan-bits (0x3fe0_0000_0000_0000 + c .before .parts-of .result .c) (omega (arith, normal (c .before) .below))
 
 -- the logarithm, by the parts
 split : (c : tie.After-parts-of) → lnOf (c .before .before .before .before .before .args .x) ≡ lnSplit (f64 (0x3fe0_0000_0000_0000 + c .parts-of .result .c)) (minus (c .parts-of .result .w) 1074)
 split c =
     let start = c .before .before .before .before .before in
     let b = bits start in
-    let above : 0 < b = omega (arith, c .before .before .if4 .left) in
     ap lnOf (sym (back start))
-    ∙ ln-split (f64 b) (unitsOf (b / 2 ^ 52) (b % 2 ^ 52)) (c .parts-of .result .c) (c .parts-of .result .w) (ofBits-fits binary64 b) (positive-value b (c .before .if5 .left)) (positive-units b above) (c .parts-of .ensures)
+    ∙ ln-split (f64 b) (unitsOf (b / 2 ^ 52) (b % 2 ^ 52)) (c .parts-of .result .c) (c .parts-of .result .w) (ofBits-fits binary64 b) (positive-value b (c .before .if5 .left)) (positive-units b (above c)) (normal c)
 
 add-exponent : tie.Need-add-exponent
-add-exponent c = search needs
+add-exponent c = omega (arith, normal (c .before .before) .top)
 
 exponent-requires : tie.Need-exponent-requires
-exponent-requires c κs = search needs
+exponent-requires c κs = omega (arith, normal (c .before .before) .top)
 
 ln-parts-requires : tie.Need-ln-parts-requires
 ln-parts-requires c κs = search needs
@@ -100,7 +106,7 @@ returns-6 c =
     c .ln-parts .ensures ∙ ap (lnParts (m ⊘ two)) (c .before .exponent .ensures) ∙ sym (split p ∙ split-large m (p .parts-of .result .w) (c .before .before .if6 .taken))
 
 exponent-requires-2 : tie.Need-exponent-requires-2
-exponent-requires-2 c κs = search needs
+exponent-requires-2 c κs = omega (arith, normal (c .before .before) .top)
 
 ln-parts-requires-2 : tie.Need-ln-parts-requires-2
 ln-parts-requires-2 c κs = search needs

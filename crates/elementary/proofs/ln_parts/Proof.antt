@@ -7,13 +7,13 @@ use lib.Ieee.{Float}
 use Rattle.binary64.specs.Operators.{_⊕_, _⊖_, _⊗_, _⊘_, f64}
 use Rattle.square_root.proofs.Patterns.{no-nan-bits}
 use Rattle.elementary.specs.Exp.{one}
-use Rattle.elementary.specs.Ln.{two, ln2, terms}
+use Rattle.elementary.specs.Ln.{two, ln2, terms, twentyThree}
 use Rattle.elementary.proofs.LnLaws.{terms-end, terms-step, parts-is}
 use Rattle.elementary.proofs.ln_parts.Statement.{statement}
 use Rattle.elementary.proofs.ln_parts.Tie as tie
 
 abbrev Inv-loop : tie.InvT-loop
-Inv-loop m k s q a₀ j₀ a j = (terms j q a ≡ terms 11 q (one ⊘ f64 0x4037_0000_0000_0000)) × (j ≤ 11)
+Inv-loop m k s q a₀ j₀ a j = (terms j q a ≡ terms 11 q (one ⊘ twentyThree)) × (j ≤ 11)
 
 abbrev μ-loop : tie.MeasureT-loop
 μ-loop m k s q a₀ j₀ a j = j

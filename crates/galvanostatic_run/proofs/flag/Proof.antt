@@ -1,5 +1,5 @@
 -- `galvanostatic_run::flag` meets its contract. Assumes nothing.
-use Rattle.galvanostatic_run.specs.Runs.{flagOf}
+use Rattle.galvanostatic_run.specs.Galvanostatic.{flagOf}
 use Rattle.galvanostatic_run.proofs.flag.Statement.{statement}
 use Rattle.galvanostatic_run.proofs.flag.Tie as tie
 

@@ -1,5 +1,5 @@
 -- `galvanostatic_run::over_after` meets its contract. Assumes nothing.
-use Rattle.galvanostatic_run.specs.Runs.{overAfter}
+use Rattle.galvanostatic_run.specs.Galvanostatic.{overAfter}
 use Rattle.galvanostatic_run.proofs.over_after.Statement.{statement}
 use Rattle.galvanostatic_run.proofs.over_after.Tie as tie
 

@@ -1,5 +1,5 @@
 -- `galvanostatic_run::row_of` meets its contract. Assumes nothing.
-use Rattle.galvanostatic_run.specs.Runs.{rowOf}
+use Rattle.galvanostatic_run.specs.Galvanostatic.{rowOf}
 use borrow.Author.Needs.{needs}
 use Rattle.galvanostatic_run.proofs.row_of.Statement.{statement}
 use Rattle.galvanostatic_run.proofs.row_of.Tie as tie

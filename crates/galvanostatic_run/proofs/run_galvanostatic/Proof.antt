@@ -1,6 +1,8 @@
--- `galvanostatic_run::run_galvanostatic` meets its contract. Assumes nothing.
+-- `galvanostatic_run::run_galvanostatic` meets its contract: a run that is refused changes nothing, any other makes its turns. Assumes nothing.
+use mathlib.Core.Path.{_≡_, refl}
+use native.Mathlib.Omega.{arith}
 use borrow.Author.Tests.{eq-eqb, ne-eqb}
-use Rattle.galvanostatic_run.specs.Runs.{galvanostatic, galvanostaticRows}
+use Rattle.galvanostatic_run.specs.Galvanostatic.{started, galvanostatic, galvanostaticRows}
 use borrow.Author.Needs.{needs}
 use Rattle.galvanostatic_run.proofs.run_galvanostatic.Statement.{statement}
 use Rattle.galvanostatic_run.proofs.run_galvanostatic.Tie as tie
@@ -12,16 +14,21 @@ returns : tie.Need-returns
 unfolding galvanostatic galvanostaticRows
 returns c = (rw (← c .before .run-refusal .ensures, ne-eqb _ _ (c .if1 .taken)), rw (← c .before .run-refusal .ensures, ne-eqb _ _ (c .if1 .taken)))
 
+start-requires : tie.Need-start-requires
+start-requires c κs = search needs
+
 run-rows-requires : tie.Need-run-rows-requires
-run-rows-requires c κs = search needs
+unfolding started
+run-rows-requires c κs = (rw (c .before .start .ensures), (rw (c .before .start .ensures), (omega arith, omega arith)))
 
 same-length : tie.Need-same-length
 same-length c = search needs
 
 returns-2 : tie.Need-returns-2
 unfolding galvanostatic galvanostaticRows
-returns-2 c = (rw (← c .before .before .before .before .before .run-refusal .ensures, eq-eqb _ _ (c .before .before .before .before .if1 .left)) (c .before .before .run-rows .ensures .0), rw (← c .before .before .before .before .before .run-refusal .ensures, eq-eqb _ _ (c .before .before .before .before .if1 .left)) (c .before .before .run-rows .ensures .1))
+returns-2 c = (rw (← c .before .before .before .before .before .before .run-refusal .ensures, eq-eqb _ _ (c .before .before .before .before .before .if1 .left), ← c .before .before .before .before .start .ensures) (c .before .before .run-rows .ensures .0), rw (← c .before .before .before .before .before .before .run-refusal .ensures, eq-eqb _ _ (c .before .before .before .before .before .if1 .left), ← c .before .before .before .before .start .ensures) (c .before .before .run-rows .ensures .1))
 
 pub run-galvanostatic-spec : {M : Type 1} → statement M
 run-galvanostatic-spec =
-    tie.close (tie.spec run-refusal-requires returns run-rows-requires same-length returns-2)
+    tie.close
+    (tie.spec run-refusal-requires returns start-requires run-rows-requires same-length returns-2)

@@ -1,5 +1,5 @@
 -- `galvanostatic_run::run_refusal` meets its contract. Assumes nothing.
-use Rattle.galvanostatic_run.specs.Runs.{runRefusal}
+use Rattle.galvanostatic_run.specs.Galvanostatic.{runRefusal}
 use borrow.Author.Needs.{needs}
 use Rattle.galvanostatic_run.proofs.run_refusal.Statement.{statement}
 use Rattle.galvanostatic_run.proofs.run_refusal.Tie as tie

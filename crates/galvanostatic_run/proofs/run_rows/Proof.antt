@@ -1,72 +1,80 @@
--- `galvanostatic_run::run_rows` meets its contract: each way out of the loop is one law of `RunLaws`. Assumes nothing.
-use Prim.Native.Nat.{_-_}
-use mathlib.Core.Path.{_≡_, refl, _∙_}
-use Rattle.galvanostatic_run.specs.Runs.{started, runAfter, rowsAfter}
-use Rattle.galvanostatic_run.specs.RunLaws.{Going, going-on, ends-refused, ends-stopped, ends-full}
+-- `galvanostatic_run::run_rows` meets its contract: the loop makes the turns of the definition, and leaves as each ending does. Assumes nothing.
+use Prim.Native.Nat.{ℕ, _+_, _-_}
+use mathlib.Core.Path.{_≡_, refl, _∙_, ap}
+use native.Mathlib.Omega.{arith}
+use Rattle.runs.specs.Rows.{runAfter, rowsAfter}
+use Rattle.runs.specs.Laws.{Going, going-on, ends-refused, ends-stopped, ends-full}
+use Rattle.galvanostatic_run.specs.declared.Course.{Course}
+use Rattle.galvanostatic_run.specs.Galvanostatic.{overOf, lastRow, turned, finishedRun, allTurns, allRows}
+use Rattle.galvanostatic_run.specs.Laws.{turned-rows}
 use borrow.Author.Needs.{needs}
 use Rattle.galvanostatic_run.proofs.run_rows.Statement.{statement}
 use Rattle.galvanostatic_run.proofs.run_rows.Tie as tie
 
 abbrev Inv-loop : tie.InvT-loop
-Inv-loop w out₀ total s₀ i₀ out s i = Going w s₀ out₀ total out s i
+Inv-loop w out₀ total run₀ i₀ out run i = Going overOf (turned w) lastRow run₀ out₀ total out run i × (run .rows ≡ i)
 
 abbrev μ-loop : tie.MeasureT-loop
-μ-loop w out₀ total s₀ i₀ out s i = total - i
+μ-loop w out₀ total run₀ i₀ out run i = total - i
 
 loop-holds : tie.Need-loop-holds Inv-loop μ-loop
 unfolding runAfter rowsAfter
-loop-holds c = record { within = search needs; state = refl; on = refl; count = refl; places = refl; long = refl }
+loop-holds c = (record { within = search needs; state = refl; on = c .before .pre .0; places = refl; long = refl }, c .before .pre .1 .0)
 
 turn-requires : tie.Need-turn-requires Inv-loop μ-loop
-turn-requires c κs = search needs
+turn-requires c κs = omega (arith, c .before .loop .inv .1, c .loop-test .taken, c .before .before .before .pre .1 .1 .0)
 
 finished-requires : tie.Need-finished-requires Inv-loop μ-loop
 finished-requires c κs = search needs
 
 same-length : tie.Need-same-length Inv-loop μ-loop
-same-length c = search needs
+same-length c = c .before .before .before .before .before .loop .inv .0 .long
 
 returns : tie.Need-returns Inv-loop μ-loop
-unfolding started
-returns c = let q = ends-refused _ _ _ _ _ _ _ (c .before .before .before .before .before .loop .inv) _ (c .before .before .before .turn .ensures) (c .before .if1 .taken) (c .before .before .before .before .loop-test .taken) in
-    (c .finished .ensures ∙ q .0, q .1)
+unfolding allTurns allRows
+returns c = let q = ends-refused overOf (turned (c .before .before .before .before .before .before .before .args .w)) lastRow _ _ _ _ _ _ (c .before .before .before .before .before .loop .inv .0) _ (c .before .before .before .turn .ensures) (c .before .if1 .taken) (c .before .before .before .before .loop-test .taken) in
+    (c .finished .ensures ∙ ap finishedRun (q .0), q .1)
 
 mul-put-row : tie.Need-mul-put-row Inv-loop μ-loop
-mul-put-row c = search needs
+mul-put-row c = omega (arith, c .before .before .before .before .before .loop-test .taken, c .before .before .before .before .before .before .before .before .pre .1 .1 .0)
 
 put-row-requires : tie.Need-put-row-requires Inv-loop μ-loop
-put-row-requires c κs = search needs
+put-row-requires c κs = omega (arith, c .before .before .before .before .before .loop-test .taken, c .before .before .before .before .before .before .before .before .pre .1 .1 .1, c .before .before .before .before .before .before .loop .inv .0 .long)
 
 add-i : tie.Need-add-i Inv-loop μ-loop
-add-i c = search needs
+add-i c = omega (arith, c .before .before .before .before .before .before .before .before .loop-test .taken, c .before .before .before .before .before .before .before .before .before .before .before .pre .1 .1 .0)
 
 finished-requires-2 : tie.Need-finished-requires-2 Inv-loop μ-loop
 finished-requires-2 c κs = search needs
 
 same-length-2 : tie.Need-same-length-2 Inv-loop μ-loop
-same-length-2 c = search needs
+same-length-2 c = c .before .before .before .before .before .put-row .kept .0 ∙ c .before .before .before .before .before .before .before .before .before .before .before .before .loop .inv .0 .long
 
 returns-2 : tie.Need-returns-2 Inv-loop μ-loop
-unfolding started
-returns-2 c = let q = ends-stopped _ _ _ _ _ _ _ (c .before .before .before .before .before .before .before .before .before .before .before .before .loop .inv) _ _ _ (c .before .before .before .before .before .before .before .before .before .before .turn .ensures) (c .before .before .before .before .before .before .before .before .if1 .left) refl (c .before .before .before .before .before .put-row .ensures) (c .before .before .before .before .before .before .before .before .before .before .before .loop-test .taken) (c .before .if2 .taken) in
-    (c .finished2 .ensures ∙ q .0, q .1)
+unfolding allTurns allRows
+returns-2 c = let q = ends-stopped overOf (turned (c .before .before .before .before .before .before .before .before .before .before .before .before .before .before .args .w)) lastRow _ _ _ _ _ _ (c .before .before .before .before .before .before .before .before .before .before .before .before .loop .inv .0) _ _ _ (c .before .before .before .before .before .before .before .before .before .before .turn .ensures) (c .before .before .before .before .before .before .before .before .if1 .left) refl (c .before .before .before .before .before .put-row .ensures) (c .before .before .before .before .before .before .before .before .before .before .before .loop-test .taken) (c .before .if2 .taken) in
+    (c .finished2 .ensures ∙ ap finishedRun (q .0), q .1)
 
 loop-less : tie.Need-loop-less Inv-loop μ-loop
-loop-less c = search needs
+loop-less c = omega (arith, c .before .before .before .before .before .before .before .before .before .before .loop-test .taken)
 
 loop-again : tie.Need-loop-again Inv-loop μ-loop
-loop-again c = going-on _ _ _ _ _ _ _ (c .before .before .before .before .before .before .before .before .before .before .before .loop .inv) _ _ _ (c .before .before .before .before .before .before .before .before .before .turn .ensures) (c .before .before .before .before .before .before .before .if1 .left) refl (c .before .before .before .before .put-row .ensures) (c .before .before .before .before .put-row .kept .0) (c .before .before .before .before .before .before .before .before .before .before .loop-test .taken) (c .if2 .left)
+loop-again c = let t = c .before .before .before .before .before .before .before .before .before .turn .ensures in
+    let l = c .before .before .before .before .before .before .before .before .before .before .before .loop in (
+      going-on overOf (turned (c .before .before .before .before .before .before .before .before .before .before .before .before .before .args .w)) lastRow _ _ _ _ _ _ (l .inv .0) _ _ _ t (c .before .before .before .before .before .before .before .if1 .left) refl (c .before .before .before .before .put-row .ensures) (c .before .before .before .before .put-row .kept .0) (c .before .before .before .before .before .before .before .before .before .before .loop-test .taken) (c .if2 .left),
+      ap (λ (r : Course). r .rows) t ∙ turned-rows (c .before .before .before .before .before .before .before .before .before .before .before .before .before .args .w) (l .run) (rw t at (c .before .before .before .before .before .before .before .if1 .left)) ∙ ap (λ (k : ℕ). k + 1) (l .inv .1),
+    )
 
 finished-requires-3 : tie.Need-finished-requires-3 Inv-loop μ-loop
 finished-requires-3 c κs = search needs
 
 same-length-3 : tie.Need-same-length-3 Inv-loop μ-loop
-same-length-3 c = search needs
+same-length-3 c = c .before .before .loop .inv .0 .long
 
 returns-3 : tie.Need-returns-3 Inv-loop μ-loop
-unfolding started
-returns-3 c = let q = ends-full _ _ _ _ _ _ _ (c .before .before .loop .inv) (c .before .loop-test .left) in
-    (c .finished3 .ensures ∙ q .0, q .1)
+unfolding allTurns allRows
+returns-3 c = let q = ends-full overOf (turned (c .before .before .before .before .args .w)) lastRow _ _ _ _ _ _ (c .before .before .loop .inv .0) (c .before .loop-test .left) in
+    (c .finished3 .ensures ∙ ap finishedRun (q .0), q .1)
 
 pub run-rows-spec : {M : Type 1} → statement M
 run-rows-spec =

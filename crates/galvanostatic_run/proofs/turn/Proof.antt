@@ -1,6 +1,6 @@
 -- `galvanostatic_run::turn` meets its contract. Assumes nothing.
 use borrow.Author.Tests.{eq-eqb, ne-eqb}
-use Rattle.galvanostatic_run.specs.Runs.{followed, turned}
+use Rattle.galvanostatic_run.specs.Galvanostatic.{followed, turned}
 use borrow.Author.Needs.{needs}
 use Rattle.galvanostatic_run.proofs.turn.Statement.{statement}
 use Rattle.galvanostatic_run.proofs.turn.Tie as tie

@@ -45,10 +45,13 @@ loop-less c = search needs
 
 loop-again : tie.Need-loop-again Inv-loop μ-loop
 unfolding firstBy
-loop-again c = let l = c .before .before .before .loop in
-    (search needs,
-    (search needs,
-    rw (add-one, c .shell-node .ensures, l .inv .1 .1, node-shell (c .before .before .before .before .before .before .before .args .v) _ _ (l .i) (omega arith) (omega arith))))
+loop-again c = let l = c .before .before .before .loop in (
+  search needs,
+  (
+    search needs,
+    rw (add-one, c .shell-node .ensures, l .inv .1 .1, node-shell (c .before .before .before .before .before .before .before .args .v) _ _ (l .i) (omega arith) (omega arith)),
+  ),
+)
 
 surface-node-requires : tie.Need-surface-node-requires Inv-loop μ-loop
 surface-node-requires c κs = search needs

@@ -10,11 +10,8 @@ count-within-requires c κs = search needs
 refusal-unless-requires : tie.Need-refusal-unless-requires
 refusal-unless-requires c κs = search needs
 
-fits-requires : tie.Need-fits-requires
-fits-requires c κs = search needs
-
-profile-fits-requires : tie.Need-profile-fits-requires
-profile-fits-requires c κs = search needs
+fields-fit-requires : tie.Need-fields-fit-requires
+fields-fit-requires c κs = search needs
 
 refusal-unless-requires-2 : tie.Need-refusal-unless-requires-2
 refusal-unless-requires-2 c κs = search needs
@@ -32,8 +29,7 @@ refusal-spec =
     (tie.spec
     count-within-requires
     refusal-unless-requires
-    fits-requires
-    profile-fits-requires
+    fields-fit-requires
     refusal-unless-requires-2
     first-met-requires
     returns)

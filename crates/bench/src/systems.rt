@@ -1,0 +1,75 @@
+// The list of `solve_dense`: the order, the matrix and the right side; the number, and where it is 0 the solution.
+use crate::list::OVER;
+use crate::list::is_f64;
+use crate::list::next_f64;
+use crate::list::next_u64;
+use crate::list::next_word;
+use crate::list::verdict;
+use dense::Solved;
+ghost use Prim.Native.Nat.{_≤_};
+ghost use lib.ListN.{length};
+
+// Keeps x after the places that are kept, where there is room, and says how many are then.
+fn keep(room: &mut [f64], kept: usize, x: f64) -> usize
+    requires { ⌜ kept ≤ length (now room) ⌝ }
+    ensures { λ r. ⌜ r ≤ length (now (room .exit)) ⌝ }
+{
+    if kept < room.len() {
+        room[kept] = x;
+        return kept + 1;
+    }
+    kept
+}
+
+// Reads a slice, its length and its places, into the room that there is, and says how many are kept. With room for a place
+// more than any order asks for, a slice that is cut is still too long.
+fn read_slice(fd: i32, room: &mut [f64]) -> usize
+    ensures { λ r. ⌜ r ≤ length (now (room .exit)) ⌝ }
+{
+    let mut left = next_u64(fd);
+    let mut kept: usize = 0;
+    while left > 0 {
+        kept = keep(room, kept, next_f64(fd));
+        left -= 1;
+    }
+    kept
+}
+
+// Whether the places of a solution are the `listed` next words, by their bits, and then +0.
+fn places_agree(fd: i32, s: Solved, listed: u64) -> bool {
+    let mut left = listed;
+    let mut same = true;
+    for i in 0..32 {
+        if left > 0 {
+            same = same & is_f64(fd, s.x[i]);
+            left -= 1;
+        } else {
+            same = same & (words::to_bits(s.x[i]) == 0);
+        }
+    }
+    same & (left == 0)
+}
+
+fn agrees(fd: i32, s: Solved) -> bool {
+    let number = next_u64(fd);
+    let listed = if number == 0 { next_u64(fd) } else { 0 };
+    (s.refusal == number) & places_agree(fd, s, listed)
+}
+
+// Solves the next system of the list.
+fn solve_next(fd: i32, n: usize, a: &mut [f64], b: &mut [f64]) -> Solved {
+    let rows = read_slice(fd, a);
+    let side = read_slice(fd, b);
+    dense::solve_dense(&a[..rows], &b[..side], n)
+}
+
+pub(crate) fn line(fd: i32) -> u64 {
+    let n = next_word(fd);
+    if n.end == 0 {
+        return OVER;
+    }
+    let mut a = [0.0; 1025];
+    let mut b = [0.0; 33];
+    let s = solve_next(fd, n.value as usize, &mut a, &mut b);
+    verdict(agrees(fd, s))
+}

@@ -1,0 +1,28 @@
+-- `dense::candidate` meets its contract. Assumes nothing.
+use borrow.Author.Needs.{needs}
+use Rattle.dense.specs.Elimination.{candidate}
+use Rattle.dense.proofs.candidate.Statement.{statement}
+use Rattle.dense.proofs.candidate.Tie as tie
+
+mul-abs : tie.Need-mul-abs
+mul-abs c = search needs
+
+add-abs : tie.Need-add-abs
+add-abs c = search needs
+
+mul-abs-2 : tie.Need-mul-abs-2
+mul-abs-2 c = search needs
+
+element-copy-out-abs : tie.Need-element-copy-out-abs
+element-copy-out-abs c = search needs
+
+abs-requires : tie.Need-abs-requires
+abs-requires c κs = search needs
+
+returns : tie.Need-returns
+unfolding candidate
+returns c = rw (c .abs .ensures)
+
+pub candidate-spec : {M : Type 1} → statement M
+candidate-spec =
+    tie.close (tie.spec mul-abs add-abs mul-abs-2 element-copy-out-abs abs-requires returns)

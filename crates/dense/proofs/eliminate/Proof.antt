@@ -1,0 +1,108 @@
+-- `dense::eliminate` meets its contract. Before a turn of the columns, those before it are eliminated and none was refused; before a turn of the
+-- search, p is the pivot of the rows before it, and once every row is looked at it is not below the limit. Assumes nothing.
+use Prim.Native.Nat.{_≤_, _+_, _-_}
+use mathlib.Core.Path.{_≡_, refl, sym, _∙_}
+use mathlib.Core.Bool.{false}
+use mathlib.Core.Logic.{⊎-elim}
+use native.Mathlib.Omega.{arith}
+use borrow.Author.Needs.{needs}
+use Rattle.dense.specs.Loops.{outcome, tryRange, try-none, try-next, try-ends}
+use Rattle.dense.specs.Elimination.{tiny, system, pivotOf, columnDone, eliminated}
+use Rattle.dense.proofs.Pivots.{pivot-first, pivot-next, pivot-row, column-none, column-some}
+use Rattle.dense.proofs.eliminate.Statement.{statement}
+use Rattle.dense.proofs.eliminate.Tie as tie
+
+abbrev Inv-loop : tie.InvT-loop
+Inv-loop a x n refused₀ col p₀ row₀ refused p row = (col ≤ row) × ((row ≤ n) × ((refused ≡ 0) × ((p ≡ pivotOf a col row) × (row ≡ n → tiny (p .val) ≡ false))))
+
+abbrev μ-loop : tie.MeasureT-loop
+μ-loop a x n refused₀ col p₀ row₀ refused p row = n - row
+
+abbrev Inv-columns : tie.InvT-columns
+Inv-columns a₀ x₀ n refused₀ col₀ a x refused col = (col ≤ n) × ((refused ≡ 0) × (outcome 0 (system a x) ≡ tryRange col (columnDone n) (system a₀ x₀)))
+
+abbrev μ-columns : tie.MeasureT-columns
+μ-columns a₀ x₀ n refused₀ col₀ a x refused col = n - col
+
+-- a turn of the search leaves the pivot of one row more
+larger-is : (c : tie.After-larger Inv-loop μ-loop Inv-columns μ-columns) → c .larger .result ≡ pivotOf (c .before .before .before .before .before .before .before .before .columns .a) (c .before .before .before .before .before .before .before .before .columns .col) (c .before .before .before .before .loop .row + 1)
+larger-is c = rw (c .larger .ensures, c .before .candidate2 .ensures, c .before .before .before .before .loop .inv .1 .1 .1 .0) (pivot-next _ _ _ (c .before .before .before .before .loop .inv .0))
+
+columns-holds : tie.Need-columns-holds Inv-loop μ-loop Inv-columns μ-columns
+columns-holds c = (search needs, (refl, rw try-none))
+
+candidate-requires : tie.Need-candidate-requires Inv-loop μ-loop Inv-columns μ-columns
+candidate-requires c κs = search needs
+
+loop-holds : tie.Need-loop-holds Inv-loop μ-loop Inv-columns μ-columns
+loop-holds c = (search needs, (search needs, (c .before .before .before .columns .inv .1 .0, (rw pivot-first (c .candidate .ensures), λ e. absurd (omega (arith, e))))))
+
+candidate-requires-2 : tie.Need-candidate-requires-2 Inv-loop μ-loop Inv-columns μ-columns
+candidate-requires-2 c κs = search needs
+
+larger-requires : tie.Need-larger-requires Inv-loop μ-loop Inv-columns μ-columns
+larger-requires c κs = search needs
+
+add-if1 : tie.Need-add-if1 Inv-loop μ-loop Inv-columns μ-columns
+add-if1 c = search needs
+
+add-row : tie.Need-add-row Inv-loop μ-loop Inv-columns μ-columns
+add-row c = search needs
+
+loop-less : tie.Need-loop-less Inv-loop μ-loop Inv-columns μ-columns
+loop-less c = search needs
+
+loop-again : tie.Need-loop-again Inv-loop μ-loop Inv-columns μ-columns
+loop-again c = (search needs, (search needs, (c .before .before .before .before .before .loop .inv .1 .1 .0, (larger-is (c .before), ⊎-elim (λ w. λ e. w .2 .left) (λ w. λ e. absurd (w .left e)) (c .if1 .came)))))
+
+take-pivot-requires : tie.Need-take-pivot-requires Inv-loop μ-loop Inv-columns μ-columns
+take-pivot-requires c κs =
+    let e : c .before .before .before .loop .row ≡ c .before .before .before .before .before .before .before .before .args .n = omega arith in
+    (search needs, (rw (c .before .before .before .loop .inv .1 .1 .1 .0, e) (pivot-row _ _ _ (c .before .before .before .before .before .before .columns-test .taken)), search needs))
+
+add-col : tie.Need-add-col Inv-loop μ-loop Inv-columns μ-columns
+add-col c = search needs
+
+columns-less : tie.Need-columns-less Inv-loop μ-loop Inv-columns μ-columns
+columns-less c = search needs
+
+columns-again : tie.Need-columns-again Inv-loop μ-loop Inv-columns μ-columns
+columns-again c =
+    let e : c .before .before .before .before .loop .row ≡ c .before .before .before .before .before .before .before .before .before .args .n = omega arith in
+    (search needs, (c .before .before .before .before .loop .inv .1 .1 .0, rw (c .take-pivot .ensures) (sym (try-next _ _ _ _ (c .before .before .before .before .before .before .before .before .columns .inv .1 .1) ∙ column-some _ _ (system (c .before .before .before .before .before .before .before .before .columns .a) (c .before .before .before .before .before .before .before .before .columns .x)) _ (rw e at (c .before .before .before .before .loop .inv .1 .1 .1 .0)) (c .before .before .before .before .loop .inv .1 .1 .1 .1 e)))))
+
+returns : tie.Need-returns Inv-loop μ-loop Inv-columns μ-columns
+unfolding eliminated
+returns c =
+    let e : c .before .columns .col ≡ c .before .before .args .n = omega arith in
+    rw (c .before .columns .inv .1 .0) (rw e at (c .before .columns .inv .1 .1))
+
+returns-2 : tie.Need-returns-2 Inv-loop μ-loop Inv-columns μ-columns
+unfolding eliminated
+returns-2 c =
+    try-ends _ _ _ (c .before .before .before .before .before .before .before .before .before .before .before .columns .col) _ _ (c .before .before .before .before .before .before .before .before .before .before .columns-test .taken) (λ z. absurd (omega (arith, z))) (c .before .before .before .before .before .before .before .before .before .before .before .columns .inv .1 .1)
+    (column-none _ _ (system (c .before .before .before .before .before .before .before .before .before .before .before .columns .a) (c .before .before .before .before .before .before .before .before .before .before .before .columns .x)) _ (rw (c .before .before .if1 .taken) at (larger-is (c .before .before .before))) (c .if2 .taken))
+
+pub eliminate-spec : {M : Type 1} → statement M
+eliminate-spec =
+    tie.close
+    (tie.spec
+    Inv-loop
+    μ-loop
+    Inv-columns
+    μ-columns
+    columns-holds
+    candidate-requires
+    loop-holds
+    candidate-requires-2
+    larger-requires
+    add-if1
+    add-row
+    loop-less
+    loop-again
+    take-pivot-requires
+    add-col
+    columns-less
+    columns-again
+    returns
+    returns-2)

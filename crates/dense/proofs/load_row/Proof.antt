@@ -1,0 +1,78 @@
+-- `dense::load_row` meets its contract: before turn k, k places of the row are copied. Assumes nothing.
+use Prim.Native.Nat.{_≤_, _-_}
+use mathlib.Core.Path.{_≡_}
+use native.Mathlib.Omega.{arith}
+use borrow.Author.Needs.{needs}
+use Rattle.dense.specs.Loops.{forRange, range-none, range-next}
+use Rattle.dense.specs.Solve.{placeLoaded, rowLoaded}
+use Rattle.dense.proofs.load_row.Statement.{statement}
+use Rattle.dense.proofs.load_row.Tie as tie
+
+abbrev Inv-loop : tie.InvT-loop
+Inv-loop m₀ a row n from k₀ m k = (k ≤ n) × (m ≡ forRange 0 k (placeLoaded a n row) m₀)
+
+abbrev μ-loop : tie.MeasureT-loop
+μ-loop m₀ a row n from k₀ m k = n - k
+
+mul-from : tie.Need-mul-from Inv-loop μ-loop
+mul-from c = search needs
+
+loop-holds : tie.Need-loop-holds Inv-loop μ-loop
+loop-holds c = (search needs, rw (range-none 0))
+
+add-m : tie.Need-add-m Inv-loop μ-loop
+add-m c = search needs
+
+mul-m : tie.Need-mul-m Inv-loop μ-loop
+mul-m c = search needs
+
+shared-slice-read-m : tie.Need-shared-slice-read-m Inv-loop μ-loop
+shared-slice-read-m c = search needs
+
+mul-m-2 : tie.Need-mul-m-2 Inv-loop μ-loop
+mul-m-2 c = search needs
+
+add-m-2 : tie.Need-add-m-2 Inv-loop μ-loop
+add-m-2 c = search needs
+
+mul-m-3 : tie.Need-mul-m-3 Inv-loop μ-loop
+mul-m-3 c = search needs
+
+element-write-m : tie.Need-element-write-m Inv-loop μ-loop
+element-write-m c = search needs
+
+add-k : tie.Need-add-k Inv-loop μ-loop
+add-k c = search needs
+
+loop-less : tie.Need-loop-less Inv-loop μ-loop
+loop-less c = search needs
+
+loop-again : tie.Need-loop-again Inv-loop μ-loop
+unfolding placeLoaded
+loop-again c = (search needs, rw (range-next 0 (c .before .before .loop .k) _ _ (omega arith), c .before .before .loop .inv .1))
+
+returns : tie.Need-returns Inv-loop μ-loop
+unfolding rowLoaded
+returns c =
+    let e : c .before .loop .k ≡ c .before .before .args .n = omega arith in
+    rw e at (c .before .loop .inv .1)
+
+pub load-row-spec : {M : Type 1} → statement M
+load-row-spec =
+    tie.close
+    (tie.spec
+    Inv-loop
+    μ-loop
+    mul-from
+    loop-holds
+    add-m
+    mul-m
+    shared-slice-read-m
+    mul-m-2
+    add-m-2
+    mul-m-3
+    element-write-m
+    add-k
+    loop-less
+    loop-again
+    returns)

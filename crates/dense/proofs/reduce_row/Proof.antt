@@ -1,0 +1,94 @@
+-- `dense::reduce_row` meets its contract: before turn k, the row is reduced up to column k. Assumes nothing.
+use Prim.Native.Nat.{_≤_, _-_}
+use mathlib.Core.Path.{_≡_}
+use native.Mathlib.Omega.{arith}
+use borrow.Author.Needs.{needs}
+use Rattle.dense.specs.Loops.{range-none, range-next}
+use Rattle.dense.specs.Elimination.{rowReduced}
+use Rattle.dense.proofs.reduce_row.Statement.{statement}
+use Rattle.dense.proofs.reduce_row.Tie as tie
+
+abbrev Inv-loop : tie.InvT-loop
+Inv-loop a₀ row col n f k₀ a k = (col ≤ k) × ((k ≤ n) × (a ≡ rowReduced row col k f a₀))
+
+abbrev μ-loop : tie.MeasureT-loop
+μ-loop a₀ row col n f k₀ a k = n - k
+
+loop-holds : tie.Need-loop-holds Inv-loop μ-loop
+unfolding rowReduced
+loop-holds c = (search needs, (search needs, rw (range-none (c .args .col))))
+
+mul-a : tie.Need-mul-a Inv-loop μ-loop
+mul-a c = search needs
+
+add-a : tie.Need-add-a Inv-loop μ-loop
+add-a c = search needs
+
+mul-a-2 : tie.Need-mul-a-2 Inv-loop μ-loop
+mul-a-2 c = search needs
+
+element-copy-out-a : tie.Need-element-copy-out-a Inv-loop μ-loop
+element-copy-out-a c = search needs
+
+mul-a-3 : tie.Need-mul-a-3 Inv-loop μ-loop
+mul-a-3 c = search needs
+
+add-a-2 : tie.Need-add-a-2 Inv-loop μ-loop
+add-a-2 c = search needs
+
+mul-a-4 : tie.Need-mul-a-4 Inv-loop μ-loop
+mul-a-4 c = search needs
+
+element-copy-out-a-2 : tie.Need-element-copy-out-a-2 Inv-loop μ-loop
+element-copy-out-a-2 c = search needs
+
+mul-a-5 : tie.Need-mul-a-5 Inv-loop μ-loop
+mul-a-5 c = search needs
+
+add-a-3 : tie.Need-add-a-3 Inv-loop μ-loop
+add-a-3 c = search needs
+
+mul-a-6 : tie.Need-mul-a-6 Inv-loop μ-loop
+mul-a-6 c = search needs
+
+element-write-a : tie.Need-element-write-a Inv-loop μ-loop
+element-write-a c = search needs
+
+add-k : tie.Need-add-k Inv-loop μ-loop
+add-k c = search needs
+
+loop-less : tie.Need-loop-less Inv-loop μ-loop
+loop-less c = search needs
+
+loop-again : tie.Need-loop-again Inv-loop μ-loop
+unfolding rowReduced
+loop-again c = (search needs, (search needs, rw (range-next (c .before .before .before .before .args .col) (c .before .before .before .loop .k) _ _ (omega arith), ← c .before .before .before .loop .inv .1 .1)))
+
+returns : tie.Need-returns Inv-loop μ-loop
+returns c =
+    let e : c .before .loop .k ≡ c .before .before .args .n = omega arith in
+    rw e at (c .before .loop .inv .1 .1)
+
+pub reduce-row-spec : {M : Type 1} → statement M
+reduce-row-spec =
+    tie.close
+    (tie.spec
+    Inv-loop
+    μ-loop
+    loop-holds
+    mul-a
+    add-a
+    mul-a-2
+    element-copy-out-a
+    mul-a-3
+    add-a-2
+    mul-a-4
+    element-copy-out-a-2
+    mul-a-5
+    add-a-3
+    mul-a-6
+    element-write-a
+    add-k
+    loop-less
+    loop-again
+    returns)

@@ -1,0 +1,58 @@
+-- `dense::solve_fit` meets its contract. Assumes nothing.
+use borrow.Author.Needs.{needs}
+use borrow.Author.Tests.{ne-eqb}
+use Rattle.refusal.specs.Numbers.{firstMet}
+use Rattle.dense.specs.Solve.{loaded, reduced, solution, solutionRefusal, answer}
+use Rattle.dense.proofs.solve_fit.Statement.{statement}
+use Rattle.dense.proofs.solve_fit.Tie as tie
+
+load-matrix-requires : tie.Need-load-matrix-requires
+load-matrix-requires c κs = search needs
+
+load-side-requires : tie.Need-load-side-requires
+load-side-requires c κs = search needs
+
+eliminate-requires : tie.Need-eliminate-requires
+eliminate-requires c κs = search needs
+
+answer-requires : tie.Need-answer-requires
+answer-requires c κs = search needs
+
+returns : tie.Need-returns
+unfolding solutionRefusal reduced loaded firstMet answer
+returns c = rw (← c .before .before .before .before .before .before .before .load-matrix .ensures, ← c .before .before .before .before .before .load-side .ensures, ← c .before .before .eliminate .ensures, ne-eqb _ _ (c .before .if1 .taken), c .answer .ensures, ne-eqb _ _ (c .before .if1 .taken))
+
+substitute-requires : tie.Need-substitute-requires
+substitute-requires c κs = search needs
+
+solution-finite-requires : tie.Need-solution-finite-requires
+solution-finite-requires c κs = search needs
+
+refusal-unless-requires : tie.Need-refusal-unless-requires
+refusal-unless-requires c κs = search needs
+
+first-met-requires : tie.Need-first-met-requires
+first-met-requires c κs = search needs
+
+answer-requires-2 : tie.Need-answer-requires-2
+answer-requires-2 c κs = search needs
+
+returns-2 : tie.Need-returns-2
+unfolding solutionRefusal solution reduced loaded firstMet
+returns-2 c = rw (← c .before .before .before .before .before .before .before .before .before .before .before .before .before .before .load-matrix .ensures, ← c .before .before .before .before .before .before .before .before .before .before .before .before .load-side .ensures, ← c .before .before .before .before .before .before .before .before .before .eliminate .ensures, c .before .before .before .before .before .before .before .before .if1 .left, ← c .before .before .before .before .before .substitute .ensures, c .answer2 .ensures, c .before .first-met .ensures, c .before .before .refusal-unless .ensures, c .before .before .before .solution-finite .ensures)
+
+pub solve-fit-spec : {M : Type 1} → statement M
+solve-fit-spec =
+    tie.close
+    (tie.spec
+    load-matrix-requires
+    load-side-requires
+    eliminate-requires
+    answer-requires
+    returns
+    substitute-requires
+    solution-finite-requires
+    refusal-unless-requires
+    first-met-requires
+    answer-requires-2
+    returns-2)

@@ -1,0 +1,48 @@
+-- `dense::swap_places` meets its contract. Assumes nothing.
+use mathlib.Core.Path.{refl}
+use borrow.Author.Needs.{needs}
+use Rattle.dense.specs.Elimination.{swapped}
+use Rattle.dense.proofs.swap_places.Statement.{statement}
+use Rattle.dense.proofs.swap_places.Tie as tie
+
+mul-held : tie.Need-mul-held
+mul-held c = search needs
+
+element-copy-out-held : tie.Need-element-copy-out-held
+element-copy-out-held c = search needs
+
+mul-x : tie.Need-mul-x
+mul-x c = search needs
+
+element-copy-out-x : tie.Need-element-copy-out-x
+element-copy-out-x c = search needs
+
+mul-x-2 : tie.Need-mul-x-2
+mul-x-2 c = search needs
+
+element-write-x : tie.Need-element-write-x
+element-write-x c = search needs
+
+mul-x-3 : tie.Need-mul-x-3
+mul-x-3 c = search needs
+
+element-write-x-2 : tie.Need-element-write-x-2
+element-write-x-2 c = search needs
+
+returns : tie.Need-returns
+unfolding swapped
+returns c = refl
+
+pub swap-places-spec : {M : Type 1} → statement M
+swap-places-spec =
+    tie.close
+    (tie.spec
+    mul-held
+    element-copy-out-held
+    mul-x
+    element-copy-out-x
+    mul-x-2
+    element-write-x
+    mul-x-3
+    element-write-x-2
+    returns)

@@ -1,0 +1,84 @@
+-- Gaussian elimination with partial pivoting, as in `solve_dense` of dfn.rs. Each definition is a loop of the Rust or a turn of one. Definitions only.
+use Prim.Native.Nat.{ℕ, _+_}
+use mathlib.Core.Bool.{Bool, cond}
+use mathlib.Core.List.{List}
+use lib.ListN.{set}
+use lib.Ieee.{Float, lt}
+use Rattle.binary64.specs.Operators.{f64, _⊖_, _⊗_, _⊘_}
+use Rattle.elementary.specs.Choice.{absOf}
+use Rattle.refusal.specs.Numbers.{singular}
+use Rattle.dense.specs.Loops.{forRange, Tried, outcome, tryRange}
+use Rattle.dense.specs.Places.{at, place, entry}
+use Rattle.dense.specs.declared.Pivot.{Pivot}
+
+-- ---- the search for a pivot
+
+-- a row and the absolute value of its entry in column `col`
+unfoldable pub candidate : List Float → ℕ → ℕ → Pivot
+candidate a row col = record { row = row; val = absOf (entry a row col) }
+
+-- `if v > max_val`: of equals the first, and a NaN is neither above nor passed
+unfoldable pub larger : Pivot → Pivot → Pivot
+larger p q = cond (lt (p .val) (q .val)) q p
+
+-- the largest of column `col` in the rows from `col` on, row n excluded
+unfoldable pub pivotOf : List Float → ℕ → ℕ → Pivot
+pivotOf a col n = forRange (col + 1) n (λ row p. larger p (candidate a row col)) (candidate a col col)
+
+-- below 1e-14, which a NaN is not
+abbrev pub tiny : Float → Bool
+tiny v = lt v (f64 0x3d06_849b_86a1_2b9b)
+
+-- ---- the exchange of two rows
+
+-- `swap`: the places p and q exchanged
+unfoldable pub swapped : ℕ → ℕ → List Float → List Float
+swapped p q l = set (set l p (at l q)) q (at l p)
+
+-- the first n places of the rows p and q
+unfoldable pub rowsSwapped : ℕ → ℕ → ℕ → List Float → List Float
+rowsSwapped p q n a = forRange 0 n (λ k m. swapped (place p k) (place q k) m) a
+
+-- ---- the reduction of rows
+
+-- `a[row][k] -= f * a[col][k]` for k from col to n - 1
+unfoldable pub rowReduced : ℕ → ℕ → ℕ → Float → List Float → List Float
+rowReduced row col n f a = forRange col n (λ k m. set m (place row k) (entry m row k ⊖ f ⊗ entry m col k)) a
+
+-- a matrix and its right side
+pub record System : Type 0 where
+  pub matrix : List Float
+  pub side : List Float
+
+abbrev pub system : List Float → List Float → System
+system a x = record { matrix = a; side = x }
+
+-- row `row` less f times row `col`, on both sides
+unfoldable pub rowLess : ℕ → ℕ → ℕ → Float → System → System
+rowLess n col row f s =
+    system (rowReduced row col n f (s .matrix)) (set (s .side) row (at (s .side) row ⊖ f ⊗ at (s .side) col))
+
+-- row `row` so that its entry of column `col` is cleared
+unfoldable pub rowCleared : ℕ → ℕ → Float → ℕ → System → System
+rowCleared n col pivot row s = rowLess n col row (entry (s .matrix) row col ⊘ pivot) s
+
+-- every row below row `col`
+unfoldable pub columnCleared : ℕ → ℕ → System → System
+columnCleared n col s = forRange (col + 1) n (rowCleared n col (entry (s .matrix) col col)) s
+
+-- row `row` exchanged with row `col`, then the column cleared. The Rust leaves the exchange out where the two rows are one; it changes nothing then.
+unfoldable pub pivotTaken : ℕ → ℕ → ℕ → System → System
+pivotTaken n col row s = columnCleared n col (system (rowsSwapped col row n (s .matrix)) (swapped col row (s .side)))
+
+-- ---- elimination
+
+-- a column, by its pivot
+unfoldable pub columnWith : ℕ → ℕ → System → Pivot → Tried System
+columnWith n col s p = cond (tiny (p .val)) (outcome singular s) (outcome 0 (pivotTaken n col (p .row) s))
+
+unfoldable pub columnDone : ℕ → ℕ → System → Tried System
+columnDone n col s = columnWith n col s (pivotOf (s .matrix) col n)
+
+-- `for col in 0..n`, left by a column without a pivot
+unfoldable pub eliminated : ℕ → System → Tried System
+eliminated n s = tryRange n (columnDone n) s

@@ -1,0 +1,62 @@
+-- The whole answer of `solve_dense`: the copies it works on, 01's refusals, the solution. Definitions only.
+use Prim.Native.Nat.{ℕ, _+_, _*_}
+use mathlib.Core.Bool.{_&&_, cond}
+use mathlib.Core.List.{List}
+use lib.Dec.{eqb, leb}
+use lib.ListN.{length, set}
+use lib.Ieee.{Float}
+use Rattle.refusal.specs.Numbers as Numbers
+use Rattle.refusal.specs.Numbers.{grid, sheet, notFinite, refusalUnless, firstMet}
+use Rattle.turns.specs.Turns.{firstBy}
+use Rattle.dense.specs.Loops.{forRange, Tried}
+use Rattle.dense.specs.Places.{at, place, zeros, firstFinite, allFinite}
+use Rattle.dense.specs.Elimination.{System, system, eliminated}
+use Rattle.dense.specs.Substitution.{substituted}
+use Rattle.dense.specs.declared.Solved.{Solved}
+
+-- ---- the copies
+
+-- place k of row `row`, from a, whose rows are n long
+unfoldable pub placeLoaded : List Float → ℕ → ℕ → ℕ → List Float → List Float
+placeLoaded a n row k m = set m (place row k) (at a (row * n + k))
+
+unfoldable pub rowLoaded : List Float → ℕ → ℕ → List Float → List Float
+rowLoaded a n row m = forRange 0 n (placeLoaded a n row) m
+
+unfoldable pub matrixLoaded : List Float → ℕ → List Float → List Float
+matrixLoaded a n m = forRange 0 n (rowLoaded a n) m
+
+unfoldable pub loaded : List Float → List Float → ℕ → System
+loaded a b n = system (matrixLoaded a n (zeros 1024)) (firstBy n (at b) (zeros 32))
+
+-- ---- the two halves. After a refusal a half holds nothing of use, and nothing looks at it.
+unfoldable pub reduced : List Float → List Float → ℕ → Tried System
+reduced a b n = eliminated n (loaded a b n)
+
+unfoldable pub solution : List Float → List Float → ℕ → Tried (List Float)
+solution a b n = substituted (reduced a b n .value .matrix) n (reduced a b n .value .side)
+
+-- ---- the table: 1, 10, 2, then 9 or 8
+
+-- of what is handed in: the order, the lengths, the entries of both sides
+unfoldable pub inputRefusal : List Float → List Float → ℕ → ℕ
+inputRefusal a b n =
+    firstMet (refusalUnless (leb n 32) grid)
+    (firstMet (refusalUnless (eqb (length a) (n * n) && eqb (length b) n) Numbers.length)
+    (refusalUnless (allFinite a && allFinite b) sheet))
+
+-- of the solution: 9 says that there is none, 8 looks at one that there is
+unfoldable pub solutionRefusal : List Float → List Float → ℕ → ℕ
+solutionRefusal a b n =
+    firstMet (reduced a b n .refusal)
+    (firstMet (solution a b n .refusal)
+    (refusalUnless (firstFinite 32 (solution a b n .value)) notFinite))
+
+-- ---- the answer
+
+-- a number with the solution, or with +0 throughout where it is a refusal
+unfoldable pub answer : ℕ → List Float → Solved
+answer number x = record { refusal = number; x = cond (eqb number 0) x (zeros 32) }
+
+unfoldable pub solved : List Float → List Float → ℕ → Solved
+solved a b n = answer (firstMet (inputRefusal a b n) (solutionRefusal a b n)) (solution a b n .value)

@@ -1,0 +1,35 @@
+-- `discharge_run::simulate_discharge` meets its contract: a run that is refused changes nothing, any other makes its turns. Assumes nothing.
+use Prim.Native.Nat.{_/_}
+use mathlib.Core.Path.{_≡_, refl, sym, _∙_, ap}
+use native.Mathlib.Omega.{arith}
+use borrow.Author.Tests.{eq-eqb, ne-eqb}
+use Rattle.discharge_run.specs.Discharge.{started, discharged, dischargedRows}
+use borrow.Author.Needs.{needs}
+use Rattle.discharge_run.proofs.simulate_discharge.Statement.{statement}
+use Rattle.discharge_run.proofs.simulate_discharge.Tie as tie
+
+run-refusal-requires : tie.Need-run-refusal-requires
+run-refusal-requires c κs = search needs
+
+returns : tie.Need-returns
+unfolding discharged dischargedRows
+returns c = (rw (← c .before .run-refusal .ensures, ne-eqb _ _ (c .if1 .taken)), rw (← c .before .run-refusal .ensures, ne-eqb _ _ (c .if1 .taken)))
+
+start-requires : tie.Need-start-requires
+start-requires c κs = search needs
+
+run-rows-requires : tie.Need-run-rows-requires
+unfolding started
+run-rows-requires c κs = (rw (c .before .start .ensures), (omega arith, omega arith))
+
+same-length : tie.Need-same-length
+same-length c = search needs
+
+returns-2 : tie.Need-returns-2
+unfolding discharged dischargedRows
+returns-2 c = (rw (← c .before .before .before .before .before .before .run-refusal .ensures, eq-eqb _ _ (c .before .before .before .before .before .if1 .left), ← c .before .before .before .before .start .ensures) (c .before .before .run-rows .ensures .0), rw (← c .before .before .before .before .before .before .run-refusal .ensures, eq-eqb _ _ (c .before .before .before .before .before .if1 .left), ← c .before .before .before .before .start .ensures) (c .before .before .run-rows .ensures .1))
+
+pub simulate-discharge-spec : {M : Type 1} → statement M
+simulate-discharge-spec =
+    tie.close
+    (tie.spec run-refusal-requires returns start-requires run-rows-requires same-length returns-2)

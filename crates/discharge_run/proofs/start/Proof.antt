@@ -1,0 +1,18 @@
+-- `discharge_run::start` meets its contract. Assumes nothing.
+use Rattle.discharge_run.specs.Discharge.{started}
+use borrow.Author.Needs.{needs}
+use Rattle.discharge_run.proofs.start.Statement.{statement}
+use Rattle.discharge_run.proofs.start.Tie as tie
+
+over-after-requires : tie.Need-over-after-requires
+over-after-requires c κs = search needs
+
+no-state-requires : tie.Need-no-state-requires
+no-state-requires c κs = search needs
+
+returns : tie.Need-returns
+unfolding started
+returns c = cc
+
+pub start-spec : {M : Type 1} → statement M
+start-spec = tie.close (tie.spec over-after-requires no-state-requires returns)

@@ -1,0 +1,217 @@
+// A constant-current run of the single-particle cell into a lent slice. A changed translation of src/battery/p2d/solver.rs
+// (`SpmSolver::simulate_discharge`).
+use runs::Ending;
+use runs::GOING;
+use runs::REFUSED;
+use runs::TIME;
+use runs::VOLTAGE;
+use runs::ending_of;
+use runs::put_row;
+use solver::SpmSolver;
+use solver::SpmState;
+ghost use mathlib.Core.Path.{_≡_};
+ghost use Prim.Native.Nat.{_<_, _≤_, _^_, _*_};
+ghost use lib.ListN.{length};
+ghost use Rattle.discharge_run.specs.Discharge.{timeOver, overAfter, started, turned, rowOf, runSaid, finishedRun, allTurns, allRows, runRefusal, discharged, dischargedRows, feedOf};
+
+// What each step of a run is fed, and the run's time limit.
+pub struct Feed {
+    pub current_a: f64,
+    pub dt: f64,
+    pub temp_k: f64,
+    pub max_time_s: f64,
+}
+
+// A run on its way: the cell, the run's own clock, the rows so far, what has ended it, a refusal's number, the last report.
+pub struct Run {
+    pub solver: SpmSolver,
+    pub clock: f64,
+    pub rows: usize,
+    pub over: u64,
+    pub refusal: u64,
+    pub state: SpmState,
+}
+
+// What a run gives: how it ended, how many rows it wrote, and the cell after them.
+pub struct DischargeRun {
+    pub ending: Ending,
+    pub rows: usize,
+    pub solver: SpmSolver,
+}
+
+// Whether the time is over.
+fn time_over(w: Feed, clock: f64) -> bool
+    ensures { λ r. ⌜ r ≡ timeOver w clock ⌝ }
+{
+    !(clock < w.max_time_s)
+}
+
+// What ends the run after a row: the voltage, then the time.
+fn over_after(w: Feed, cutoff: bool, clock: f64) -> u64
+    ensures { λ r. ⌜ r ≡ overAfter w cutoff clock ⌝ }
+{
+    if cutoff {
+        return VOLTAGE;
+    }
+    if time_over(w, clock) {
+        return TIME;
+    }
+    GOING
+}
+
+// The run before its first step.
+fn start(w: Feed, s: SpmSolver) -> Run
+    ensures { λ r. ⌜ r ≡ started w s ⌝ }
+{
+    let over = over_after(w, false, 0.0);
+    let state = solver::no_state();
+    Run {
+        solver: s,
+        clock: 0.0,
+        rows: 0,
+        over,
+        refusal: 0,
+        state,
+    }
+}
+
+// One turn of a run that goes on.
+fn turn(w: Feed, s: Run) -> Run
+    requires { ⌜ s .rows < 2 ^ 61 ⌝ }
+    ensures { λ r. ⌜ r ≡ turned w s ⌝ }
+{
+    let old = s.solver;
+    let t = old.step(w.current_a, w.dt, w.temp_k);
+    let cell = t.solver;
+    let state = t.state;
+    if t.refusal != 0 {
+        let last = s.state;
+        return Run {
+            solver: cell,
+            clock: s.clock,
+            rows: s.rows,
+            over: REFUSED,
+            refusal: t.refusal,
+            state: last,
+        };
+    }
+    let clock = s.clock + w.dt;
+    let over = over_after(w, state.cutoff, clock);
+    Run {
+        solver: cell,
+        clock,
+        rows: s.rows + 1,
+        over,
+        refusal: 0,
+        state,
+    }
+}
+
+// The row of a report: its eight fields, the cutoff as 1 or 0.
+fn row_of(s: SpmState) -> [f64; 8]
+    ensures { λ r. ⌜ r ≡ rowOf s ⌝ }
+{
+    let mut cutoff = 0.0;
+    if s.cutoff {
+        cutoff = 1.0;
+    }
+    [
+        s.voltage,
+        s.current,
+        s.theta_neg,
+        s.theta_pos,
+        s.theta_neg_avg,
+        s.theta_pos_avg,
+        s.time_s,
+        cutoff,
+    ]
+}
+
+// What a run that has stopped gives.
+fn finished(s: Run) -> DischargeRun
+    ensures { λ r. ⌜ runSaid r ≡ finishedRun s ⌝ }
+{
+    let cell = s.solver;
+    DischargeRun {
+        ending: ending_of(s.over, s.refusal),
+        rows: s.rows,
+        solver: cell,
+    }
+}
+
+// The number that refuses the whole run: 1, 10, 2, 3, 4, 5.
+fn run_refusal(w: Feed, s: SpmSolver, places: usize) -> u64
+    ensures { λ r. ⌜ r ≡ runRefusal w s places ⌝ }
+{
+    let grid = refusal::refusal_unless(s.grid_fits(), refusal::GRID);
+    let length = refusal::refusal_unless(8 <= places, refusal::LENGTH);
+    let fields = refusal::refusal_unless(s.fields_fit(), refusal::SHEET);
+    let load = refusal::refusal_unless(refusal::load_fits(w.current_a, 1e6), refusal::LOAD);
+    let times = refusal::interval_fits(w.dt) & refusal::is_finite(w.max_time_s);
+    let interval = refusal::refusal_unless(times, refusal::INTERVAL);
+    let temperature = refusal::refusal_unless(
+        refusal::temperature_fits(w.temp_k),
+        refusal::TEMPERATURE,
+    );
+    let late = refusal::first_met(load, refusal::first_met(interval, temperature));
+    refusal::first_met(
+        grid,
+        refusal::first_met(length, refusal::first_met(fields, late)),
+    )
+}
+
+// At most `total` turns of a run, each step with its row.
+fn run_rows(w: Feed, first: Run, out: &mut [f64], total: usize) -> DischargeRun
+    requires { ⌜ (first .rows ≡ 0) × ((total < 2 ^ 61) × (total * 8 ≤ length (now out))) ⌝ }
+    ensures result { λ r. ⌜ runSaid r ≡ allTurns w first total ⌝ }
+    ensures rows { λ r. ⌜ now (out .exit) ≡ allRows w first total (now (out .entry)) ⌝ }
+{
+    let mut run = first;
+    if run.over != 0 {
+        return finished(run);
+    }
+    let mut i = 0;
+    while i < total {
+        run = turn(w, run);
+        if run.over == 4 {
+            return finished(run);
+        }
+        let state = run.state;
+        put_row(out, i * 8, row_of(state));
+        i += 1;
+        if run.over != 0 {
+            return finished(run);
+        }
+    }
+    finished(run)
+}
+
+// Discharges, or charges at a negative current, until the voltage, the time or a refusal ends the run or the slice is full.
+pub fn simulate_discharge(
+    s: SpmSolver,
+    current_a: f64,
+    dt: f64,
+    temp_k: f64,
+    max_time_s: f64,
+    out: &mut [f64],
+) -> DischargeRun
+    ensures result { λ r. ⌜ runSaid r ≡ discharged (feedOf «current_a» dt «temp_k» «max_time_s») s (length (now (out .entry))) ⌝ }
+    ensures rows { λ r. ⌜ now (out .exit) ≡ dischargedRows (feedOf «current_a» dt «temp_k» «max_time_s») s (now (out .entry)) ⌝ }
+{
+    let w = Feed {
+        current_a,
+        dt,
+        temp_k,
+        max_time_s,
+    };
+    let number = run_refusal(w, s, out.len());
+    if number != 0 {
+        return DischargeRun {
+            ending: Ending::Refused(number),
+            rows: 0,
+            solver: s,
+        };
+    }
+    let total = out.len() / 8;
+    run_rows(w, start(w, s), out, total)
+}

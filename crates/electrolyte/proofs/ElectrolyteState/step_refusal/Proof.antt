@@ -1,0 +1,72 @@
+-- `electrolyte::ElectrolyteState::step_refusal` meets its contract. Assumes nothing.
+use borrow.Author.Needs.{needs}
+use Rattle.electrolyte.specs.Calls.{stepRefusal}
+use Rattle.electrolyte.proofs.ElectrolyteState.step_refusal.Statement.{statement}
+use Rattle.electrolyte.proofs.ElectrolyteState.step_refusal.Tie as tie
+
+load-fits-requires : tie.Need-load-fits-requires
+load-fits-requires c κs = search needs
+
+load-fits-requires-2 : tie.Need-load-fits-requires-2
+load-fits-requires-2 c κs = search needs
+
+refusal-unless-requires : tie.Need-refusal-unless-requires
+refusal-unless-requires c κs = search needs
+
+interval-fits-requires : tie.Need-interval-fits-requires
+interval-fits-requires c κs = search needs
+
+refusal-unless-requires-2 : tie.Need-refusal-unless-requires-2
+refusal-unless-requires-2 c κs = search needs
+
+temperature-fits-requires : tie.Need-temperature-fits-requires
+temperature-fits-requires c κs = search needs
+
+refusal-unless-requires-3 : tie.Need-refusal-unless-requires-3
+refusal-unless-requires-3 c κs = search needs
+
+refusal-requires : tie.Need-refusal-requires
+refusal-requires c κs = search needs
+
+first-met-requires : tie.Need-first-met-requires
+first-met-requires c κs = search needs
+
+first-met-requires-2 : tie.Need-first-met-requires-2
+first-met-requires-2 c κs = search needs
+
+first-met-requires-3 : tie.Need-first-met-requires-3
+first-met-requires-3 c κs = search needs
+
+returns : tie.Need-returns
+unfolding stepRefusal
+returns c =
+    rw (
+      c .first-met3 .ensures,
+      c .before .first-met2 .ensures,
+      c .before .before .first-met .ensures,
+      c .before .before .before .refusal .ensures,
+      c .before .before .before .before .refusal-unless3 .ensures,
+      c .before .before .before .before .before .temperature-fits .ensures,
+      c .before .before .before .before .before .before .refusal-unless2 .ensures,
+      c .before .before .before .before .before .before .before .interval-fits .ensures,
+      c .before .before .before .before .before .before .before .before .refusal-unless .ensures,
+      c .before .before .before .before .before .before .before .before .before .load-fits2 .ensures,
+      c .before .before .before .before .before .before .before .before .before .before .load-fits .ensures,
+    )
+
+pub step-refusal-spec : {M : Type 1} → statement M
+step-refusal-spec =
+    tie.close
+    (tie.spec
+    load-fits-requires
+    load-fits-requires-2
+    refusal-unless-requires
+    interval-fits-requires
+    refusal-unless-requires-2
+    temperature-fits-requires
+    refusal-unless-requires-3
+    refusal-requires
+    first-met-requires
+    first-met-requires-2
+    first-met-requires-3
+    returns)

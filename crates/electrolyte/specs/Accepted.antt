@@ -1,0 +1,55 @@
+-- What a call that nothing refuses has met. Assumes nothing.
+use Prim.Native.Nat.{ℕ, _+_, _≤_}
+use mathlib.Core.Path.{_≡_}
+use mathlib.Core.Bool.{_&&_}
+use native.Mathlib.Omega.{arith}
+use lib.Dec.{T, leb, leb→le}
+use lib.Ieee.{Float}
+use lib.Ieee.Fits.{and-l, and-r}
+use Rattle.refusal.specs.Numbers.{none-met, passed, grid, sheet}
+use Rattle.electrolyte.specs.declared.ElectrolyteState.{ElectrolyteState}
+use Rattle.electrolyte.specs.Params.{paramsFit}
+use Rattle.electrolyte.specs.Profile.{total, countsFit, regionsFit, profileFits}
+use Rattle.electrolyte.specs.Calls.{buildRefusal, stateRefusal, stepRefusal}
+
+-- three counts of at most 32 are at most 96 together
+at-most : (a b c : ℕ) → T (leb 1 a && leb a 32 && leb 1 b && leb b 32 && leb 1 c && leb c 32) → a + b + c ≤ 96
+at-most a b c h =
+    let h5 = and-l (leb 1 a && leb a 32 && leb 1 b && leb b 32 && leb 1 c) (leb c 32) h in
+    let h4 = and-l (leb 1 a && leb a 32 && leb 1 b && leb b 32) (leb 1 c) h5 in
+    let h3 = and-l (leb 1 a && leb a 32 && leb 1 b) (leb b 32) h4 in
+    let h2 = and-l (leb 1 a && leb a 32) (leb 1 b) h3 in
+    let x : a ≤ 32 = leb→le a 32 (and-r (leb 1 a) (leb a 32) h2) in
+    let y : b ≤ 32 = leb→le b 32 (and-r (leb 1 a && leb a 32 && leb 1 b) (leb b 32) h4) in
+    let z : c ≤ 32 = leb→le c 32 (and-r (leb 1 a && leb a 32 && leb 1 b && leb b 32 && leb 1 c) (leb c 32) h) in
+    omega arith
+
+module _ (e : ElectrolyteState) where
+  -- a build
+  pub build-total : buildRefusal e ≡ 0 → total e ≤ 96
+  unfolding buildRefusal
+  build-total h = at-most (e .«n_neg») (e .«n_sep») (e .«n_pos») (passed (countsFit e) grid (omega arith) (none-met _ _ h .0))
+
+  pub build-params : buildRefusal e ≡ 0 → T (paramsFit (e .params))
+  unfolding buildRefusal
+  build-params h = and-l (paramsFit (e .params)) (regionsFit e) (passed (paramsFit (e .params) && regionsFit e) sheet (omega arith) (none-met _ _ h .1))
+
+  -- a state handed in
+  pub state-build : stateRefusal e ≡ 0 → buildRefusal e ≡ 0
+  unfolding stateRefusal
+  state-build h = none-met _ _ h .0
+
+  pub state-profile : stateRefusal e ≡ 0 → T (profileFits (e .«c_e») (total e))
+  unfolding stateRefusal
+  state-profile h = passed (profileFits (e .«c_e») (total e)) sheet (omega arith) (none-met _ _ h .1)
+
+  pub state-total : stateRefusal e ≡ 0 → total e ≤ 96
+  state-total h = build-total (state-build h)
+
+  -- a step
+  pub step-state : (jNeg jPos dt t : Float) → stepRefusal e jNeg jPos dt t ≡ 0 → stateRefusal e ≡ 0
+  unfolding stepRefusal
+  step-state jNeg jPos dt t h = none-met _ _ h .0
+
+  pub step-total : (jNeg jPos dt t : Float) → stepRefusal e jNeg jPos dt t ≡ 0 → total e ≤ 96
+  step-total jNeg jPos dt t h = state-total (step-state jNeg jPos dt t h)

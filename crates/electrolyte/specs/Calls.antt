@@ -1,0 +1,98 @@
+-- What each call answers: the first number of the table that it meets, or its value. Definitions only.
+use Prim.Native.Nat.{ℕ}
+use mathlib.Core.Bool.{Bool, cond, _&&_}
+use mathlib.Core.List.{List, [], _∷_}
+use lib.Dec.{eqb}
+use lib.Ieee.{Float}
+use Rattle.binary64.specs.Operators.{f64}
+use Rattle.refusal.specs.Numbers.{firstMet, refusalUnless, grid, sheet, load, interval, temperature, notFinite}
+use Rattle.refusal.specs.Ranges.{inRange, loadFits, intervalFits, temperatureFits}
+use Rattle.refusal.specs.Answers.{Said, finiteOutcome}
+use Rattle.electrolyte.specs.declared.ElectrolyteParams.{ElectrolyteParams}
+use Rattle.electrolyte.specs.declared.ElectrolyteState.{ElectrolyteState}
+use Rattle.electrolyte.specs.declared.StateAnswer.{StateAnswer}
+use Rattle.electrolyte.specs.declared.Count.{Count}
+use Rattle.electrolyte.specs.declared.Count.the-variants.{Value, Refused}
+use Rattle.electrolyte.specs.Params.{paramsFit, diffusivity, conductivity, diffusivityEff, conductivityEff}
+use Rattle.electrolyte.specs.Profile.{total, countsFit, regionsFit, profileFits, noState, withProfile, uniformProfile, averageOf, stableInterval}
+use Rattle.electrolyte.specs.Step.{driveOf, profileNew, allFinite}
+
+-- ---- the rates
+-- 2, then 5
+unfoldable pub rateRefusal : Bool → Float → ℕ
+rateRefusal fits t = firstMet (refusalUnless fits sheet) (refusalUnless (temperatureFits t) temperature)
+
+-- the parameters, and a porosity in 0.01 to 1
+abbrev porousFit : ElectrolyteParams → Float → Bool
+porousFit p eps = paramsFit p && inRange eps (f64 0x3f84_7ae1_47ae_147b) (f64 0x3ff0_0000_0000_0000)
+
+unfoldable pub dE : ElectrolyteParams → Float → Said
+dE p t = finiteOutcome (rateRefusal (paramsFit p) t) (diffusivity p t)
+
+unfoldable pub kappaCall : ElectrolyteParams → Float → Said
+kappaCall p t = finiteOutcome (rateRefusal (paramsFit p) t) (conductivity p t)
+
+unfoldable pub dEEff : ElectrolyteParams → Float → Float → Said
+dEEff p eps t = finiteOutcome (rateRefusal (porousFit p eps) t) (diffusivityEff p eps t)
+
+unfoldable pub kappaEff : ElectrolyteParams → Float → Float → Said
+kappaEff p eps t = finiteOutcome (rateRefusal (porousFit p eps) t) (conductivityEff p eps t)
+
+-- ---- the state
+-- a build: 1, then 2
+unfoldable pub buildRefusal : ElectrolyteState → ℕ
+buildRefusal e = firstMet (refusalUnless (countsFit e) grid) (refusalUnless (paramsFit (e .params) && regionsFit e) sheet)
+
+-- a state handed in: the same, and 2 for its profile
+unfoldable pub stateRefusal : ElectrolyteState → ℕ
+stateRefusal e = firstMet (buildRefusal e) (refusalUnless (profileFits (e .«c_e») (total e)) sheet)
+
+abbrev pub answer : ℕ → ElectrolyteState → StateAnswer
+answer n e = record { refusal = n; state = e }
+
+-- c_e_init at every node, or the number and the record of zeros
+unfoldable pub built : ElectrolyteState → StateAnswer
+built e = cond (eqb (buildRefusal e) 0) (answer 0 (withProfile e (uniformProfile (e .params .«c_e_init») (total e)))) (answer (buildRefusal e) noState)
+
+-- ---- whole numbers
+-- what a call that gives a whole number says: the number of the refusal and no value, or 0 and the value
+pub record Counted : Type 0 where
+  pub number : ℕ
+  pub values : List ℕ
+
+-- each case of the enum
+abbrev pub counted : Count → Counted
+counted (Value n) = record { number = 0; values = n ∷ [] }
+counted (Refused k) = record { number = k; values = [] }
+
+unfoldable pub nTotal : ElectrolyteState → Counted
+nTotal e = cond (eqb (stateRefusal e) 0) (record { number = 0; values = total e ∷ [] }) (record { number = stateRefusal e; values = [] })
+
+-- ---- numbers
+unfoldable pub cAvg : ElectrolyteState → Said
+cAvg e = finiteOutcome (stateRefusal e) (averageOf e)
+
+unfoldable pub dtStable : ElectrolyteState → Float → Said
+dtStable e t = finiteOutcome (firstMet (stateRefusal e) (refusalUnless (temperatureFits t) temperature)) (stableInterval e t)
+
+-- ---- the step
+-- a source is at most 1e9 in size
+abbrev sourceFits : Float → Bool
+sourceFits j = loadFits j (f64 0x41cd_cd65_0000_0000)
+
+-- 1 and 2, then 3, 4, 5
+unfoldable pub stepRefusal : ElectrolyteState → Float → Float → Float → Float → ℕ
+stepRefusal e jNeg jPos dt t =
+    firstMet (stateRefusal e)
+    (firstMet (refusalUnless (sourceFits jNeg && sourceFits jPos) load)
+    (firstMet (refusalUnless (intervalFits dt) interval) (refusalUnless (temperatureFits t) temperature)))
+
+-- the new profile, or 8 and the state as it was
+unfoldable pub accepted : ElectrolyteState → List Float → StateAnswer
+accepted e c = cond (allFinite c) (answer 0 (withProfile e c)) (answer notFinite e)
+
+unfoldable pub stepped : ElectrolyteState → Float → Float → Float → Float → StateAnswer
+stepped e jNeg jPos dt t =
+    cond (eqb (stepRefusal e jNeg jPos dt t) 0)
+    (accepted e (profileNew (driveOf e jNeg jPos dt t) (e .«c_e»)))
+    (answer (stepRefusal e jNeg jPos dt t) e)

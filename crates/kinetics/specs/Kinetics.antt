@@ -1,0 +1,46 @@
+-- The kinetics of a single-particle cell, from solver.rs. Definitions only.
+use Prim.Native.Nat.{ℕ}
+use mathlib.Core.Bool.{Bool, cond, _&&_}
+use lib.Ieee.{Float, le, lt, neg}
+use Rattle.binary64.specs.Operators.{_⊕_, _⊖_, _⊗_, _⊘_, f64}
+use Rattle.square_root.specs.Root.{sqrtOf}
+use Rattle.elementary.specs.Choice.{clampOf, signumOf}
+use Rattle.elementary.specs.Asinh.{asinhOf}
+use Rattle.electrode.specs.declared.ElectrodeParams.{ElectrodeParams}
+use Rattle.electrode.specs.Sheet.{specificArea}
+use Rattle.particle.specs.declared.ParticleDiffusion.{ParticleDiffusion}
+use Rattle.particle.specs.Particle.{surfaceTheta}
+use Rattle.kinetics.specs.declared.SpmConfig.{SpmConfig}
+
+-- every field but the count of nodes in its closed range
+abbrev pub configFits : SpmConfig → Bool
+configFits s =
+    -- -10 to 10, in either order
+    le (neg (f64 0x4024_0000_0000_0000)) (s .«v_min») && le (s .«v_min») (f64 0x4024_0000_0000_0000)
+    && le (neg (f64 0x4024_0000_0000_0000)) (s .«v_max») && le (s .«v_max») (f64 0x4024_0000_0000_0000)
+    -- 9e4 to 1e5
+    && le (f64 0x40f5_f900_0000_0000) (s .faraday) && le (s .faraday) (f64 0x40f8_6a00_0000_0000)
+    -- 8 to 9
+    && le (f64 0x4020_0000_0000_0000) (s .«r_gas») && le (s .«r_gas») (f64 0x4022_0000_0000_0000)
+    -- 0 to 1
+    && le (f64 0) (s .«r_electrolyte_ohm_m2») && le (s .«r_electrolyte_ohm_m2») (f64 0x3ff0_0000_0000_0000)
+
+-- a_s * L * F
+unfoldable pub wallCurrent : ElectrodeParams → Float → Float
+wallCurrent p faraday = specificArea p ⊗ p .thickness ⊗ faraday
+
+-- k_bv * sqrt(c_ss * (c_s_max - c_ss) * 1000), the surface's stoichiometry clamped to 0.01 to 0.99
+unfoldable pub exchange : ParticleDiffusion → Float
+exchange p =
+    let c_ss = clampOf (surfaceTheta p) (f64 0x3f84_7ae1_47ae_147b) (f64 0x3fef_ae14_7ae1_47ae) ⊗ p .params .«c_s_max» in
+    p .params .«k_bv» ⊗ sqrtOf (c_ss ⊗ (p .params .«c_s_max» ⊖ c_ss) ⊗ f64 0x408f_4000_0000_0000)
+
+-- (2 R T / F) asinh(j / (2 i0)); 0 where i0 is below 1e-30
+unfoldable pub overpotential : SpmConfig → Float → ParticleDiffusion → Float → Float
+overpotential s j p t =
+    cond (lt (exchange p) (f64 0x39b4_484b_feeb_c2a0)) (f64 0)
+    (f64 0x4000_0000_0000_0000 ⊗ s .«r_gas» ⊗ t ⊘ s .faraday ⊗ asinhOf (j ⊘ (f64 0x4000_0000_0000_0000 ⊗ exchange p)))
+
+-- (u_pos + eta_pos) - (u_neg + eta_neg) - v_ohm * signum(I)
+abbrev pub terminalVoltage : Float → Float → Float → Float → Float → Float → Float
+terminalVoltage u_neg u_pos eta_neg eta_pos v_ohm i = (u_pos ⊕ eta_pos) ⊖ (u_neg ⊕ eta_neg) ⊖ v_ohm ⊗ signumOf i

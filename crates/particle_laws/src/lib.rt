@@ -1,0 +1,1 @@
+// What is proved of a particle's calls beyond their contracts, in specs/. No code.

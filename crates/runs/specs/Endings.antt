@@ -1,0 +1,37 @@
+-- The endings of a run in document 01's words: voltage, time, full, refused, with their numbers here, and a refusal's number. Definitions only.
+use Prim.Native.Nat.{ℕ}
+use mathlib.Core.Bool.{cond}
+use lib.Dec.{eqb}
+use Rattle.runs.specs.declared.Ending.{Ending}
+use Rattle.runs.specs.declared.Ending.the-variants.{Voltage, Time, Full, Refused}
+
+abbrev pub byVoltage : ℕ
+byVoltage = 1
+
+abbrev pub byTime : ℕ
+byTime = 2
+
+abbrev pub byFull : ℕ
+byFull = 3
+
+abbrev pub byRefusal : ℕ
+byRefusal = 4
+
+-- which ending, and the number of the refusal, 0 for none
+pub record Ended : Type 0 where
+  pub ending : ℕ
+  pub refusal : ℕ
+
+-- each case of the enum
+abbrev pub endingSaid : Ending → Ended
+endingSaid Voltage = record { ending = byVoltage; refusal = 0 }
+endingSaid Time = record { ending = byTime; refusal = 0 }
+endingSaid Full = record { ending = byFull; refusal = 0 }
+endingSaid (Refused k) = record { ending = byRefusal; refusal = k }
+
+-- what has ended a run so far, and what that makes it: a run that nothing ended is full
+unfoldable pub endingOf : ℕ → ℕ → Ended
+endingOf over k =
+    cond (eqb over 0) (record { ending = byFull; refusal = 0 })
+    (cond (eqb over 1) (record { ending = byVoltage; refusal = 0 })
+    (cond (eqb over 2) (record { ending = byTime; refusal = 0 }) (record { ending = byRefusal; refusal = k })))

@@ -1,0 +1,47 @@
+// Runs into a lent slice, eight places a step: how a run ends, and a row in its place.
+
+ghost use mathlib.Core.Path.{_≡_};
+ghost use Prim.Native.Nat.{_+_, _≤_};
+ghost use lib.ListN.{length, getD};
+ghost use lib.Ieee.{nan};
+ghost use Rattle.places.specs.Places.{placesBy};
+ghost use Rattle.runs.specs.Endings.{endingSaid, endingOf};
+
+// How a run ends: by the voltage, by the time, with every whole row written, or by a refusal and its number.
+pub enum Ending {
+    Voltage,
+    Time,
+    Full,
+    Refused(u64),
+}
+
+// What has ended a run so far: nothing, the voltage, the time, a refusal. A run that nothing ended is full.
+pub const GOING: u64 = 0;
+
+pub const VOLTAGE: u64 = 1;
+
+pub const TIME: u64 = 2;
+
+pub const REFUSED: u64 = 4;
+
+// The ending of a run that has stopped.
+pub fn ending_of(over: u64, refusal: u64) -> Ending
+    ensures { λ r. ⌜ endingSaid r ≡ endingOf over refusal ⌝ }
+{
+    match over {
+        0 => Ending::Full,
+        1 => Ending::Voltage,
+        2 => Ending::Time,
+        _ => Ending::Refused(refusal),
+    }
+}
+
+// Writes a row of eight places at `at`.
+pub fn put_row(out: &mut [f64], at: usize, row: [f64; 8])
+    requires { ⌜ at + 8 ≤ length (now out) ⌝ }
+    ensures { λ _. ⌜ now (out .exit) ≡ placesBy at 8 (λ k. getD row k nan) (now (out .entry)) ⌝ }
+{
+    for k in 0..8 {
+        out[at + k] = row[k];
+    }
+}

@@ -1,0 +1,12 @@
+-- `solver::no_state` meets its contract. Assumes nothing.
+use mathlib.Core.Path.{_≡_, refl}
+use Rattle.solver.specs.Step.{noState}
+use Rattle.solver.proofs.no_state.Statement.{statement}
+use Rattle.solver.proofs.no_state.Tie as tie
+
+returns : tie.Need-returns
+unfolding noState
+returns c = refl
+
+pub no-state-spec : {M : Type 1} → statement M
+no-state-spec = tie.close (tie.spec returns)

@@ -1,0 +1,35 @@
+-- `solver::plan_refusal` meets its contract. Assumes nothing.
+use Rattle.solver.specs.Step.{planRefusal}
+use borrow.Author.Needs.{needs}
+use Rattle.solver.proofs.plan_refusal.Statement.{statement}
+use Rattle.solver.proofs.plan_refusal.Tie as tie
+
+within-requires : tie.Need-within-requires
+within-requires c κs = search needs
+
+within-requires-2 : tie.Need-within-requires-2
+within-requires-2 c κs = search needs
+
+refusal-unless-requires : tie.Need-refusal-unless-requires
+refusal-unless-requires c κs = search needs
+
+refusal-unless-requires-2 : tie.Need-refusal-unless-requires-2
+refusal-unless-requires-2 c κs = search needs
+
+first-met-requires : tie.Need-first-met-requires
+first-met-requires c κs = search needs
+
+returns : tie.Need-returns
+unfolding planRefusal
+returns c = cc
+
+pub plan-refusal-spec : {M : Type 1} → statement M
+plan-refusal-spec =
+    tie.close
+    (tie.spec
+    within-requires
+    within-requires-2
+    refusal-unless-requires
+    refusal-unless-requires-2
+    first-met-requires
+    returns)

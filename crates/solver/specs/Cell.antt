@@ -1,0 +1,113 @@
+-- The single-particle cell: what it is checked for, how it is built, and the numbers that it gives at rest. Definitions, and what a cell that nothing
+-- refuses has met. Assumes nothing.
+use Prim.Native.Nat.{ℕ, _≤_}
+use mathlib.Core.Path.{_≡_, sym, subst}
+use mathlib.Core.Bool.{Bool, cond, _&&_}
+use native.Mathlib.Nat.{zero-lt-suc}
+use lib.Dec.{T, eqb, leb, leb→le, eqb→eq}
+use lib.Ieee.{Float}
+use lib.Ieee.Fits.{and-l, and-r}
+use Rattle.binary64.specs.Operators.{_⊖_, _⊘_, f64}
+use Rattle.elementary.specs.Choice.{clampOf}
+use Rattle.refusal.specs.Numbers.{firstMet, refusalUnless, grid, sheet, none-met, passed}
+use Rattle.refusal.specs.Ranges.{clockFits}
+use Rattle.refusal.specs.Answers.{Said, finiteOutcome}
+use Rattle.electrode.specs.declared.ElectrodeParams.{ElectrodeParams}
+use Rattle.electrode.specs.Sheet.{sheetFits, graphiteAnode}
+use Rattle.particle.specs.declared.ParticleDiffusion.{ParticleDiffusion}
+use Rattle.particle.specs.Checks.{nodesFit, fieldsFit}
+use Rattle.particle.specs.Particle.{surfacePotential, averageTheta}
+use Rattle.particle.specs.Calls.{fresh, noParticle}
+use Rattle.kinetics.specs.declared.SpmConfig.{SpmConfig}
+use Rattle.kinetics.specs.Kinetics.{configFits}
+use Rattle.solver.specs.declared.SpmSolver.{SpmSolver}
+use Rattle.solver.specs.declared.SpmAnswer.{SpmAnswer}
+
+-- ---- checks
+-- the config's count of nodes is in range, and is that of both particles
+abbrev pub gridFits : SpmSolver → Bool
+gridFits s =
+    leb 3 (s .config .«n_nodes») && leb (s .config .«n_nodes») 64 && eqb (s .anode .«n_nodes») (s .config .«n_nodes»)
+    && eqb (s .cathode .«n_nodes») (s .config .«n_nodes»)
+
+abbrev pub cellFits : SpmSolver → Bool
+cellFits s = configFits (s .config) && fieldsFit (s .anode) && fieldsFit (s .cathode) && clockFits (s .«time_s»)
+
+-- all of 1, then all of 2
+unfoldable pub cellRefusal : SpmSolver → ℕ
+cellRefusal s = firstMet (refusalUnless (gridFits s) grid) (refusalUnless (cellFits s) sheet)
+
+-- ---- builds
+abbrev pub solverAnswer : ℕ → SpmSolver → SpmAnswer
+solverAnswer k s = record { refusal = k; solver = s }
+
+unfoldable pub buildRefusal : SpmConfig → ElectrodeParams → ElectrodeParams → ℕ
+buildRefusal g a c =
+    firstMet (refusalUnless (nodesFit (g .«n_nodes»)) grid) (refusalUnless (configFits g && sheetFits a && sheetFits c) sheet)
+
+-- both particles fresh, the clock at +0
+unfoldable pub freshSolver : SpmConfig → ElectrodeParams → ElectrodeParams → SpmSolver
+freshSolver g a c = record { config = g; anode = fresh a (g .«n_nodes»); cathode = fresh c (g .«n_nodes»); «time_s» = f64 0 }
+
+abbrev noConfig : SpmConfig
+noConfig = record { «n_nodes» = 0; «v_min» = f64 0; «v_max» = f64 0; faraday = f64 0; «r_gas» = f64 0; «r_electrolyte_ohm_m2» = f64 0 }
+
+-- beside a refused build
+unfoldable pub noSolver : SpmSolver
+noSolver = record { config = noConfig; anode = noParticle; cathode = noParticle; «time_s» = f64 0 }
+
+unfoldable pub built : SpmConfig → ElectrodeParams → ElectrodeParams → SpmAnswer
+built g a c = cond (eqb (buildRefusal g a c) 0) (solverAnswer 0 (freshSolver g a c)) (solverAnswer (buildRefusal g a c) noSolver)
+
+-- graphite and one of the two ready cathodes
+abbrev pub ready : SpmConfig → ElectrodeParams → SpmAnswer
+ready g c = built g graphiteAnode c
+
+-- ---- numbers at rest
+-- u_pos - u_neg
+unfoldable pub openCircuitVoltage : SpmSolver → Float
+openCircuitVoltage s = surfacePotential (s .cathode) ⊖ surfacePotential (s .anode)
+
+-- (theta - 0.20) / (0.80 - 0.20), clamped to 0 to 1, by the anode's average
+unfoldable pub stateOfCharge : SpmSolver → Float
+stateOfCharge s = clampOf ((averageTheta (s .anode) ⊖ f64 0x3fc9_9999_9999_999a) ⊘ (f64 0x3fe9_9999_9999_999a ⊖ f64 0x3fc9_9999_9999_999a)) (f64 0) (f64 0x3ff0_0000_0000_0000)
+
+unfoldable pub ocvCall : SpmSolver → Said
+ocvCall s = finiteOutcome (cellRefusal s) (openCircuitVoltage s)
+
+unfoldable pub socCall : SpmSolver → Said
+socCall s = finiteOutcome (cellRefusal s) (stateOfCharge s)
+
+-- ---- what a cell that nothing refuses has met
+abbrev pub NodesMet : ParticleDiffusion → Type 0
+NodesMet p = (3 ≤ p .«n_nodes») × (p .«n_nodes» ≤ 64)
+
+module _ (s : SpmSolver) (h : cellRefusal s ≡ 0) where
+  abbrev n : ℕ
+  n = s .config .«n_nodes»
+
+  grid-met : T (gridFits s)
+  unfolding cellRefusal
+  grid-met = passed (gridFits s) grid (zero-lt-suc 0) (none-met _ _ h .0)
+
+  abbrev front : Bool
+  front = leb 3 n && leb n 64 && eqb (s .anode .«n_nodes») n
+
+  least : 3 ≤ n
+  least = leb→le 3 n (and-l (leb 3 n) (leb n 64) (and-l (leb 3 n && leb n 64) (eqb (s .anode .«n_nodes») n) (and-l front (eqb (s .cathode .«n_nodes») n) grid-met)))
+
+  most : n ≤ 64
+  most = leb→le n 64 (and-r (leb 3 n) (leb n 64) (and-l (leb 3 n && leb n 64) (eqb (s .anode .«n_nodes») n) (and-l front (eqb (s .cathode .«n_nodes») n) grid-met)))
+
+  met : (m : ℕ) → m ≡ n → (3 ≤ m) × (m ≤ 64)
+  met m e = subst (λ (k : ℕ). (3 ≤ k) × (k ≤ 64)) (sym e) (least, most)
+
+  pub anode-nodes : NodesMet (s .anode)
+  anode-nodes = met (s .anode .«n_nodes») (eqb→eq _ _ (and-r (leb 3 n && leb n 64) (eqb (s .anode .«n_nodes») n) (and-l front (eqb (s .cathode .«n_nodes») n) grid-met)))
+
+  pub cathode-nodes : NodesMet (s .cathode)
+  cathode-nodes = met (s .cathode .«n_nodes») (eqb→eq _ _ (and-r front (eqb (s .cathode .«n_nodes») n) grid-met))
+
+  pub cell-met : T (cellFits s)
+  unfolding cellRefusal
+  cell-met = passed (cellFits s) sheet (zero-lt-suc 1) (none-met _ _ h .1)

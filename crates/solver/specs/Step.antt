@@ -1,0 +1,143 @@
+-- A step of the single-particle cell, in stages: what it refuses before anything is worked out, its plan, the cell after it, its report. Definitions, and
+-- what a step that is not refused has met. Assumes nothing.
+use Prim.Native.Nat.{ℕ}
+use mathlib.Core.Path.{_≡_}
+use mathlib.Core.Bool.{Bool, false, cond, not, _&&_, _||_}
+use mathlib.Core.List.{List}
+use lib.Dec.{eqb}
+use lib.Ieee.{Float, lt, neg}
+use Rattle.binary64.specs.Operators.{_⊕_, _⊗_, _⊘_, f64, count}
+use Rattle.elementary.specs.Choice.{minOf}
+use Rattle.elementary.specs.Count.{ceilOf}
+use Rattle.refusal.specs.Numbers.{firstMet, refusalUnless, load, interval, temperature, diffusivity, subSteps, notFinite, none-met}
+use Rattle.refusal.specs.Ranges.{inRange, finite, loadFits, intervalFits, temperatureFits}
+use Rattle.turns.specs.Turns.{times}
+use Rattle.diffusion.specs.SubStep.{subStep}
+use Rattle.electrode.specs.Sheet.{diffusivityAt}
+use Rattle.profile.specs.Places.{finiteProfile}
+use Rattle.particle.specs.declared.ParticleDiffusion.{ParticleDiffusion}
+use Rattle.particle.specs.Particle.{driveWith, withProfile, stableStep, surfaceTheta, surfacePotential, averageTheta}
+use Rattle.kinetics.specs.Kinetics.{wallCurrent, overpotential, terminalVoltage}
+use Rattle.solver.specs.declared.SpmSolver.{SpmSolver}
+use Rattle.solver.specs.declared.SpmState.{SpmState}
+use Rattle.solver.specs.declared.SpmStep.{SpmStep}
+use Rattle.solver.specs.declared.Plan.{Plan}
+use Rattle.solver.specs.Cell.{cellRefusal}
+
+-- ---- 1 to 5
+unfoldable pub inputRefusal : SpmSolver → Float → Float → Float → ℕ
+inputRefusal s i dt t =
+    firstMet (cellRefusal s)
+    (firstMet (refusalUnless (loadFits i (f64 0x412e_8480_0000_0000)) load)
+    (firstMet (refusalUnless (intervalFits dt) interval) (refusalUnless (temperatureFits t) temperature)))
+
+-- ---- the plan
+-- I / area, the anode's
+unfoldable pub currentDensity : SpmSolver → Float → Float
+currentDensity s i = i ⊘ s .anode .params .area
+
+-- an electrode's longest sub-step: dt_stable * 0.45
+abbrev pub longest : ParticleDiffusion → Float → Float
+longest p d = stableStep p d ⊗ f64 0x3fdc_cccc_cccc_cccd
+
+-- dt / dt_use, dt_use the least of dt and the electrodes' longest sub-steps
+abbrev pub quotient : SpmSolver → Float → Float → Float → Float
+quotient s dt dNeg dPos = dt ⊘ minOf (minOf dt (longest (s .anode) dNeg)) (longest (s .cathode) dPos)
+
+unfoldable pub planOf : SpmSolver → Float → Float → Float → Plan
+planOf s i dt t =
+    let dNeg = diffusivityAt (s .anode .params) t in
+    let dPos = diffusivityAt (s .cathode .params) t in
+    record {
+      «d_neg» = dNeg;
+      «d_pos» = dPos;
+      «j_neg» = neg (currentDensity s i) ⊘ wallCurrent (s .anode .params) (s .config .faraday);
+      «j_pos» = currentDensity s i ⊘ wallCurrent (s .cathode .params) (s .config .faraday);
+      q = quotient s dt dNeg dPos;
+    }
+
+-- corrected D from 1e-20 to 1e-8 in both electrodes; no more than 4,096 sub-steps
+unfoldable pub planRefusal : Plan → ℕ
+planRefusal p =
+    firstMet
+    (refusalUnless (inRange (p .«d_neg») (f64 0x3bc7_9ca1_0c92_4223) (f64 0x3e45_798e_e230_8c3a) && inRange (p .«d_pos») (f64 0x3bc7_9ca1_0c92_4223) (f64 0x3e45_798e_e230_8c3a)) diffusivity)
+    (refusalUnless (not (lt (f64 0x40b0_0000_0000_0000) (p .q))) subSteps)
+
+-- the least whole number not below q
+abbrev pub subStepsOf : Plan → ℕ
+subStepsOf p = ceilOf (p .q)
+
+-- ---- the cell after the step: that many sub-steps of dt / count at each electrode, the clock raised once by dt
+unfoldable pub profileAfter : ParticleDiffusion → Float → Float → Float → ℕ → List Float
+profileAfter p d j dt k = times k (subStep (driveWith p d j (dt ⊘ count k))) (p .«c_s»)
+
+unfoldable pub advanced : SpmSolver → Plan → Float → SpmSolver
+advanced s p dt = record {
+  config = s .config;
+  anode = withProfile (s .anode) (profileAfter (s .anode) (p .«d_neg») (p .«j_neg») dt (subStepsOf p));
+  cathode = withProfile (s .cathode) (profileAfter (s .cathode) (p .«d_pos») (p .«j_pos») dt (subStepsOf p));
+  «time_s» = s .«time_s» ⊕ dt;
+}
+
+-- ---- the report, of the cell after the step with the fluxes of the plan
+unfoldable pub voltageOf : SpmSolver → Plan → Float → Float → Float
+voltageOf s p i t =
+    terminalVoltage (surfacePotential (s .anode)) (surfacePotential (s .cathode)) (neg (overpotential (s .config) (p .«j_neg») (s .anode) t))
+    (neg (overpotential (s .config) (p .«j_pos») (s .cathode) t)) (currentDensity s i ⊗ s .config .«r_electrolyte_ohm_m2») i
+
+-- outside the voltage limits
+abbrev pub cutOff : SpmSolver → Float → Bool
+cutOff s v = lt v (s .config .«v_min») || lt (s .config .«v_max») v
+
+unfoldable pub reported : SpmSolver → Plan → Float → Float → SpmState
+reported s p i t =
+    let v = voltageOf s p i t in
+    record {
+      voltage = v;
+      current = i;
+      «theta_neg» = surfaceTheta (s .anode);
+      «theta_pos» = surfaceTheta (s .cathode);
+      «theta_neg_avg» = averageTheta (s .anode);
+      «theta_pos_avg» = averageTheta (s .cathode);
+      «time_s» = s .«time_s»;
+      cutoff = cutOff s v;
+    }
+
+-- 8: no NaN and no infinity in the new cell and its report (the current is the one that was given)
+unfoldable pub finiteStep : SpmSolver → SpmState → Bool
+finiteStep s r =
+    finiteProfile (s .anode .«c_s») && finiteProfile (s .cathode .«c_s») && finite (r .voltage) && finite (r .«theta_neg») && finite (r .«theta_pos»)
+    && finite (r .«theta_neg_avg») && finite (r .«theta_pos_avg») && finite (r .«time_s»)
+
+-- ---- the whole step
+unfoldable pub noState : SpmState
+noState = record {
+  voltage = f64 0;
+  current = f64 0;
+  «theta_neg» = f64 0;
+  «theta_pos» = f64 0;
+  «theta_neg_avg» = f64 0;
+  «theta_pos_avg» = f64 0;
+  «time_s» = f64 0;
+  cutoff = false;
+}
+
+abbrev pub refusedStep : ℕ → SpmSolver → SpmStep
+refusedStep k s = record { refusal = k; state = noState; «sub_steps» = 0; solver = s }
+
+-- the cell before, the plan, the cell after, the report
+unfoldable pub finished : SpmSolver → Plan → SpmSolver → SpmState → SpmStep
+finished s p after r =
+    cond (finiteStep after r) (record { refusal = 0; state = r; «sub_steps» = subStepsOf p; solver = after }) (refusedStep notFinite s)
+
+unfoldable pub planned : SpmSolver → Plan → Float → Float → Float → SpmStep
+planned s p i dt t =
+    cond (eqb (planRefusal p) 0) (finished s p (advanced s p dt) (reported (advanced s p dt) p i t)) (refusedStep (planRefusal p) s)
+
+unfoldable pub stepped : SpmSolver → Float → Float → Float → SpmStep
+stepped s i dt t =
+    cond (eqb (inputRefusal s i dt t) 0) (planned s (planOf s i dt t) i dt t) (refusedStep (inputRefusal s i dt t) s)
+
+pub input-cell : (s : SpmSolver) (i dt t : Float) → inputRefusal s i dt t ≡ 0 → cellRefusal s ≡ 0
+unfolding inputRefusal
+input-cell s i dt t h = none-met _ _ h .0

@@ -1,0 +1,244 @@
+-- The two electrodes of a cell, and the ranges of what each works with in a step that is not refused. Assumes nothing.
+use Prim.Native.Nat.{ℕ, suc, _*_, _^_, _≤_}
+use mathlib.Core.Path.{_≡_, refl}
+use mathlib.Core.Bool.{Bool, true, false, not, _&&_}
+use native.Mathlib.Nat.{le-trans, zero-lt-suc}
+use native.Mathlib.Omega.{arith}
+use borrow.Author.Tests.{ltb-false}
+use lib.Dec.{T, leb, eqb, eqb→eq, lit≤, ltb, le→leb}
+use lib.Ieee.{Float, nan, inf, fin, le, lt, neg, ofBits, up, down}
+use lib.Ieee.Bits.{is-true}
+use lib.Ieee.Fits.{and-l, and-r, and-i, down-pos}
+use lib.Ieee.Positive.{num, den}
+use Rattle.fraction.specs.Fraction.{nat, _≤F_, _<F_}
+use Rattle.fraction.specs.Size.{size-pos}
+use Rattle.binary64.specs.Operators.{_⊘_, f64, count, negative}
+use Rattle.binary64.specs.Range.{Within, Most, Sized, sized, most-wider, neg-most}
+use Rattle.binary64.specs.RangeTests.{literal, tested-within, tested-sized}
+use Rattle.binary64.specs.RangeOps.{mul-between, div-between, div-most, div-count}
+use Rattle.binary64.specs.Bounds.{within-scaled}
+use Rattle.binary64.specs.Order.{neg-le}
+use Rattle.binary64.specs.OrderLaws.{div-le}
+use Rattle.binary64.specs.Value.{val, val-is, ratio-nn, le-val}
+use Rattle.elementary.specs.Count.{ceilOf}
+use Rattle.elementary.proofs.CountLaws.{ceil-least}
+use Rattle.refusal.specs.Numbers.{firstMet, refusalUnless, grid, load, interval, temperature, subSteps, none-met, passed}
+use Rattle.refusal.specs.Ranges.{loadFits, intervalFits, temperatureFits, clockFits}
+use Rattle.electrode.specs.declared.ElectrodeParams.{ElectrodeParams}
+use Rattle.electrode.specs.Sheet.{sheetFits, specificArea}
+use Rattle.particle.specs.declared.ParticleDiffusion.{ParticleDiffusion}
+use Rattle.particle.specs.Checks.{nodesFit, fieldsFit, particleRefusal}
+use Rattle.particle.specs.Particle.{driveWith}
+use Rattle.particle_laws.specs.Ranges.{Ranged, sheet-ranges, sheet-passed, wider, particle-ranged, diffusivity-range, interval-range}
+use Rattle.kinetics.specs.declared.SpmConfig.{SpmConfig}
+use Rattle.kinetics.specs.Kinetics.{configFits, wallCurrent}
+use Rattle.solver.specs.declared.SpmSolver.{SpmSolver}
+use Rattle.solver.specs.declared.Plan.{Plan}
+use Rattle.solver.specs.Cell.{gridFits, cellRefusal, NodesMet, anode-nodes, cathode-nodes, cell-met}
+use Rattle.solver.specs.Step.{inputRefusal, currentDensity, planOf, planRefusal, subStepsOf}
+
+pub data Electrode : Type 0 where
+  anode : Electrode
+  cathode : Electrode
+
+-- an electrode's particle, and its diffusivity and flux in a plan
+abbrev pub particleAt : Electrode → SpmSolver → ParticleDiffusion
+particleAt Electrode.anode s = s .anode
+particleAt Electrode.cathode s = s .cathode
+
+abbrev pub diffusivityIn : Electrode → Plan → Float
+diffusivityIn Electrode.anode p = p .«d_neg»
+diffusivityIn Electrode.cathode p = p .«d_pos»
+
+abbrev pub fluxIn : Electrode → Plan → Float
+fluxIn Electrode.anode p = p .«j_neg»
+fluxIn Electrode.cathode p = p .«j_pos»
+
+-- ---- a cell that passes the checks
+fits-passes : (p : ParticleDiffusion) → NodesMet p → T (fieldsFit p) → particleRefusal p ≡ 0
+unfolding particleRefusal firstMet refusalUnless
+fits-passes p n f =
+    let m = and-i (leb 3 (p .«n_nodes»)) (leb (p .«n_nodes») 64) (le→leb 3 (p .«n_nodes») (n .0)) (le→leb (p .«n_nodes») 64 (n .1)) in
+    rw (is-true (nodesFit (p .«n_nodes»)) m, is-true (fieldsFit p) f)
+
+module _ (s : SpmSolver) (h : cellRefusal s ≡ 0) where
+  abbrev c : Bool
+  c = configFits (s .config)
+
+  abbrev a : Bool
+  a = fieldsFit (s .anode)
+
+  abbrev b : Bool
+  b = fieldsFit (s .cathode)
+
+  abbrev t : Bool
+  t = clockFits (s .«time_s»)
+
+  pub config-passed : T (configFits (s .config))
+  config-passed = and-l c a (and-l (c && a) b (and-l (c && a && b) t (cell-met s h)))
+
+  pub clock-passed : T (clockFits (s .«time_s»))
+  clock-passed = and-r (c && a && b) t (cell-met s h)
+
+  pub electrode-passes : (e : Electrode) → particleRefusal (particleAt e s) ≡ 0
+  electrode-passes Electrode.anode = fits-passes (s .anode) (anode-nodes s h) (and-r c a (and-l (c && a) b (and-l (c && a && b) t (cell-met s h))))
+  electrode-passes Electrode.cathode = fits-passes (s .cathode) (cathode-nodes s h) (and-r (c && a) b (and-l (c && a && b) t (cell-met s h)))
+
+  pub grid-passed : T (gridFits s)
+  unfolding cellRefusal
+  grid-passed = passed (gridFits s) grid (zero-lt-suc 0) (none-met _ _ h .0)
+
+  -- both grids have the config's count of nodes
+  pub nodes-are : (e : Electrode) → particleAt e s .«n_nodes» ≡ s .config .«n_nodes»
+  nodes-are Electrode.anode =
+      let n = s .config .«n_nodes» in
+      eqb→eq _ _ (and-r (leb 3 n && leb n 64) (eqb (s .anode .«n_nodes») n) (and-l (leb 3 n && leb n 64 && eqb (s .anode .«n_nodes») n) (eqb (s .cathode .«n_nodes») n) grid-passed))
+  nodes-are Electrode.cathode =
+      let n = s .config .«n_nodes» in
+      eqb→eq _ _ (and-r (leb 3 n && leb n 64 && eqb (s .anode .«n_nodes») n) (eqb (s .cathode .«n_nodes») n) grid-passed)
+
+  sheet-at : (e : Electrode) → T (sheetFits (particleAt e s .params))
+  sheet-at e = sheet-passed (particleAt e s) (electrode-passes e)
+
+-- ---- a_s * L * F
+faraday-range : (g : SpmConfig) → T (configFits g) → Within (g .faraday) (2 ^ 17) 1 (2 ^ 16) 1
+unfolding ofBits
+faraday-range g t =
+    let v1 = le (neg (f64 0x4024_0000_0000_0000)) (g .«v_min») in
+    let v2 = le (g .«v_min») (f64 0x4024_0000_0000_0000) in
+    let v3 = le (neg (f64 0x4024_0000_0000_0000)) (g .«v_max») in
+    let v4 = le (g .«v_max») (f64 0x4024_0000_0000_0000) in
+    let f1 = le (f64 0x40f5_f900_0000_0000) (g .faraday) in
+    let f2 = le (g .faraday) (f64 0x40f8_6a00_0000_0000) in
+    let r1 = le (f64 0x4020_0000_0000_0000) (g .«r_gas») in
+    let r2 = le (g .«r_gas») (f64 0x4022_0000_0000_0000) in
+    let o1 = le (f64 0) (g .«r_electrolyte_ohm_m2») in
+    let o2 = le (g .«r_electrolyte_ohm_m2») (f64 0x3ff0_0000_0000_0000) in
+    let v = v1 && v2 && v3 && v4 in
+    let k = and-l (v && f1 && f2) r1 (and-l (v && f1 && f2 && r1) r2 (and-l (v && f1 && f2 && r1 && r2) o1 (and-l (v && f1 && f2 && r1 && r2 && o1) o2 t))) in
+    wider (tested-within (f64 0x40f5_f900_0000_0000) (g .faraday) (f64 0x40f8_6a00_0000_0000) tt tt (and-r v f1 (and-l (v && f1) f2 k)) (and-r (v && f1) f2 k)) (2 ^ 17) 1 (2 ^ 16) 1 tt tt tt tt
+
+three : Within (f64 0x4008_0000_0000_0000) 3 1 3 1
+unfolding ofBits
+three = literal (f64 0x4008_0000_0000_0000) 3 1 3 1 tt tt tt tt tt
+
+-- from 2 ^ -7 to 2 ^ 42
+pub wall-range : (p : ElectrodeParams) (g : SpmConfig) → T (sheetFits p) → T (configFits g) → Within (wallCurrent p (g .faraday)) (2 ^ 42) 1 1 (2 ^ 7)
+unfolding wallCurrent specificArea
+wall-range p g h k =
+    let r = sheet-ranges p h in
+    let solid = mul-between three (r .solid) 4 1 1 (2 ^ 6) tt tt tt tt in
+    let surface = div-between solid (r .radius) (2 ^ 29) 1 (2 ^ 3) 1 tt tt tt tt tt in
+    mul-between (mul-between surface (r .thick) (2 ^ 23) 1 1 (2 ^ 21) tt tt tt tt) (faraday-range g k) (2 ^ 42) 1 1 (2 ^ 7) tt tt tt tt
+
+pub wall-above : (p : ElectrodeParams) (g : SpmConfig) → T (sheetFits p) → T (configFits g) → nat 0 <F val (wallCurrent p (g .faraday))
+wall-above p g h k = size-pos (within-scaled (wall-range p g h k) 7 42 tt tt .size)
+
+-- ---- the fluxes, for a current of at most 2 ^ 20 A
+module _ (s : SpmSolver) (h : cellRefusal s ≡ 0) where
+  abbrev area-range : Within (s .anode .params .area) (2 ^ 14) 1 1 (2 ^ 20)
+  area-range = sheet-ranges (s .anode .params) (sheet-at s h Electrode.anode) .plate
+
+  density-range : (i : Float) → Sized i (2 ^ 20) 1 → Sized (currentDensity s i) (2 ^ 40) 1
+  unfolding currentDensity
+  density-range i m = sized (div-most m area-range (2 ^ 40) 1 tt tt tt)
+
+  flux-range : (i dt t : Float) → Sized i (2 ^ 20) 1 → (e : Electrode) → Sized (fluxIn e (planOf s i dt t)) (2 ^ 100) 1
+  unfolding planOf
+  flux-range i dt t m Electrode.anode = sized (div-most (neg-most (density-range i m)) (wall-range (s .anode .params) (s .config) (sheet-at s h Electrode.anode) (config-passed s h)) (2 ^ 100) 1 tt tt tt)
+  flux-range i dt t m Electrode.cathode = sized (div-most (density-range i m) (wall-range (s .cathode .params) (s .config) (sheet-at s h Electrode.cathode) (config-passed s h)) (2 ^ 100) 1 tt tt tt)
+
+  -- a greater current: a greater flux into the cathode, a lesser one into the anode
+  module _ (i i' dt dt' t t' : Float) (m : Sized i (2 ^ 20) 1) (m' : Sized i' (2 ^ 20) 1) (l : T (le i i')) where
+    density-le : T (le (currentDensity s i) (currentDensity s i'))
+    unfolding currentDensity
+    density-le = div-le i i' (s .anode .params .area) (m .fine) (m' .fine) l (size-pos (within-scaled area-range 20 14 tt tt .size))
+
+    pub cathode-flux : val (fluxIn Electrode.cathode (planOf s i dt t)) ≤F val (fluxIn Electrode.cathode (planOf s i' dt' t'))
+    unfolding planOf
+    cathode-flux =
+        le-val (fluxIn Electrode.cathode (planOf s i dt t)) (fluxIn Electrode.cathode (planOf s i' dt' t')) (flux-range i dt t m Electrode.cathode .fine) (flux-range i' dt' t' m' Electrode.cathode .fine)
+        (div-le (currentDensity s i) (currentDensity s i') (wallCurrent (s .cathode .params) (s .config .faraday)) (density-range i m .fine) (density-range i' m' .fine) density-le
+        (wall-above (s .cathode .params) (s .config) (sheet-at s h Electrode.cathode) (config-passed s h)))
+
+    pub anode-flux : val (fluxIn Electrode.anode (planOf s i' dt' t')) ≤F val (fluxIn Electrode.anode (planOf s i dt t))
+    unfolding planOf
+    anode-flux =
+        le-val (fluxIn Electrode.anode (planOf s i' dt' t')) (fluxIn Electrode.anode (planOf s i dt t)) (flux-range i' dt' t' m' Electrode.anode .fine) (flux-range i dt t m Electrode.anode .fine)
+        (div-le (neg (currentDensity s i')) (neg (currentDensity s i)) (wallCurrent (s .anode .params) (s .config .faraday)) (neg-most (density-range i' m') .fine) (neg-most (density-range i m) .fine)
+        (neg-le (currentDensity s i) (currentDensity s i') density-le) (wall-above (s .anode .params) (s .config) (sheet-at s h Electrode.anode) (config-passed s h)))
+
+-- ---- what a step that nothing refuses before it is made works with
+current-range : (i : Float) → T (loadFits i (f64 0x412e_8480_0000_0000)) → Sized i (2 ^ 20) 1
+unfolding ofBits neg
+current-range i t =
+    let hi = f64 0x412e_8480_0000_0000 in
+    most-wider (tested-sized (neg hi) i hi tt tt tt (and-l (le (neg hi) i) (le i hi) t) (and-r (le (neg hi) i) (le i hi) t)) (2 ^ 20) 1 tt tt
+
+not-below : (dt : Float) → T (lt (f64 0) dt) → negative dt ≡ false
+unfolding lt ofBits
+not-below nan h = absurd h
+not-below (inf true) h = absurd h
+not-below (inf false) h = refl
+not-below (fin true m e) h = absurd h
+not-below (fin false m e) h = refl
+
+most-above : {x : Float} {A C : ℕ} → Most x false A C → nat 0 ≤F val x
+most-above {x} h = rw (val-is x (h .fine), h .sign) (ratio-nn (num x) (den x) _)
+
+-- ---- at most 4,096 sub-steps
+is-false : (b : Bool) → T (not b) → b ≡ false
+is-false true h = absurd h
+is-false false h = refl
+
+whole-part : (x d : ℕ) → x * 1 ≤ 4096 * d → x ≤ 4096 * d
+whole-part x d h = omega arith
+
+count-below : (q : Float) → T (not (lt (f64 0x40b0_0000_0000_0000) q)) → ceilOf q ≤ 4096
+unfolding lt ofBits ceilOf
+count-below nan h = lit≤ tt
+count-below (inf true) h = lit≤ tt
+count-below (inf false) h = absurd h
+count-below (fin true m e) h = lit≤ tt
+count-below (fin false m e) h =
+    let l = ceil-least (m * up e) (down e) 4096 (down-pos e) (whole-part (m * up e) (down e) (ltb-false (4096 * down e) (m * up e * 1) (is-false (ltb (4096 * down e) (m * up e * 1)) h))) in
+    omega arith
+
+pub count-most : (p : Plan) → planRefusal p ≡ 0 → subStepsOf p ≤ 4096
+unfolding planRefusal
+count-most p h = count-below (p .q) (passed (not (lt (f64 0x40b0_0000_0000_0000) (p .q))) subSteps (zero-lt-suc 6) (none-met _ _ h .1))
+
+module _ (s : SpmSolver) (i dt t : Float) (h : inputRefusal s i dt t ≡ 0) where
+  pub cell-passed : cellRefusal s ≡ 0
+  unfolding inputRefusal
+  cell-passed = none-met _ _ h .0
+
+  pub current-fits : Sized i (2 ^ 20) 1
+  unfolding inputRefusal
+  current-fits = current-range i (passed (loadFits i (f64 0x412e_8480_0000_0000)) load (zero-lt-suc 2) (none-met _ _ (none-met _ _ h .1) .0))
+
+  interval-fits : T (intervalFits dt)
+  unfolding inputRefusal
+  interval-fits = passed (intervalFits dt) interval (zero-lt-suc 3) (none-met _ _ (none-met _ _ (none-met _ _ h .1) .1) .0)
+
+  temperature-fits : T (temperatureFits t)
+  unfolding inputRefusal
+  temperature-fits = passed (temperatureFits t) temperature (zero-lt-suc 4) (none-met _ _ (none-met _ _ (none-met _ _ h .1) .1) .1)
+
+  -- the interval is finite and at least 0
+  pub interval-size : Sized dt (2 ^ 17) 1 × (nat 0 ≤F val dt)
+  interval-size = interval-range dt interval-fits
+
+  part-range : (k : ℕ) → suc k ≤ 4096 → Most (dt ⊘ count (suc k)) false (2 ^ 17) 1
+  part-range k l =
+      let m : Most dt false (2 ^ 17) 1 = rw (not-below dt (and-l (lt (f64 0) dt) (le dt (f64 0x40f5_1800_0000_0000)) interval-fits)) at (interval-size .0) in
+      div-count m (suc k) 1 (2 ^ 17) 1 (omega arith) (le-trans l (lit≤ tt)) tt tt tt
+
+  diffusivity-in : (e : Electrode) → Within (diffusivityIn e (planOf s i dt t)) (2 ^ 4) 1 1 (2 ^ 97)
+  unfolding planOf
+  diffusivity-in Electrode.anode = diffusivity-range (s .anode .params) t (sheet-at s cell-passed Electrode.anode) temperature-fits
+  diffusivity-in Electrode.cathode = diffusivity-range (s .cathode .params) t (sheet-at s cell-passed Electrode.cathode) temperature-fits
+
+  -- EACH SUB-STEP AT EACH ELECTRODE is in its ranges
+  pub sub-step-ranged : (e : Electrode) (k : ℕ) → suc k ≤ 4096 → Ranged (driveWith (particleAt e s) (diffusivityIn e (planOf s i dt t)) (fluxIn e (planOf s i dt t)) (dt ⊘ count (suc k)))
+  sub-step-ranged e k l = let m = part-range k l in particle-ranged (particleAt e s) (electrode-passes s cell-passed e) (diffusivity-in e) (flux-range s cell-passed i dt t current-fits e) (sized m) (most-above m)

@@ -1,0 +1,26 @@
+-- The single-particle cell beyond its contracts: theorems 2 and 3 of the third demand, and what a step leads to.
+--
+-- WHERE TO START
+--   Demand      THEOREM 2, `solver-near`: a cell that passes the checks, a list of calls of any length, each any three floats, and one of the electrodes; where every accepted call keeps
+--               6·D·t ≤ h² and 2·h·∣flux∣ ≤ D·M at that electrode, every node of it is within K·M / 2 ^ 49 of the exact scheme from the same start, K the sub-steps that the answers
+--               report. What is folded (`cellAfter`, `taken`, `K`) is `stepped`, the definition that the contract of `step` cites; each sub-step is dt / count long, in binary64.
+--               `after-passes`: after any list of calls the cell passes the checks, so its nodes are finite
+--   Ranking     THEOREM 3, `solver-ranking`: two cells of one make with equal profiles (`Twins`), two lists that keep the conditions at both electrodes, their accepted calls paired
+--               (`Paired`): then (`Ranked`) at no place is the second cathode more than 2·K·M / 2 ^ 49 below the first, or the second anode more than that above
+--   Instance    the ready cell of graphite and lithium iron phosphate, 11 nodes: `discharge-near`, theorem 2 for 3 A between two refused calls, and `draw-ranked`, theorem 3 for
+--               that list and 4 A; every premise computed, that the cell accepts them too
+--
+-- WHAT ELSE IS PROVED
+--   Closure     `step-passes`: an accepted step leads to a cell that passes the checks again;  `step-refused`: a refused one leaves the cell as it is and reports no sub-steps;
+--               `accepted-where`: what acceptance takes;  `step-make`: config, sheets and counts of nodes stay;  `Leads`: what a step answers, in two cases
+--   Electrodes  an electrode's particle and its numbers in a plan;  `sub-step-ranged`: each sub-step of an accepted call is in its ranges;  `count-most`: at most 4,096 of them;
+--               `cathode-flux`, `anode-flux`: with the current the flux grows at the cathode and falls at the anode
+--   RunLists    `run-is-list`: the cell after a run is the cell after that many calls of `step`, so theorems 2 and 3 hold of the steps that a run makes
+--   Ordered     the exact scheme keeps the order of two profiles over two lists of calls
+pub mod Electrodes
+pub mod Closure
+pub mod Demand
+pub mod Ordered
+pub mod Ranking
+pub mod RunLists
+pub mod Instance
