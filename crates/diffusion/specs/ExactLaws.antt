@@ -85,7 +85,7 @@ module _ (e : Numbers) (s : Stable e) where
     -- CONTRACTION
     pub contraction : (i : ℕ) → i < e .n → exactNode e a i -F exactNode e b i within B
     unfolding exactNode
-    contraction i l = clamp-apart (nat 0) (e .M) (moved e a i) (moved e b i) (moved-apart i l)
+    contraction i l = clamp-apart _ _ (moved e a i) (moved e b i) (moved-apart i l)
 
   -- ---- two profiles of which the second is nowhere less, and a flux that is not less
   module _ (f : Fraction) (more : e .flux ≤F f) (a b : ℕ → Fraction) (h : (i : ℕ) → i < e .n → a i ≤F b i) where
@@ -114,4 +114,4 @@ module _ (e : Numbers) (s : Stable e) where
     -- MONOTONY
     pub monotone : (i : ℕ) → i < e .n → exactNode e a i ≤F exactNode e' b i
     unfolding exactNode
-    monotone i l = clamp-mono (nat 0) (e .M) (moved-mono i l)
+    monotone i l = clamp-mono _ _ (moved-mono i l)

@@ -1,11 +1,27 @@
 -- `solver::SpmSolver::step` meets its contract, stage by stage. Assumes nothing.
-use mathlib.Core.Path.{sym, _∙_}
+use Prim.Native.Nat.{ℕ}
+use mathlib.Core.Path.{_≡_, sym, _∙_}
+use lib.Ieee.{Float}
 use borrow.Author.Tests.{eq-eqb, ne-eqb}
+use Rattle.solver.specs.declared.SpmSolver.{SpmSolver}
+use Rattle.solver.specs.declared.SpmState.{SpmState}
+use Rattle.solver.specs.declared.Plan.{Plan}
 use Rattle.solver.specs.Cell.{anode-nodes, cathode-nodes}
-use Rattle.solver.specs.Step.{input-cell, advanced, finished, planned, stepped}
+use Rattle.solver.specs.Step.{input-cell, inputRefusal, planOf, planRefusal, advanced, reported, finished, planned, stepped}
 use borrow.Author.Needs.{needs}
 use Rattle.solver.proofs.SpmSolver.step.Statement.{statement}
 use Rattle.solver.proofs.SpmSolver.step.Tie as tie
+
+-- the stages: nothing refuses the call, nothing refuses the plan
+module _ (s : SpmSolver) (i dt t : Float) (p : Plan) where
+  to-plan : (k : ℕ) → k ≡ inputRefusal s i dt t → k ≡ 0 → p ≡ planOf s i dt t → stepped s i dt t ≡ planned s p i dt t
+  unfolding stepped
+  to-plan k h z e = rw (← h, eq-eqb _ _ z, e)
+
+  to-report : (k : ℕ) (after : SpmSolver) (r : SpmState) → k ≡ planRefusal p → k ≡ 0 → after ≡ advanced s p dt → r ≡ reported after p i t
+      → planned s p i dt t ≡ finished s p after r
+  unfolding planned
+  to-report k after r h z a e = rw (← h, eq-eqb _ _ z, e, a)
 
 input-refusal-requires : tie.Need-input-refusal-requires
 input-refusal-requires c κs = search needs
@@ -29,8 +45,15 @@ refused-step-requires-2 : tie.Need-refused-step-requires-2
 refused-step-requires-2 c κs = search needs
 
 returns-2 : tie.Need-returns-2
-unfolding stepped planned
-returns-2 c = rw (← c .before .before .before .before .before .input-refusal .ensures, eq-eqb _ _ (c .before .before .before .before .if1 .left), ← c .before .before .before .plan .ensures, ← c .before .before .plan-refusal .ensures, ne-eqb _ _ (c .before .if2 .taken)) (c .refused-step2 .ensures)
+unfolding planned
+returns-2 c =
+    let b = c .before .before .before .before .before in
+    let a = b .before .args in
+    rw (
+      to-plan (a .self) (a .current-a) (a .dt) (a .temp-k) _ _ (b .input-refusal .ensures) (c .before .before .before .before .if1 .left) (c .before .before .before .plan .ensures),
+      ← c .before .before .plan-refusal .ensures,
+      ne-eqb _ _ (c .before .if2 .taken),
+    ) (c .refused-step2 .ensures)
 
 advanced-requires : tie.Need-advanced-requires
 advanced-requires c κs = let a = c .before .before .before .before .before .args in
@@ -50,15 +73,34 @@ ceil-count-requires : tie.Need-ceil-count-requires
 ceil-count-requires c κs = search needs
 
 returns-3 : tie.Need-returns-3
-unfolding stepped planned finished
-returns-3 c = rw (← c .before .before .before .before .before .before .before .before .before .input-refusal .ensures, eq-eqb _ _ (c .before .before .before .before .before .before .before .before .if1 .left), ← c .before .before .before .before .before .before .before .plan .ensures, ← c .before .before .before .before .before .before .plan-refusal .ensures, eq-eqb _ _ (c .before .before .before .before .before .if2 .left), ← c .before .before .before .before .advanced .ensures, ← c .before .before .before .reported .ensures, ← c .before .before .finite-with .ensures, c .before .if3 .taken, ← c .ceil-count .ensures)
+unfolding finished
+returns-3 c =
+    let b = c .before .before .before .before in
+    let d = b .before .before .before .before .before in
+    let a = d .before .args in
+    rw (
+      to-plan (a .self) (a .current-a) (a .dt) (a .temp-k) _ _ (d .input-refusal .ensures) (b .before .before .before .before .if1 .left) (b .before .before .before .plan .ensures),
+      to-report (a .self) (a .current-a) (a .dt) (a .temp-k) _ _ _ _ (b .before .before .plan-refusal .ensures) (b .before .if2 .left) (b .advanced .ensures) (c .before .before .before .reported .ensures),
+      ← c .before .before .finite-with .ensures,
+      c .before .if3 .taken,
+      c .ceil-count .ensures,
+    )
 
 refused-step-requires-3 : tie.Need-refused-step-requires-3
 refused-step-requires-3 c κs = search needs
 
 returns-4 : tie.Need-returns-4
-unfolding stepped planned finished
-returns-4 c = rw (← c .before .before .before .before .before .before .before .before .before .input-refusal .ensures, eq-eqb _ _ (c .before .before .before .before .before .before .before .before .if1 .left), ← c .before .before .before .before .before .before .before .plan .ensures, ← c .before .before .before .before .before .before .plan-refusal .ensures, eq-eqb _ _ (c .before .before .before .before .before .if2 .left), ← c .before .before .before .before .advanced .ensures, ← c .before .before .before .reported .ensures, ← c .before .before .finite-with .ensures, c .before .if3 .left) (c .refused-step3 .ensures)
+unfolding finished
+returns-4 c =
+    let b = c .before .before .before .before in
+    let d = b .before .before .before .before .before in
+    let a = d .before .args in
+    rw (
+      to-plan (a .self) (a .current-a) (a .dt) (a .temp-k) _ _ (d .input-refusal .ensures) (b .before .before .before .before .if1 .left) (b .before .before .before .plan .ensures),
+      to-report (a .self) (a .current-a) (a .dt) (a .temp-k) _ _ _ _ (b .before .before .plan-refusal .ensures) (b .before .if2 .left) (b .advanced .ensures) (c .before .before .before .reported .ensures),
+      ← c .before .before .finite-with .ensures,
+      c .before .if3 .left,
+    ) (c .refused-step3 .ensures)
 
 pub step-spec : {M : Type 1} → statement M
 step-spec =
