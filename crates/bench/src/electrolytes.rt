@@ -7,9 +7,9 @@ use crate::list::next_u64;
 use crate::list::next_word;
 use crate::list::verdict;
 use electrolyte::Count;
-use electrolyte::ElectrolyteParams;
 use electrolyte::ElectrolyteState;
 use electrolyte::StateAnswer;
+use electrolyte_parameters::ElectrolyteParams;
 
 // Parameters whose first number is read already.
 fn next_params(fd: i32, d_e_ref: f64) -> ElectrolyteParams {

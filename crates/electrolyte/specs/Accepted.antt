@@ -8,8 +8,9 @@ use lib.Ieee.{Float}
 use lib.Ieee.Fits.{and-l, and-r}
 use Rattle.refusal.specs.Numbers.{none-met, passed, grid, sheet}
 use Rattle.electrolyte.specs.declared.ElectrolyteState.{ElectrolyteState}
-use Rattle.electrolyte.specs.Params.{paramsFit}
-use Rattle.electrolyte.specs.Profile.{total, countsFit, regionsFit, profileFits}
+use Rattle.electrolyte_parameters.specs.Params.{paramsFit}
+use Rattle.electrolyte_profile.specs.Places.{profileFits}
+use Rattle.electrolyte.specs.State.{total, countsFit, regionsFit}
 use Rattle.electrolyte.specs.Calls.{buildRefusal, stateRefusal, stepRefusal}
 
 -- three counts of at most 32 are at most 96 together

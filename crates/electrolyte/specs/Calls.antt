@@ -6,37 +6,16 @@ use lib.Dec.{eqb}
 use lib.Ieee.{Float}
 use Rattle.binary64.specs.Operators.{f64}
 use Rattle.refusal.specs.Numbers.{firstMet, refusalUnless, grid, sheet, load, interval, temperature, notFinite}
-use Rattle.refusal.specs.Ranges.{inRange, loadFits, intervalFits, temperatureFits}
+use Rattle.refusal.specs.Ranges.{loadFits, intervalFits, temperatureFits}
 use Rattle.refusal.specs.Answers.{Said, finiteOutcome}
-use Rattle.electrolyte.specs.declared.ElectrolyteParams.{ElectrolyteParams}
 use Rattle.electrolyte.specs.declared.ElectrolyteState.{ElectrolyteState}
 use Rattle.electrolyte.specs.declared.StateAnswer.{StateAnswer}
 use Rattle.electrolyte.specs.declared.Count.{Count}
 use Rattle.electrolyte.specs.declared.Count.the-variants.{Value, Refused}
-use Rattle.electrolyte.specs.Params.{paramsFit, diffusivity, conductivity, diffusivityEff, conductivityEff}
-use Rattle.electrolyte.specs.Profile.{total, countsFit, regionsFit, profileFits, noState, withProfile, uniformProfile, averageOf, stableInterval}
-use Rattle.electrolyte.specs.Step.{driveOf, profileNew, allFinite}
-
--- ---- the rates
--- 2, then 5
-unfoldable pub rateRefusal : Bool → Float → ℕ
-rateRefusal fits t = firstMet (refusalUnless fits sheet) (refusalUnless (temperatureFits t) temperature)
-
--- the parameters, and a porosity in 0.01 to 1
-abbrev porousFit : ElectrolyteParams → Float → Bool
-porousFit p eps = paramsFit p && inRange eps (f64 0x3f84_7ae1_47ae_147b) (f64 0x3ff0_0000_0000_0000)
-
-unfoldable pub dE : ElectrolyteParams → Float → Said
-dE p t = finiteOutcome (rateRefusal (paramsFit p) t) (diffusivity p t)
-
-unfoldable pub kappaCall : ElectrolyteParams → Float → Said
-kappaCall p t = finiteOutcome (rateRefusal (paramsFit p) t) (conductivity p t)
-
-unfoldable pub dEEff : ElectrolyteParams → Float → Float → Said
-dEEff p eps t = finiteOutcome (rateRefusal (porousFit p eps) t) (diffusivityEff p eps t)
-
-unfoldable pub kappaEff : ElectrolyteParams → Float → Float → Said
-kappaEff p eps t = finiteOutcome (rateRefusal (porousFit p eps) t) (conductivityEff p eps t)
+use Rattle.electrolyte_parameters.specs.Params.{paramsFit}
+use Rattle.electrolyte_profile.specs.Places.{profileFits, uniformProfile, allFinite}
+use Rattle.electrolyte_profile.specs.Step.{profileNew}
+use Rattle.electrolyte.specs.State.{total, countsFit, regionsFit, noState, withProfile, averageOf, stableInterval, driveOf}
 
 -- ---- the state
 -- a build: 1, then 2

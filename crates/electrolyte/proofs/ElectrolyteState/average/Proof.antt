@@ -1,6 +1,6 @@
 -- `electrolyte::ElectrolyteState::average` meets its contract. Assumes nothing.
 use borrow.Author.Needs.{needs}
-use Rattle.electrolyte.specs.Profile.{averageOf}
+use Rattle.electrolyte.specs.State.{averageOf}
 use Rattle.electrolyte.proofs.ElectrolyteState.average.Statement.{statement}
 use Rattle.electrolyte.proofs.ElectrolyteState.average.Tie as tie
 

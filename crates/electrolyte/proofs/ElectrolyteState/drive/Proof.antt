@@ -1,6 +1,6 @@
 -- `electrolyte::ElectrolyteState::drive` meets its contract. Assumes nothing.
 use borrow.Author.Needs.{needs}
-use Rattle.electrolyte.specs.Step.{driveOf}
+use Rattle.electrolyte.specs.State.{driveOf}
 use Rattle.electrolyte.proofs.ElectrolyteState.drive.Statement.{statement}
 use Rattle.electrolyte.proofs.ElectrolyteState.drive.Tie as tie
 

@@ -1,6 +1,6 @@
 -- `electrolyte::ElectrolyteState::stable_interval` meets its contract. Assumes nothing.
 use borrow.Author.Needs.{needs}
-use Rattle.electrolyte.specs.Profile.{stableInterval}
+use Rattle.electrolyte.specs.State.{stableInterval}
 use Rattle.electrolyte.proofs.ElectrolyteState.stable_interval.Statement.{statement}
 use Rattle.electrolyte.proofs.ElectrolyteState.stable_interval.Tie as tie
 

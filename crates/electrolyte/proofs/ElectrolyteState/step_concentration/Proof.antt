@@ -2,7 +2,7 @@
 use mathlib.Core.Path.{sym, _∙_}
 use borrow.Author.Needs.{needs}
 use borrow.Author.Tests.{eq-eqb, ne-eqb, not-true, not-false}
-use Rattle.electrolyte.specs.Step.{driveOf}
+use Rattle.electrolyte.specs.State.{driveOf}
 use Rattle.electrolyte.specs.Calls.{stepped, accepted}
 use Rattle.electrolyte.specs.Accepted.{step-total}
 use Rattle.electrolyte.proofs.ElectrolyteState.step_concentration.Statement.{statement}

@@ -1,0 +1,115 @@
+-- The state: parameters, three regions and the profile. Its ranges, the mean, the largest stable interval, what a step works with. Definitions only.
+use Prim.Native.Nat.{ℕ, _+_}
+use mathlib.Core.Bool.{Bool, _&&_}
+use mathlib.Core.List.{List}
+use lib.Dec.{leb}
+use lib.Ieee.{Float, le}
+use Rattle.binary64.specs.Operators.{_⊖_, _⊗_, _⊘_, f64, count}
+use Rattle.elementary.specs.Exp.{one}
+use Rattle.elementary.specs.Choice.{minOf}
+use Rattle.electrolyte_parameters.specs.declared.ElectrolyteParams.{ElectrolyteParams}
+use Rattle.electrolyte_parameters.specs.Params.{diffusivityEff}
+use Rattle.electrolyte_profile.specs.declared.Region.{Region}
+use Rattle.electrolyte_profile.specs.declared.Drive.{Drive}
+use Rattle.electrolyte_profile.specs.Places.{zeros, sumOf}
+use Rattle.electrolyte.specs.declared.ElectrolyteState.{ElectrolyteState}
+
+-- how many nodes there are, and so how many places are used
+abbrev pub total : ElectrolyteState → ℕ
+total e = e .«n_neg» + e .«n_sep» + e .«n_pos»
+
+-- ---- ranges
+-- 1 to 32 nodes a region
+abbrev pub countsFit : ElectrolyteState → Bool
+countsFit e =
+    leb 1 (e .«n_neg») && leb (e .«n_neg») 32
+    && leb 1 (e .«n_sep») && leb (e .«n_sep») 32
+    && leb 1 (e .«n_pos») && leb (e .«n_pos») 32
+
+-- lengths 1e-7 to 1e-2, porosities 0.01 to 1
+abbrev pub regionsFit : ElectrolyteState → Bool
+regionsFit e =
+    le (f64 0x3e7a_d7f2_9abc_af48) (e .«l_neg») && le (e .«l_neg») (f64 0x3f84_7ae1_47ae_147b)
+    && le (f64 0x3e7a_d7f2_9abc_af48) (e .«l_sep») && le (e .«l_sep») (f64 0x3f84_7ae1_47ae_147b)
+    && le (f64 0x3e7a_d7f2_9abc_af48) (e .«l_pos») && le (e .«l_pos») (f64 0x3f84_7ae1_47ae_147b)
+    && le (f64 0x3f84_7ae1_47ae_147b) (e .«eps_neg») && le (e .«eps_neg») (f64 0x3ff0_0000_0000_0000)
+    && le (f64 0x3f84_7ae1_47ae_147b) (e .«eps_sep») && le (e .«eps_sep») (f64 0x3ff0_0000_0000_0000)
+    && le (f64 0x3f84_7ae1_47ae_147b) (e .«eps_pos») && le (e .«eps_pos») (f64 0x3ff0_0000_0000_0000)
+
+-- ---- states
+-- what a build is given, with no node filled yet
+abbrev pub unfilled : ElectrolyteParams → Float → Float → Float → Float → Float → Float → ℕ → ℕ → ℕ → ElectrolyteState
+unfilled p lNeg lSep lPos epsNeg epsSep epsPos nNeg nSep nPos = record {
+  params = p;
+  «l_neg» = lNeg;
+  «l_sep» = lSep;
+  «l_pos» = lPos;
+  «eps_neg» = epsNeg;
+  «eps_sep» = epsSep;
+  «eps_pos» = epsPos;
+  «n_neg» = nNeg;
+  «n_sep» = nSep;
+  «n_pos» = nPos;
+  «c_e» = zeros;
+}
+
+-- what a refused build gives: every number +0, every count 0
+abbrev pub noState : ElectrolyteState
+noState =
+    unfilled (record { «d_e_ref» = f64 0; «kappa_ref» = f64 0; «t_plus» = f64 0; bruggeman = f64 0; «c_e_init» = f64 0; «e_a_de» = f64 0; «e_a_kappa» = f64 0 })
+    (f64 0) (f64 0) (f64 0) (f64 0) (f64 0) (f64 0) 0 0 0
+
+abbrev pub withProfile : ElectrolyteState → List Float → ElectrolyteState
+withProfile e c = record {
+  params = e .params;
+  «l_neg» = e .«l_neg»;
+  «l_sep» = e .«l_sep»;
+  «l_pos» = e .«l_pos»;
+  «eps_neg» = e .«eps_neg»;
+  «eps_sep» = e .«eps_sep»;
+  «eps_pos» = e .«eps_pos»;
+  «n_neg» = e .«n_neg»;
+  «n_sep» = e .«n_sep»;
+  «n_pos» = e .«n_pos»;
+  «c_e» = c;
+}
+
+-- ---- the mean
+unfoldable pub averageOf : ElectrolyteState → Float
+averageOf e = sumOf (e .«c_e») (total e) ⊘ count (total e)
+
+-- ---- the largest stable interval
+-- the width of a node
+abbrev pub width : Float → ℕ → Float
+width l n = l ⊘ count n
+
+-- the least of three, from the left
+abbrev pub leastOf : Float → Float → Float → Float
+leastOf a b c = minOf (minOf a b) c
+
+-- 0.5 * dx * dx / d, d the effective diffusivity at the least porosity, dx the least width
+unfoldable pub stableInterval : ElectrolyteState → Float → Float
+stableInterval e t =
+    let dx = leastOf (width (e .«l_neg») (e .«n_neg»)) (width (e .«l_sep») (e .«n_sep»)) (width (e .«l_pos») (e .«n_pos»)) in
+    let eps = leastOf (e .«eps_neg») (e .«eps_sep») (e .«eps_pos») in
+    f64 0x3fe0_0000_0000_0000 ⊗ dx ⊗ dx ⊘ diffusivityEff (e .params) eps t
+
+-- ---- what a step works with
+-- a region of the porosity eps, the length l and n nodes, with the source src
+unfoldable pub regionOf : ElectrolyteParams → Float → Float → ℕ → Float → Float → Region
+regionOf p eps l n src t = record { eps = eps; dx = width l n; «d_eff» = diffusivityEff p eps t; src = src }
+
+-- the source of a reaction j is (1 - t_plus) * j; the separator has none, +0
+abbrev source : ElectrolyteState → Float → Float
+source e j = (one ⊖ e .params .«t_plus») ⊗ j
+
+unfoldable pub driveOf : ElectrolyteState → Float → Float → Float → Float → Drive
+driveOf e jNeg jPos dt t = record {
+  neg = regionOf (e .params) (e .«eps_neg») (e .«l_neg») (e .«n_neg») (source e jNeg) t;
+  sep = regionOf (e .params) (e .«eps_sep») (e .«l_sep») (e .«n_sep») (f64 0) t;
+  pos = regionOf (e .params) (e .«eps_pos») (e .«l_pos») (e .«n_pos») (source e jPos) t;
+  «past_neg» = e .«n_neg»;
+  «past_sep» = e .«n_neg» + e .«n_sep»;
+  n = total e;
+  dt = dt;
+}

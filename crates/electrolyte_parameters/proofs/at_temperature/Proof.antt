@@ -1,0 +1,15 @@
+-- `electrolyte_parameters::at_temperature` meets its contract. Assumes nothing.
+use borrow.Author.Needs.{needs}
+use Rattle.electrolyte_parameters.specs.Params.{atTemperature}
+use Rattle.electrolyte_parameters.proofs.at_temperature.Statement.{statement}
+use Rattle.electrolyte_parameters.proofs.at_temperature.Tie as tie
+
+exp-requires : tie.Need-exp-requires
+exp-requires c κs = search needs
+
+returns : tie.Need-returns
+unfolding atTemperature
+returns c = rw (c .exp .ensures)
+
+pub at-temperature-spec : {M : Type 1} → statement M
+at-temperature-spec = tie.close (tie.spec exp-requires returns)

@@ -1,0 +1,14 @@
+-- Each literal of this crate's definitions is its decimal, rounded once. Assumes nothing.
+use mathlib.Core.List.{[], _∷_}
+use lib.Dec.{T}
+use lib.Ieee.{round, toBits}
+use Rattle.binary64.specs.Decimal.{literal, areDecimals}
+
+pub literals : T (areDecimals
+    (
+    literal 0 0 0 ∷  -- 0
+    literal 0x3ddb_7cdf_d9d7_bdbb 1 10 ∷  -- 1e-10
+    literal 0x4000_0000_0000_0000 2 0 ∷  -- 2
+    []))
+unfolding areDecimals round toBits
+literals = tt
