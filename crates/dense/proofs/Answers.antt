@@ -14,12 +14,12 @@ use Rattle.elementary.specs.Choice.{absOf}
 use Rattle.refusal.specs.Numbers.{none-met, passed}
 use Rattle.refusal.specs.Ranges.{finite}
 use Rattle.turns.specs.Turns.{firstBy, first-above, all-at}
-use Rattle.dense.specs.Loops.{Tried, either, range-keeps, try-keeps}
-use Rattle.dense.specs.Places.{at, entry, zeros, firstFinite}
-use Rattle.dense.specs.Elimination.{System, swapped, rowLess, rowCleared, columnCleared, pivotTaken, pivotOf, columnWith, columnDone, eliminated, tiny}
+use Rattle.dense_elimination.specs.Loops.{Tried, either, range-keeps, try-keeps}
+use Rattle.dense_elimination.specs.Places.{at, entry, zeros, firstFinite}
+use Rattle.dense_elimination.specs.Elimination.{System, swapped, rowLess, rowCleared, columnCleared, pivotTaken, pivotOf, columnWith, columnDone, eliminated, tiny}
 use Rattle.dense.specs.Substitution.{takenOut, columnSolved, substituted}
 use Rattle.dense.specs.Solve.{loaded, reduced, solution, solutionRefusal, answer, solved}
-use Rattle.dense.proofs.Pivots.{pivot-row}
+use Rattle.dense_elimination.proofs.Pivots.{pivot-row}
 
 zeros-at : (k i : ℕ) → i < k → at (zeros k) i ≡ f64 0
 zeros-at zero i l = absurd (omega (arith, l))

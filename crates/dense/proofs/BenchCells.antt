@@ -5,9 +5,9 @@ use lib.Ieee.{Float, lt, le, sub, mul, div, ofBits}
 use Rattle.binary64.specs.Operators.{f64}
 use Rattle.refusal.specs.Numbers.{singular, refusalUnless, firstMet}
 use Rattle.turns.specs.Turns.{firstBy, allBelow}
-use Rattle.dense.specs.Loops.{turnsFrom, forRange, unlessRefused, tryRange}
-use Rattle.dense.specs.Places.{zeros, firstFinite, allFinite}
-use Rattle.dense.specs.Elimination.{candidate, larger, pivotOf, swapped, rowsSwapped, rowReduced, rowLess, rowCleared, columnCleared, pivotTaken, columnWith, columnDone, eliminated}
+use Rattle.dense_elimination.specs.Loops.{turnsFrom, forRange, unlessRefused, tryRange}
+use Rattle.dense_elimination.specs.Places.{zeros, firstFinite, allFinite}
+use Rattle.dense_elimination.specs.Elimination.{candidate, larger, pivotOf, swapped, rowsSwapped, rowReduced, rowLess, rowCleared, columnCleared, pivotTaken, columnWith, columnDone, eliminated}
 use Rattle.dense.specs.Substitution.{takenOut, columnSolved, substituted}
 use Rattle.dense.specs.Solve.{placeLoaded, rowLoaded, matrixLoaded, loaded, reduced, solution, inputRefusal, solutionRefusal, answer, solved}
 

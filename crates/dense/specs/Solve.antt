@@ -8,9 +8,9 @@ use lib.Ieee.{Float}
 use Rattle.refusal.specs.Numbers as Numbers
 use Rattle.refusal.specs.Numbers.{grid, sheet, notFinite, refusalUnless, firstMet}
 use Rattle.turns.specs.Turns.{firstBy}
-use Rattle.dense.specs.Loops.{forRange, Tried}
-use Rattle.dense.specs.Places.{at, place, zeros, firstFinite, allFinite}
-use Rattle.dense.specs.Elimination.{System, system, eliminated}
+use Rattle.dense_elimination.specs.Loops.{forRange, Tried}
+use Rattle.dense_elimination.specs.Places.{at, place, zeros, firstFinite, allFinite}
+use Rattle.dense_elimination.specs.Elimination.{System, system, eliminated}
 use Rattle.dense.specs.Substitution.{substituted}
 use Rattle.dense.specs.declared.Solved.{Solved}
 

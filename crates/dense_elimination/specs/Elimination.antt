@@ -7,9 +7,9 @@ use lib.Ieee.{Float, lt}
 use Rattle.binary64.specs.Operators.{f64, _⊖_, _⊗_, _⊘_}
 use Rattle.elementary.specs.Choice.{absOf}
 use Rattle.refusal.specs.Numbers.{singular}
-use Rattle.dense.specs.Loops.{forRange, Tried, outcome, tryRange}
-use Rattle.dense.specs.Places.{at, place, entry}
-use Rattle.dense.specs.declared.Pivot.{Pivot}
+use Rattle.dense_elimination.specs.Loops.{forRange, Tried, outcome, tryRange}
+use Rattle.dense_elimination.specs.Places.{at, place, entry}
+use Rattle.dense_elimination.specs.declared.Pivot.{Pivot}
 
 -- ---- the search for a pivot
 

@@ -1,9 +1,9 @@
--- `dense::larger` meets its contract: the branch taken is the definition's. Assumes nothing.
+-- `dense_elimination::larger` meets its contract: the branch taken is the definition's. Assumes nothing.
 use mathlib.Core.Path.{sym, ap}
 use mathlib.Core.Bool.{Bool, cond}
-use Rattle.dense.specs.Elimination.{larger}
-use Rattle.dense.proofs.larger.Statement.{statement}
-use Rattle.dense.proofs.larger.Tie as tie
+use Rattle.dense_elimination.specs.Elimination.{larger}
+use Rattle.dense_elimination.proofs.larger.Statement.{statement}
+use Rattle.dense_elimination.proofs.larger.Tie as tie
 
 returns : tie.Need-returns
 unfolding larger

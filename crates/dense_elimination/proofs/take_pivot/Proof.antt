@@ -1,8 +1,8 @@
--- `dense::take_pivot` meets its contract. Assumes nothing.
+-- `dense_elimination::take_pivot` meets its contract. Assumes nothing.
 use borrow.Author.Needs.{needs}
-use Rattle.dense.specs.Elimination.{pivotTaken}
-use Rattle.dense.proofs.take_pivot.Statement.{statement}
-use Rattle.dense.proofs.take_pivot.Tie as tie
+use Rattle.dense_elimination.specs.Elimination.{pivotTaken}
+use Rattle.dense_elimination.proofs.take_pivot.Statement.{statement}
+use Rattle.dense_elimination.proofs.take_pivot.Tie as tie
 
 swap-rows-requires : tie.Need-swap-rows-requires
 swap-rows-requires c κs = search needs

@@ -1,8 +1,8 @@
--- `dense::candidate` meets its contract. Assumes nothing.
+-- `dense_elimination::candidate` meets its contract. Assumes nothing.
 use borrow.Author.Needs.{needs}
-use Rattle.dense.specs.Elimination.{candidate}
-use Rattle.dense.proofs.candidate.Statement.{statement}
-use Rattle.dense.proofs.candidate.Tie as tie
+use Rattle.dense_elimination.specs.Elimination.{candidate}
+use Rattle.dense_elimination.proofs.candidate.Statement.{statement}
+use Rattle.dense_elimination.proofs.candidate.Tie as tie
 
 mul-abs : tie.Need-mul-abs
 mul-abs c = search needs

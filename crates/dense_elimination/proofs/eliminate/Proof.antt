@@ -1,4 +1,4 @@
--- `dense::eliminate` meets its contract. Before a turn of the columns, those before it are eliminated and none was refused; before a turn of the
+-- `dense_elimination::eliminate` meets its contract. Before a turn of the columns, those before it are eliminated and none was refused; before a turn of the
 -- search, p is the pivot of the rows before it, and once every row is looked at it is not below the limit. Assumes nothing.
 use Prim.Native.Nat.{_≤_, _+_, _-_}
 use mathlib.Core.Path.{_≡_, refl, sym, _∙_}
@@ -6,11 +6,11 @@ use mathlib.Core.Bool.{false}
 use mathlib.Core.Logic.{⊎-elim}
 use native.Mathlib.Omega.{arith}
 use borrow.Author.Needs.{needs}
-use Rattle.dense.specs.Loops.{outcome, tryRange, try-none, try-next, try-ends}
-use Rattle.dense.specs.Elimination.{tiny, system, pivotOf, columnDone, eliminated}
-use Rattle.dense.proofs.Pivots.{pivot-first, pivot-next, pivot-row, column-none, column-some}
-use Rattle.dense.proofs.eliminate.Statement.{statement}
-use Rattle.dense.proofs.eliminate.Tie as tie
+use Rattle.dense_elimination.specs.Loops.{outcome, tryRange, try-none, try-next, try-ends}
+use Rattle.dense_elimination.specs.Elimination.{tiny, system, pivotOf, columnDone, eliminated}
+use Rattle.dense_elimination.proofs.Pivots.{pivot-first, pivot-next, pivot-row, column-none, column-some}
+use Rattle.dense_elimination.proofs.eliminate.Statement.{statement}
+use Rattle.dense_elimination.proofs.eliminate.Tie as tie
 
 abbrev Inv-loop : tie.InvT-loop
 Inv-loop a x n refused₀ col p₀ row₀ refused p row = (col ≤ row) × ((row ≤ n) × ((refused ≡ 0) × ((p ≡ pivotOf a col row) × (row ≡ n → tiny (p .val) ≡ false))))

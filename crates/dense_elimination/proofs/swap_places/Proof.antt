@@ -1,9 +1,9 @@
--- `dense::swap_places` meets its contract. Assumes nothing.
+-- `dense_elimination::swap_places` meets its contract. Assumes nothing.
 use mathlib.Core.Path.{refl}
 use borrow.Author.Needs.{needs}
-use Rattle.dense.specs.Elimination.{swapped}
-use Rattle.dense.proofs.swap_places.Statement.{statement}
-use Rattle.dense.proofs.swap_places.Tie as tie
+use Rattle.dense_elimination.specs.Elimination.{swapped}
+use Rattle.dense_elimination.proofs.swap_places.Statement.{statement}
+use Rattle.dense_elimination.proofs.swap_places.Tie as tie
 
 mul-held : tie.Need-mul-held
 mul-held c = search needs

@@ -1,34 +1,22 @@
--- `dense::swap_rows` meets its contract: before turn k, k places of both rows are swapped. Assumes nothing.
+-- `dense_elimination::reduce_row` meets its contract: before turn k, the row is reduced up to column k. Assumes nothing.
 use Prim.Native.Nat.{_≤_, _-_}
 use mathlib.Core.Path.{_≡_}
 use native.Mathlib.Omega.{arith}
 use borrow.Author.Needs.{needs}
-use Rattle.dense.specs.Loops.{range-none, range-next}
-use Rattle.dense.specs.Elimination.{swapped, rowsSwapped}
-use Rattle.dense.proofs.swap_rows.Statement.{statement}
-use Rattle.dense.proofs.swap_rows.Tie as tie
+use Rattle.dense_elimination.specs.Loops.{range-none, range-next}
+use Rattle.dense_elimination.specs.Elimination.{rowReduced}
+use Rattle.dense_elimination.proofs.reduce_row.Statement.{statement}
+use Rattle.dense_elimination.proofs.reduce_row.Tie as tie
 
 abbrev Inv-loop : tie.InvT-loop
-Inv-loop a₀ p q n k₀ a k = (k ≤ n) × (a ≡ rowsSwapped p q k a₀)
+Inv-loop a₀ row col n f k₀ a k = (col ≤ k) × ((k ≤ n) × (a ≡ rowReduced row col k f a₀))
 
 abbrev μ-loop : tie.MeasureT-loop
-μ-loop a₀ p q n k₀ a k = n - k
+μ-loop a₀ row col n f k₀ a k = n - k
 
 loop-holds : tie.Need-loop-holds Inv-loop μ-loop
-unfolding rowsSwapped
-loop-holds c = (search needs, rw (range-none 0))
-
-mul-held : tie.Need-mul-held Inv-loop μ-loop
-mul-held c = search needs
-
-add-held : tie.Need-add-held Inv-loop μ-loop
-add-held c = search needs
-
-mul-held-2 : tie.Need-mul-held-2 Inv-loop μ-loop
-mul-held-2 c = search needs
-
-element-copy-out-held : tie.Need-element-copy-out-held Inv-loop μ-loop
-element-copy-out-held c = search needs
+unfolding rowReduced
+loop-holds c = (search needs, (search needs, rw (range-none (c .args .col))))
 
 mul-a : tie.Need-mul-a Inv-loop μ-loop
 mul-a c = search needs
@@ -51,8 +39,8 @@ add-a-2 c = search needs
 mul-a-4 : tie.Need-mul-a-4 Inv-loop μ-loop
 mul-a-4 c = search needs
 
-element-write-a : tie.Need-element-write-a Inv-loop μ-loop
-element-write-a c = search needs
+element-copy-out-a-2 : tie.Need-element-copy-out-a-2 Inv-loop μ-loop
+element-copy-out-a-2 c = search needs
 
 mul-a-5 : tie.Need-mul-a-5 Inv-loop μ-loop
 mul-a-5 c = search needs
@@ -63,8 +51,8 @@ add-a-3 c = search needs
 mul-a-6 : tie.Need-mul-a-6 Inv-loop μ-loop
 mul-a-6 c = search needs
 
-element-write-a-2 : tie.Need-element-write-a-2 Inv-loop μ-loop
-element-write-a-2 c = search needs
+element-write-a : tie.Need-element-write-a Inv-loop μ-loop
+element-write-a c = search needs
 
 add-k : tie.Need-add-k Inv-loop μ-loop
 add-k c = search needs
@@ -73,25 +61,21 @@ loop-less : tie.Need-loop-less Inv-loop μ-loop
 loop-less c = search needs
 
 loop-again : tie.Need-loop-again Inv-loop μ-loop
-unfolding rowsSwapped swapped
-loop-again c = (search needs, rw (range-next 0 (c .before .before .before .loop .k) _ _ (omega arith), ← c .before .before .before .loop .inv .1))
+unfolding rowReduced
+loop-again c = (search needs, (search needs, rw (range-next (c .before .before .before .before .args .col) (c .before .before .before .loop .k) _ _ (omega arith), ← c .before .before .before .loop .inv .1 .1)))
 
 returns : tie.Need-returns Inv-loop μ-loop
 returns c =
     let e : c .before .loop .k ≡ c .before .before .args .n = omega arith in
-    rw e at (c .before .loop .inv .1)
+    rw e at (c .before .loop .inv .1 .1)
 
-pub swap-rows-spec : {M : Type 1} → statement M
-swap-rows-spec =
+pub reduce-row-spec : {M : Type 1} → statement M
+reduce-row-spec =
     tie.close
     (tie.spec
     Inv-loop
     μ-loop
     loop-holds
-    mul-held
-    add-held
-    mul-held-2
-    element-copy-out-held
     mul-a
     add-a
     mul-a-2
@@ -99,11 +83,11 @@ swap-rows-spec =
     mul-a-3
     add-a-2
     mul-a-4
-    element-write-a
+    element-copy-out-a-2
     mul-a-5
     add-a-3
     mul-a-6
-    element-write-a-2
+    element-write-a
     add-k
     loop-less
     loop-again
