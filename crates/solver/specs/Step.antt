@@ -2,26 +2,24 @@
 -- what a step that is not refused has met. Assumes nothing.
 use Prim.Native.Nat.{ℕ}
 use mathlib.Core.Path.{_≡_}
-use mathlib.Core.Bool.{Bool, false, cond, not, _&&_, _||_}
+use mathlib.Core.Bool.{Bool, false, cond, _&&_, _||_}
 use mathlib.Core.List.{List}
 use lib.Dec.{eqb}
 use lib.Ieee.{Float, lt, neg}
 use Rattle.binary64.specs.Operators.{_⊕_, _⊗_, _⊘_, f64, count}
-use Rattle.elementary.specs.Choice.{minOf}
-use Rattle.elementary.specs.Count.{ceilOf}
-use Rattle.refusal.specs.Numbers.{firstMet, refusalUnless, load, interval, temperature, diffusivity, subSteps, notFinite, none-met}
-use Rattle.refusal.specs.Ranges.{inRange, finite, loadFits, intervalFits, temperatureFits}
+use Rattle.refusal.specs.Numbers.{firstMet, refusalUnless, load, interval, temperature, notFinite, none-met}
+use Rattle.refusal.specs.Ranges.{finite, loadFits, intervalFits, temperatureFits}
 use Rattle.turns.specs.Turns.{times}
 use Rattle.diffusion.specs.SubStep.{subStep}
-use Rattle.electrode.specs.Sheet.{diffusivityAt}
 use Rattle.profile.specs.Places.{finiteProfile}
 use Rattle.particle.specs.declared.ParticleDiffusion.{ParticleDiffusion}
-use Rattle.particle.specs.Particle.{driveWith, withProfile, stableStep, surfaceTheta, surfacePotential, averageTheta}
-use Rattle.kinetics.specs.Kinetics.{wallCurrent, overpotential, terminalVoltage}
+use Rattle.particle.specs.Particle.{driveWith, withProfile, surfaceTheta, surfacePotential, averageTheta}
+use Rattle.kinetics.specs.Kinetics.{overpotential, terminalVoltage}
+use Rattle.solver_plan.specs.declared.Plan.{Plan}
+use Rattle.solver_plan.specs.Plans.{quotientWith, planWith, planRefusal, subStepsOf}
 use Rattle.solver.specs.declared.SpmSolver.{SpmSolver}
 use Rattle.solver.specs.declared.SpmState.{SpmState}
 use Rattle.solver.specs.declared.SpmStep.{SpmStep}
-use Rattle.solver.specs.declared.Plan.{Plan}
 use Rattle.solver.specs.Cell.{cellRefusal}
 
 -- ---- 1 to 5
@@ -36,36 +34,12 @@ inputRefusal s i dt t =
 unfoldable pub currentDensity : SpmSolver → Float → Float
 currentDensity s i = i ⊘ s .anode .params .area
 
--- an electrode's longest sub-step: dt_stable * 0.45
-abbrev pub longest : ParticleDiffusion → Float → Float
-longest p d = stableStep p d ⊗ f64 0x3fdc_cccc_cccc_cccd
-
 -- dt / dt_use, dt_use the least of dt and the electrodes' longest sub-steps
 abbrev pub quotient : SpmSolver → Float → Float → Float → Float
-quotient s dt dNeg dPos = dt ⊘ minOf (minOf dt (longest (s .anode) dNeg)) (longest (s .cathode) dPos)
+quotient s dt dNeg dPos = quotientWith (s .anode) (s .cathode) dt dNeg dPos
 
 unfoldable pub planOf : SpmSolver → Float → Float → Float → Plan
-planOf s i dt t =
-    let dNeg = diffusivityAt (s .anode .params) t in
-    let dPos = diffusivityAt (s .cathode .params) t in
-    record {
-      «d_neg» = dNeg;
-      «d_pos» = dPos;
-      «j_neg» = neg (currentDensity s i) ⊘ wallCurrent (s .anode .params) (s .config .faraday);
-      «j_pos» = currentDensity s i ⊘ wallCurrent (s .cathode .params) (s .config .faraday);
-      q = quotient s dt dNeg dPos;
-    }
-
--- corrected D from 1e-20 to 1e-8 in both electrodes; no more than 4,096 sub-steps
-unfoldable pub planRefusal : Plan → ℕ
-planRefusal p =
-    firstMet
-    (refusalUnless (inRange (p .«d_neg») (f64 0x3bc7_9ca1_0c92_4223) (f64 0x3e45_798e_e230_8c3a) && inRange (p .«d_pos») (f64 0x3bc7_9ca1_0c92_4223) (f64 0x3e45_798e_e230_8c3a)) diffusivity)
-    (refusalUnless (not (lt (f64 0x40b0_0000_0000_0000) (p .q))) subSteps)
-
--- the least whole number not below q
-abbrev pub subStepsOf : Plan → ℕ
-subStepsOf p = ceilOf (p .q)
+planOf s i dt t = planWith (s .anode) (s .cathode) (s .config .faraday) (currentDensity s i) dt t
 
 -- ---- the cell after the step: that many sub-steps of dt / count at each electrode, the clock raised once by dt
 unfoldable pub profileAfter : ParticleDiffusion → Float → Float → Float → ℕ → List Float

@@ -4,16 +4,18 @@ use electrode::ElectrodeParams;
 use kinetics::SpmConfig;
 use kinetics::bv_overpotential;
 use kinetics::terminal_voltage;
-use kinetics::wall_current;
 use particle::ParticleDiffusion;
 use profile::profile_finite;
 use profile::uniform;
 use refusal::Answer;
+use solver_plan::Plan;
+use solver_plan::plan_for;
+use solver_plan::plan_refusal;
 ghost use mathlib.Core.Path.{_≡_};
 ghost use Prim.Native.Nat.{_≤_};
 ghost use Rattle.refusal.specs.Answers.{said};
 ghost use Rattle.solver.specs.Cell.{gridFits, cellFits, cellRefusal, noSolver, built, ready, ocvCall, socCall, NodesMet};
-ghost use Rattle.solver.specs.Step.{inputRefusal, planOf, planRefusal, advanced, voltageOf, reported, finiteStep, noState, refusedStep, stepped};
+ghost use Rattle.solver.specs.Step.{inputRefusal, planOf, advanced, voltageOf, reported, finiteStep, noState, refusedStep, stepped};
 ghost use Rattle.electrode.specs.Sheet.{lfpCathode, nmcCathode};
 
 pub struct SpmSolver {
@@ -53,15 +55,6 @@ pub struct SpmStep {
     pub state: SpmState,
     pub sub_steps: u64,
     pub solver: SpmSolver,
-}
-
-// What a step works with: diffusivities, fluxes, and the interval in units of the longest sub-step.
-pub struct Plan {
-    pub d_neg: f64,
-    pub d_pos: f64,
-    pub j_neg: f64,
-    pub j_pos: f64,
-    pub q: f64,
 }
 
 // The cell beside a refused build: every number +0, every count 0.
@@ -225,22 +218,9 @@ impl SpmSolver {
     {
         let neg = self.anode;
         let pos = self.cathode;
-        let neg_params = neg.params;
-        let pos_params = pos.params;
         let faraday = self.config.faraday;
-        let i_app = current_a / neg_params.area;
-        let d_neg = neg_params.diffusivity_at(temp_k);
-        let d_pos = pos_params.diffusivity_at(temp_k);
-        let dt_neg = neg.stable_step(d_neg) * 0.45;
-        let dt_pos = pos.stable_step(d_pos) * 0.45;
-        let dt_use = elementary::min(elementary::min(dt, dt_neg), dt_pos);
-        Plan {
-            d_neg,
-            d_pos,
-            j_neg: -i_app / wall_current(neg_params, faraday),
-            j_pos: i_app / wall_current(pos_params, faraday),
-            q: dt / dt_use,
-        }
+        let i_app = current_a / neg.params.area;
+        plan_for(neg, pos, faraday, i_app, dt, temp_k)
     }
 
     // The cell after the sub-steps.
@@ -385,18 +365,6 @@ impl SpmSolver {
             elementary::clamp((theta - 0.20) / (0.80 - 0.20), 0.0, 1.0),
         )
     }
-}
-
-// The number that a plan meets: 6, then 7.
-fn plan_refusal(p: Plan) -> u64
-    ensures { λ r. ⌜ r ≡ planRefusal p ⌝ }
-{
-    let within = refusal::within(p.d_neg, 1e-20, 1e-8) & refusal::within(p.d_pos, 1e-20, 1e-8);
-    let few = !(p.q > 4096.0);
-    refusal::first_met(
-        refusal::refusal_unless(within, refusal::DIFFUSIVITY),
-        refusal::refusal_unless(few, refusal::SUB_STEPS),
-    )
 }
 
 // A refused step: the number, and the cell as it was.

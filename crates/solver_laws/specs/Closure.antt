@@ -33,9 +33,10 @@ use Rattle.kinetics.specs.Kinetics.{configFits}
 use Rattle.solver.specs.declared.SpmSolver.{SpmSolver}
 use Rattle.solver.specs.declared.SpmState.{SpmState}
 use Rattle.solver.specs.declared.SpmStep.{SpmStep}
-use Rattle.solver.specs.declared.Plan.{Plan}
+use Rattle.solver_plan.specs.declared.Plan.{Plan}
 use Rattle.solver.specs.Cell.{gridFits, cellRefusal}
-use Rattle.solver.specs.Step.{inputRefusal, planOf, planRefusal, subStepsOf, profileAfter, advanced, reported, finiteStep, refusedStep, finished, planned, stepped}
+use Rattle.solver_plan.specs.Plans.{planRefusal, subStepsOf}
+use Rattle.solver.specs.Step.{inputRefusal, planOf, profileAfter, advanced, reported, finiteStep, refusedStep, finished, planned, stepped}
 use Rattle.solver_laws.specs.Electrodes.{Electrode, particleAt, diffusivityIn, fluxIn, config-passed, clock-passed, electrode-passes, grid-passed, count-most, cell-passed, interval-size, sub-step-ranged}
 
 -- ---- sub-steps lead from a particle that passes to one that does

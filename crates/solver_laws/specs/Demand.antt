@@ -22,9 +22,10 @@ use Rattle.particle_laws.specs.Ranges.{ranged-sound}
 use Rattle.particle_laws.specs.Checked.{particle-whole}
 use Rattle.solver.specs.declared.SpmSolver.{SpmSolver}
 use Rattle.solver.specs.declared.SpmStep.{SpmStep}
-use Rattle.solver.specs.declared.Plan.{Plan}
+use Rattle.solver_plan.specs.declared.Plan.{Plan}
 use Rattle.solver.specs.Cell.{cellRefusal}
-use Rattle.solver.specs.Step.{inputRefusal, currentDensity, planOf, subStepsOf, profileAfter, advanced, stepped}
+use Rattle.solver_plan.specs.Plans.{subStepsOf}
+use Rattle.solver.specs.Step.{inputRefusal, currentDensity, planOf, profileAfter, advanced, stepped}
 use Rattle.solver_laws.specs.Electrodes.{Electrode, particleAt, diffusivityIn, fluxIn, electrode-passes, count-most, sub-step-ranged}
 use Rattle.solver_laws.specs.Closure.{SameMake, Leads, leads, step-stays, step-refused, step-make, next}
 

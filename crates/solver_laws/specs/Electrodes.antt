@@ -33,9 +33,10 @@ use Rattle.particle_laws.specs.Ranges.{Ranged, sheet-ranges, sheet-passed, wide
 use Rattle.kinetics.specs.declared.SpmConfig.{SpmConfig}
 use Rattle.kinetics.specs.Kinetics.{configFits, wallCurrent}
 use Rattle.solver.specs.declared.SpmSolver.{SpmSolver}
-use Rattle.solver.specs.declared.Plan.{Plan}
+use Rattle.solver_plan.specs.declared.Plan.{Plan}
 use Rattle.solver.specs.Cell.{gridFits, cellRefusal, NodesMet, anode-nodes, cathode-nodes, cell-met}
-use Rattle.solver.specs.Step.{inputRefusal, currentDensity, planOf, planRefusal, subStepsOf}
+use Rattle.solver_plan.specs.Plans.{planRefusal, subStepsOf}
+use Rattle.solver.specs.Step.{inputRefusal, currentDensity, planOf}
 
 pub data Electrode : Type 0 where
   anode : Electrode

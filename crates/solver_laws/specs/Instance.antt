@@ -45,9 +45,10 @@ use Rattle.particle_laws.specs.Closure as ParticleClosure
 use Rattle.kinetics.specs.declared.SpmConfig.{SpmConfig}
 use Rattle.kinetics.specs.Kinetics.{configFits, wallCurrent, exchange, overpotential}
 use Rattle.solver.specs.declared.SpmSolver.{SpmSolver}
-use Rattle.solver.specs.declared.Plan.{Plan}
+use Rattle.solver_plan.specs.declared.Plan.{Plan}
 use Rattle.solver.specs.Cell.{gridFits, cellFits, cellRefusal, buildRefusal, freshSolver, built, ready}
-use Rattle.solver.specs.Step.{inputRefusal, stepped, reported, finiteStep, planRefusal, profileAfter, advanced, voltageOf, currentDensity, planOf, subStepsOf, quotient}
+use Rattle.solver_plan.specs.Plans.{planRefusal, subStepsOf}
+use Rattle.solver.specs.Step.{inputRefusal, stepped, reported, finiteStep, profileAfter, advanced, voltageOf, currentDensity, planOf, quotient}
 use Rattle.solver_laws.specs.Electrodes.{Electrode, particleAt, diffusivityIn, fluxIn, nodes-are}
 use Rattle.solver_laws.specs.Closure.{electrode-next, accepted-where, step-stays, step-count}
 use Rattle.solver_laws.specs.Demand.{Call, answer, taken, K, planFor, numbersAt, KeptAt, place, exactPlace, solver-near, Accepted, at-accepted, Refused, at-refused}

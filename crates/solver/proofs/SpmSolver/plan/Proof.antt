@@ -4,44 +4,12 @@ use borrow.Author.Needs.{needs}
 use Rattle.solver.proofs.SpmSolver.plan.Statement.{statement}
 use Rattle.solver.proofs.SpmSolver.plan.Tie as tie
 
-diffusivity-at-requires : tie.Need-diffusivity-at-requires
-diffusivity-at-requires c κs = search needs
-
-diffusivity-at-requires-2 : tie.Need-diffusivity-at-requires-2
-diffusivity-at-requires-2 c κs = search needs
-
-stable-step-requires : tie.Need-stable-step-requires
-stable-step-requires c κs = search needs
-
-stable-step-requires-2 : tie.Need-stable-step-requires-2
-stable-step-requires-2 c κs = search needs
-
-min-requires : tie.Need-min-requires
-min-requires c κs = search needs
-
-min-requires-2 : tie.Need-min-requires-2
-min-requires-2 c κs = search needs
-
-wall-current-requires : tie.Need-wall-current-requires
-wall-current-requires c κs = search needs
-
-wall-current-requires-2 : tie.Need-wall-current-requires-2
-wall-current-requires-2 c κs = search needs
+plan-for-requires : tie.Need-plan-for-requires
+plan-for-requires c κs = search needs
 
 returns : tie.Need-returns
 unfolding planOf currentDensity
-returns c = cc
+returns c = c .plan-for .ensures
 
 pub plan-spec : {M : Type 1} → statement M
-plan-spec =
-    tie.close
-    (tie.spec
-    diffusivity-at-requires
-    diffusivity-at-requires-2
-    stable-step-requires
-    stable-step-requires-2
-    min-requires
-    min-requires-2
-    wall-current-requires
-    wall-current-requires-2
-    returns)
+plan-spec = tie.close (tie.spec plan-for-requires returns)

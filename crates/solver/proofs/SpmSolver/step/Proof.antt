@@ -5,9 +5,10 @@ use lib.Ieee.{Float}
 use borrow.Author.Tests.{eq-eqb, ne-eqb}
 use Rattle.solver.specs.declared.SpmSolver.{SpmSolver}
 use Rattle.solver.specs.declared.SpmState.{SpmState}
-use Rattle.solver.specs.declared.Plan.{Plan}
+use Rattle.solver_plan.specs.declared.Plan.{Plan}
+use Rattle.solver_plan.specs.Plans.{planRefusal}
 use Rattle.solver.specs.Cell.{anode-nodes, cathode-nodes}
-use Rattle.solver.specs.Step.{input-cell, inputRefusal, planOf, planRefusal, advanced, reported, finished, planned, stepped}
+use Rattle.solver.specs.Step.{input-cell, inputRefusal, planOf, advanced, reported, finished, planned, stepped}
 use borrow.Author.Needs.{needs}
 use Rattle.solver.proofs.SpmSolver.step.Statement.{statement}
 use Rattle.solver.proofs.SpmSolver.step.Tie as tie

@@ -1,0 +1,45 @@
+-- `solver_plan::plan_for` meets its contract. Assumes nothing.
+use borrow.Author.Needs.{needs}
+use Rattle.solver_plan.proofs.plan_for.Statement.{statement}
+use Rattle.solver_plan.proofs.plan_for.Tie as tie
+
+diffusivity-at-requires : tie.Need-diffusivity-at-requires
+diffusivity-at-requires c κs = search needs
+
+diffusivity-at-requires-2 : tie.Need-diffusivity-at-requires-2
+diffusivity-at-requires-2 c κs = search needs
+
+stable-step-requires : tie.Need-stable-step-requires
+stable-step-requires c κs = search needs
+
+stable-step-requires-2 : tie.Need-stable-step-requires-2
+stable-step-requires-2 c κs = search needs
+
+min-requires : tie.Need-min-requires
+min-requires c κs = search needs
+
+min-requires-2 : tie.Need-min-requires-2
+min-requires-2 c κs = search needs
+
+wall-current-requires : tie.Need-wall-current-requires
+wall-current-requires c κs = search needs
+
+wall-current-requires-2 : tie.Need-wall-current-requires-2
+wall-current-requires-2 c κs = search needs
+
+returns : tie.Need-returns
+returns c = cc
+
+pub plan-for-spec : {M : Type 1} → statement M
+plan-for-spec =
+    tie.close
+    (tie.spec
+    diffusivity-at-requires
+    diffusivity-at-requires-2
+    stable-step-requires
+    stable-step-requires-2
+    min-requires
+    min-requires-2
+    wall-current-requires
+    wall-current-requires-2
+    returns)

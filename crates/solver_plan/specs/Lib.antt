@@ -1,0 +1,6 @@
+-- What a step of the single-particle cell works with.
+--
+-- Plans: diffusivities, fluxes, the interval in units of the longest sub-step; 6 and 7; the count of sub-steps.
+-- Literals: each bit pattern above is its decimal rounded once.
+pub mod Plans
+pub mod Literals

@@ -1,0 +1,46 @@
+-- What a step works with, and what is refused of it. Definitions only.
+use Prim.Native.Nat.{ℕ}
+use mathlib.Core.Bool.{not, _&&_}
+use lib.Ieee.{Float, lt, neg}
+use Rattle.binary64.specs.Operators.{_⊗_, _⊘_, f64}
+use Rattle.elementary.specs.Choice.{minOf}
+use Rattle.elementary.specs.Count.{ceilOf}
+use Rattle.refusal.specs.Numbers.{firstMet, refusalUnless, diffusivity, subSteps}
+use Rattle.refusal.specs.Ranges.{inRange}
+use Rattle.electrode.specs.Sheet.{diffusivityAt}
+use Rattle.particle.specs.declared.ParticleDiffusion.{ParticleDiffusion}
+use Rattle.particle.specs.Particle.{stableStep}
+use Rattle.kinetics.specs.Kinetics.{wallCurrent}
+use Rattle.solver_plan.specs.declared.Plan.{Plan}
+
+-- an electrode's longest sub-step: dt_stable * 0.45
+abbrev pub longest : ParticleDiffusion → Float → Float
+longest p d = stableStep p d ⊗ f64 0x3fdc_cccc_cccc_cccd
+
+-- dt / dt_use, dt_use the least of dt and the electrodes' longest sub-steps
+abbrev pub quotientWith : ParticleDiffusion → ParticleDiffusion → Float → Float → Float → Float
+quotientWith a c dt dNeg dPos = dt ⊘ minOf (minOf dt (longest a dNeg)) (longest c dPos)
+
+-- anode, cathode, Faraday's constant, current density, interval, temperature
+abbrev pub planWith : ParticleDiffusion → ParticleDiffusion → Float → Float → Float → Float → Plan
+planWith a c faraday j dt t =
+    let dNeg = diffusivityAt (a .params) t in
+    let dPos = diffusivityAt (c .params) t in
+    record {
+      «d_neg» = dNeg;
+      «d_pos» = dPos;
+      «j_neg» = neg j ⊘ wallCurrent (a .params) faraday;
+      «j_pos» = j ⊘ wallCurrent (c .params) faraday;
+      q = quotientWith a c dt dNeg dPos;
+    }
+
+-- corrected D from 1e-20 to 1e-8 in both electrodes; no more than 4,096 sub-steps
+unfoldable pub planRefusal : Plan → ℕ
+planRefusal p =
+    firstMet
+    (refusalUnless (inRange (p .«d_neg») (f64 0x3bc7_9ca1_0c92_4223) (f64 0x3e45_798e_e230_8c3a) && inRange (p .«d_pos») (f64 0x3bc7_9ca1_0c92_4223) (f64 0x3e45_798e_e230_8c3a)) diffusivity)
+    (refusalUnless (not (lt (f64 0x40b0_0000_0000_0000) (p .q))) subSteps)
+
+-- the least whole number not below q
+abbrev pub subStepsOf : Plan → ℕ
+subStepsOf p = ceilOf (p .q)
