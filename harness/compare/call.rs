@@ -450,6 +450,10 @@ impl Asked {
         words_of(self.rows.now())
     }
 
+    pub fn wrote_no_answer(&self) -> bool {
+        self.answer.now() == self.answer.then()
+    }
+
     /// Where the port differs from the oracle, in words; none where it agrees.
     pub fn differences(&self, oracle: &Answer) -> Vec<String> {
         let mut all = Vec::new();
@@ -457,7 +461,8 @@ impl Asked {
             all.push(format!("number: oracle {}, port {}", oracle.number, self.number));
         }
         match &oracle.image {
-            None if self.answer.now() != self.answer.then() => all.push("the answer of a refused call is written".to_string()),
+            None if !self.wrote_no_answer() => all.push("the answer of a refused call is written".to_string()),
+            Some(_) if self.wrote_no_answer() => all.push("the answer is not written".to_string()),
             Some(image) if self.answer.now() != &image[..] => {
                 let (expected, got) = (words_of(image), words_of(self.answer.now()));
                 for (at, (e, g)) in expected.iter().zip(&got).enumerate().filter(|(_, (e, g))| e != g) {

@@ -324,6 +324,9 @@ fn particle_steps(draw: &mut Draw, turn: u64) -> Case {
             _ => d_s * sheet.c_s_max() / sheet.numbers[0] * n as f64 * draw.uniform(-1.0, 1.0),
         };
         let dt = if draw.below(8) == 0 { records::power(draw, -1000.0, 16.0) } else { least * draw.pick(&[0.01, 0.3, 0.9, 2.0]) };
+        // a change too small for a subnormal keeps the sign of a zero
+        let vanishing = particle.c_s[0].to_bits() == 1 << 63 && draw.below(2) == 0;
+        let (flux, dt) = if vanishing { (draw.pick(&[-1e-300, 1e-300, -0.0]), f64::from_bits(1)) } else { (flux, dt) };
         let numbers = [flux.clamp(-1e13, 1e13), dt.clamp(f64::from_bits(1), 86_400.0), temp_k];
         turns.push(Turn::new(draw, Function::ParticleStep, &numbers));
         if draw.below(2) == 0 {
@@ -374,7 +377,13 @@ fn cell_steps(draw: &mut Draw, turn: u64) -> Case {
     let mut turns = Vec::new();
     for _ in 0..draw.count(1, 6) {
         let temp_k = cell_temperature(draw, &cell);
-        let numbers = [records::current(draw, area), interval_of(draw, least_interval(&cell, temp_k)), temp_k];
+        let vanishing = cell.anode.c_s[0].to_bits() == 1 << 63 || cell.cathode.c_s[0].to_bits() == 1 << 63;
+        let (current, dt) = if vanishing && draw.below(2) == 0 {
+            (draw.pick(&[1e-300, -1e-300, 0.0, -0.0]), f64::from_bits(1))
+        } else {
+            (records::current(draw, area), interval_of(draw, least_interval(&cell, temp_k)))
+        };
+        let numbers = [current, dt, temp_k];
         turns.push(Turn::new(draw, Function::CellStep, &numbers));
         if draw.below(3) == 0 {
             let (call, free) = (draw.count(11, 12), f64::from_bits(draw.pick(&SPECIAL)));

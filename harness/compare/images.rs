@@ -323,6 +323,10 @@ impl Fields {
         self.names.get(at).map_or("?", |name| name)
     }
 
+    pub fn is_count(&self, at: usize) -> bool {
+        matches!(self.kinds[at], Kind::Plain(Meaning::Count(..)))
+    }
+
     /// What the word may be, the other words being as they are.
     pub fn meaning(&self, at: usize, words: &[u64]) -> Meaning {
         match self.kinds[at] {

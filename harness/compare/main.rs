@@ -87,12 +87,11 @@ fn print_call(call: &Call) {
     let code = if let Function::Number(code) | Function::Build(code) = function { format!(" ({code})") } else { String::new() };
     println!("  call {}{code}, filler {:016X}", function.name(), call.filler);
     print_bytes("image", &call.image);
-    let ready_length = call.image.len() == function.record().bytes();
-    if ready_length {
-        for (at, word) in words_of(&call.image).iter().enumerate() {
-            if function.record().fields().plain.contains(&at) {
-                println!("    {:>20} {word:016X} ({:e})", function.record().fields().name(at), f64::from_bits(*word));
-            }
+    if call.image.len() == function.record().bytes() {
+        let (fields, words) = (function.record().fields(), words_of(&call.image));
+        for at in &fields.plain {
+            let value = if fields.is_count(*at) { words[*at].to_string() } else { format!("{:e}", f64::from_bits(words[*at])) };
+            println!("    {:>20} {:016X} ({value})", fields.name(*at), words[*at]);
         }
     }
     if !call.numbers.is_empty() {
@@ -113,22 +112,33 @@ fn print_call(call: &Call) {
         None => println!("  and writes no answer"),
     }
     println!("  the port answers {}", port.number);
-    print_bytes("port's answer", port.answer());
+    if port.wrote_no_answer() {
+        println!("  and writes no answer");
+    } else {
+        print_bytes("port's answer", port.answer());
+    }
     if call.rows > 0 {
         print_words("oracle's rows", &oracle.rows);
         print_words("port's slice", &port.rows());
     }
-    let differences = port.differences(&oracle);
-    println!("  {} differences:", differences.len());
+    print_differences(&port.differences(&oracle));
+}
+
+fn print_differences(differences: &[String]) {
+    println!("  differences: {}", differences.len());
     for line in differences.iter().take(40) {
         println!("    {line}");
     }
 }
 
-fn report(seed: u64, number: u64, case: &Case, at: usize, call: &Call) -> ! {
+fn report(seed: u64, number: u64, case: &Case, (at, call, differences): (usize, Call, Vec<String>)) -> ! {
     println!("compare: oracle and port differ: --seed {seed} --case {number}, call {} of {}", at + 1, case.turns.len());
-    print_call(call);
-    let small = shrunk(case, at, call);
+    print_differences(&differences);
+    print_call(&call);
+    let Some(small) = shrunk(case, at, &call) else {
+        println!("compare: asked again, the port answers as the oracle does: its answer does not depend on its input alone");
+        exit(1);
+    };
     println!("compare: the smallest failing input found, {} call(s):", small.turns.len());
     let mut record = small.start.clone();
     for turn in &small.turns {
@@ -162,8 +172,8 @@ fn main() {
         }
         let case = cases::case(options.seed, number);
         let found = first_difference(&case, |call, oracle, kept| tally.add(call, oracle, kept));
-        if let Some((at, call)) = found {
-            report(options.seed, number, &case, at, &call);
+        if let Some(difference) = found {
+            report(options.seed, number, &case, difference);
         }
         compared += 1;
         if end.is_some() && said.elapsed() >= Duration::from_secs(5) {

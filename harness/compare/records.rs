@@ -25,6 +25,10 @@ pub fn sheet(draw: &mut Draw) -> Sheet {
 fn profile(draw: &mut Draw, places: &mut [f64], range: Range) {
     let Range { low, high } = range;
     let (start, slope, way) = (draw.unit(), draw.uniform(-1.0, 1.0) / places.len() as f64, draw.below(8));
+    if low == 0.0 && draw.below(24) == 0 {
+        places.fill(-0.0);
+        return;
+    }
     for (i, place) in places.iter_mut().enumerate() {
         let part = match way {
             0 | 1 => draw.unit(),

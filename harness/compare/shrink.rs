@@ -1,5 +1,5 @@
 //! The smallest failing input that can be found from one that fails.
-use crate::call::{ask_oracle, ask_port, Argument, Call, Function};
+use crate::call::{ask_oracle, ask_port, Answer, Argument, Call, Function};
 use crate::cases::{Case, Turn};
 use crate::images::{bytes_from, image_of, words_of, Record};
 use crate::records::{READY_CONFIG, READY_REGIONS};
@@ -12,13 +12,14 @@ use calls::words::word;
 use std::time::{Duration, Instant};
 
 /// The calls of a case one after the other, up to the first that differs; `each` is told of every call.
-pub fn first_difference(case: &Case, mut each: impl FnMut(&Call, &crate::call::Answer, u64)) -> Option<(usize, Call)> {
+pub fn first_difference(case: &Case, mut each: impl FnMut(&Call, &Answer, u64)) -> Option<(usize, Call, Vec<String>)> {
     let mut record = case.start.clone();
     for (at, turn) in case.turns.iter().enumerate() {
         let call = turn.on(&record);
         let (oracle, port) = (ask_oracle(&call), ask_port(&call));
-        if !port.differences(&oracle).is_empty() {
-            return Some((at, call));
+        let differences = port.differences(&oracle);
+        if !differences.is_empty() {
+            return Some((at, call, differences));
         }
         each(&call, &oracle, port.kept_bytes(&oracle));
         let next = call.function.next();
@@ -29,8 +30,10 @@ pub fn first_difference(case: &Case, mut each: impl FnMut(&Call, &crate::call::A
     None
 }
 
-fn fails(call: &Call) -> bool {
-    !ask_port(call).differences(&ask_oracle(call)).is_empty()
+/// The two numbers, where oracle and port differ.
+fn failure(call: &Call) -> Option<(u64, u64)> {
+    let (oracle, port) = (ask_oracle(call), ask_port(call));
+    (!port.differences(&oracle).is_empty()).then_some((oracle.number, port.number))
 }
 
 fn ready_config(n_nodes: u64) -> Config {
@@ -237,11 +240,11 @@ fn size(call: &Call) -> (usize, usize, usize) {
     (nodes as usize + call.rows + system.a.len() + system.b.len(), 2 * unlike + strange + lengths, changing + entries)
 }
 
-/// The smallest call that was found in half a minute.
-fn smallest(mut call: Call) -> Call {
+/// The smallest call that was found in half a minute and fails with the same two numbers.
+fn smallest(mut call: Call, numbers: (u64, u64)) -> Call {
     let end = Instant::now() + Duration::from_secs(30);
     while Instant::now() < end {
-        match smaller(&call).into_iter().find(|next| Instant::now() < end && fails(next)) {
+        match smaller(&call).into_iter().find(|next| Instant::now() < end && failure(next) == Some(numbers)) {
             Some(next) => call = next,
             None => break,
         }
@@ -249,13 +252,17 @@ fn smallest(mut call: Call) -> Call {
     call
 }
 
-/// The failing call by itself and made small; or, where it fails after other calls only, the shortest list.
-pub fn shrunk(case: &Case, at: usize, call: &Call) -> Case {
-    if fails(call) {
-        return Case::single(&smallest(call.clone()));
+/// The failing call by itself and made small; or, where it fails after other calls only, the shortest list; or nothing,
+/// where the difference does not come again.
+pub fn shrunk(case: &Case, at: usize, call: &Call) -> Option<Case> {
+    if let Some(numbers) = failure(call) {
+        return Some(Case::single(&smallest(call.clone(), numbers)));
     }
     let mut turns: Vec<Turn> = case.turns[..=at].to_vec();
     let still = |turns: &[Turn]| first_difference(&Case { start: case.start.clone(), turns: turns.to_vec() }, |_, _, _| ()).is_some();
+    if !still(&turns) {
+        return None;
+    }
     let mut out = 0;
     while out < turns.len() {
         let mut fewer = turns.clone();
@@ -266,5 +273,5 @@ pub fn shrunk(case: &Case, at: usize, call: &Call) -> Case {
             out += 1;
         }
     }
-    Case { start: case.start.clone(), turns }
+    Some(Case { start: case.start.clone(), turns })
 }
