@@ -40,3 +40,13 @@ crate() {
     mkdir -p "$build/$2"
     rustc --edition 2021 --crate-name "$1" -C "opt-level=$2" -L "$build/$2" --out-dir "$build/$2" "${@:4}" "$harness/$3"
 }
+
+# port_program NAME SOURCE CRATE..: a program on the port's crate and on others, linked with the archive
+port_program() {
+    local folder=native=${archive%/*} externs=() other
+    for other in "${@:3}"; do
+        externs+=(--extern "$other")
+    done
+    crate port 3 port/lib.rs --crate-type rlib -L "$folder" -l static:-bundle=boundary
+    crate "$1" 3 "$2" --extern port "${externs[@]}" -L "$folder"
+}

@@ -1,9 +1,9 @@
 //! The comparison at scale: oracle and port on the same calls, drawn from a seed, bit for bit.
 //!
-//!     compare [--seed N] [--minutes M | --cases N] [--case K]
+//!     compare [--seed N] [--minutes M | --cases N] [--case K] [--trace]
 //!
 //! Without --minutes a fixed count of cases is compared, and two runs print the same. --case compares one case, by the number
-//! that a difference was printed with.
+//! that a difference was printed with. --trace prints each case's number before it, should a call not come back.
 mod call;
 mod cases;
 #[allow(dead_code)]
@@ -30,17 +30,22 @@ struct Options {
     cases: u64,
     minutes: Option<f64>,
     case: Option<u64>,
+    trace: bool,
 }
 
 fn usage() -> ! {
-    eprintln!("compare: [--seed N] [--minutes M | --cases N] [--case K]");
+    eprintln!("compare: [--seed N] [--minutes M | --cases N] [--case K] [--trace]");
     exit(2);
 }
 
 fn options() -> Options {
-    let mut options = Options { seed: GATE_SEED, cases: GATE_CASES, minutes: None, case: None };
+    let mut options = Options { seed: GATE_SEED, cases: GATE_CASES, minutes: None, case: None, trace: false };
     let mut given = std::env::args().skip(1);
     while let Some(name) = given.next() {
+        if name == "--trace" {
+            options.trace = true;
+            continue;
+        }
         let value = given.next().unwrap_or_else(|| usage());
         let whole = || value.parse().unwrap_or_else(|_| usage());
         match name.as_str() {
@@ -169,6 +174,9 @@ fn main() {
     for number in first..last {
         if end.is_some_and(|end| Instant::now() >= end) {
             break;
+        }
+        if options.trace {
+            eprintln!("compare: case {number}");
         }
         let case = cases::case(options.seed, number);
         let found = first_difference(&case, |call, oracle, kept| tally.add(call, oracle, kept));
