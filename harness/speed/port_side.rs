@@ -69,7 +69,7 @@ pub fn dfn_steps(counts: [usize; 3], load: Load, times: usize) -> (Duration, Ans
 }
 
 pub fn cell_run(n_nodes: usize, load: Load, rows: usize) -> (Duration, Answer) {
-    let (cell, mut lent, mut answer) = (spm(n_nodes), vec![0.0; 8 * rows], vec![0; CELL + ENDING]);
+    let (cell, mut lent, mut answer) = (spm(n_nodes), vec![-1.0; 8 * rows], vec![0; CELL + ENDING]);
     let numbers = [load.current_a, load.dt, TEMPERATURE, load.dt * rows as f64];
     let started = clock::now();
     accepted(port::simulate_discharge(black_box(&cell), numbers, black_box(&mut lent), &mut answer));
@@ -80,7 +80,7 @@ pub fn cell_run(n_nodes: usize, load: Load, rows: usize) -> (Duration, Answer) {
 }
 
 pub fn dfn_run(counts: [usize; 3], load: Load, rows: usize) -> (Duration, Answer) {
-    let (cell, mut lent, mut answer) = (dfn(counts), vec![0.0; 8 * rows], vec![0; DFN_CELL + ENDING]);
+    let (cell, mut lent, mut answer) = (dfn(counts), vec![-1.0; 8 * rows], vec![0; DFN_CELL + ENDING]);
     let started = clock::now();
     accepted(port::run_galvanostatic(black_box(&cell), [load.current_a, load.dt, load.dt * rows as f64], black_box(&mut lent), &mut answer));
     let taken = clock::now() - started;
