@@ -309,6 +309,10 @@ fn particle_numbers(draw: &mut Draw) -> Turn {
     Turn::new(draw, Function::Number(call), &[x, free])
 }
 
+fn next_to_empty(place: f64) -> bool {
+    place < 1e-3
+}
+
 fn particle_steps(draw: &mut Draw, turn: u64) -> Case {
     let (sheet, n) = (records::sheet(draw), 3 + turn % 62);
     let build = draw.below(3) == 0;
@@ -325,8 +329,8 @@ fn particle_steps(draw: &mut Draw, turn: u64) -> Case {
         };
         let dt = if draw.below(8) == 0 { records::power(draw, -1000.0, 16.0) } else { least * draw.pick(&[0.01, 0.3, 0.9, 2.0]) };
         // a change too small for a subnormal keeps the sign of a zero
-        let vanishing = particle.c_s[0].to_bits() == 1 << 63 && draw.below(2) == 0;
-        let (flux, dt) = if vanishing { (draw.pick(&[-1e-300, 1e-300, -0.0]), f64::from_bits(1)) } else { (flux, dt) };
+        let short = next_to_empty(particle.c_s[0]) && draw.below(2) == 0;
+        let (flux, dt) = if short { (draw.pick(&[-1e-300, 1e-300, -0.0, flux]), records::short_interval(draw)) } else { (flux, dt) };
         let numbers = [flux.clamp(-1e13, 1e13), dt.clamp(f64::from_bits(1), 86_400.0), temp_k];
         turns.push(Turn::new(draw, Function::ParticleStep, &numbers));
         if draw.below(2) == 0 {
@@ -377,12 +381,10 @@ fn cell_steps(draw: &mut Draw, turn: u64) -> Case {
     let mut turns = Vec::new();
     for _ in 0..draw.count(1, 6) {
         let temp_k = cell_temperature(draw, &cell);
-        let vanishing = cell.anode.c_s[0].to_bits() == 1 << 63 || cell.cathode.c_s[0].to_bits() == 1 << 63;
-        let (current, dt) = if vanishing && draw.below(2) == 0 {
-            (draw.pick(&[1e-300, -1e-300, 0.0, -0.0]), f64::from_bits(1))
-        } else {
-            (records::current(draw, area), interval_of(draw, least_interval(&cell, temp_k)))
-        };
+        let (mut current, mut dt) = (records::current(draw, area), interval_of(draw, least_interval(&cell, temp_k)));
+        if (next_to_empty(cell.anode.c_s[0]) || next_to_empty(cell.cathode.c_s[0])) && draw.below(2) == 0 {
+            (current, dt) = (draw.pick(&[1e-300, -1e-300, 0.0, -0.0, current]), records::short_interval(draw));
+        }
         let numbers = [current, dt, temp_k];
         turns.push(Turn::new(draw, Function::CellStep, &numbers));
         if draw.below(3) == 0 {
@@ -510,8 +512,10 @@ fn dfn_current(draw: &mut Draw, cell: &dfn::Cell) -> f64 {
     records::current(draw, cell.params.numbers[3])
 }
 
-fn dfn_interval(draw: &mut Draw) -> f64 {
+fn dfn_interval(draw: &mut Draw, cell: &dfn::Cell) -> f64 {
+    let empty = next_to_empty(cell.c_s_neg[0]) || next_to_empty(cell.c_s_pos[0]);
     match draw.below(4) {
+        1 | 2 if empty => records::short_interval(draw),
         0 => draw.pick(&[1.0, 10.0, 0.1, 5e-324, 86_400.0]),
         _ => records::power(draw, -16.0, 10.0),
     }
@@ -521,7 +525,7 @@ fn dfn_steps(draw: &mut Draw, _: u64) -> Case {
     let (cell, build) = some_dfn(draw);
     let mut turns = Vec::new();
     for _ in 0..draw.count(1, 6) {
-        let numbers = [dfn_current(draw, &cell), dfn_interval(draw)];
+        let numbers = [dfn_current(draw, &cell), dfn_interval(draw, &cell)];
         turns.push(Turn::new(draw, Function::DfnStep, &numbers));
     }
     listed(draw, Record::DfnCell, &cell.slots(), build, turns)
@@ -529,7 +533,7 @@ fn dfn_steps(draw: &mut Draw, _: u64) -> Case {
 
 fn galvanostatic(draw: &mut Draw, _: u64) -> Case {
     let (mut cell, mut build) = some_dfn(draw);
-    let (current, dt) = (dfn_current(draw, &cell), dfn_interval(draw));
+    let (current, dt) = (dfn_current(draw, &cell), dfn_interval(draw, &cell));
     if draw.below(2) == 0 {
         let (mut voltages, mut next) = (Vec::new(), cell.clone());
         for _ in 0..draw.count(2, 12) {

@@ -21,12 +21,15 @@ pub fn sheet(draw: &mut Draw) -> Sheet {
     }
 }
 
-/// A solid or electrolyte profile in a range: rough, smooth, at the ends, nearly flat, with zeros and subnormals.
+/// A solid or electrolyte profile in a range: rough, smooth, at the ends, nearly flat, with zeros and subnormals; next to empty.
 fn profile(draw: &mut Draw, places: &mut [f64], range: Range) {
     let Range { low, high } = range;
     let (start, slope, way) = (draw.unit(), draw.uniform(-1.0, 1.0) / places.len() as f64, draw.below(8));
-    if low == 0.0 && draw.below(24) == 0 {
-        places.fill(-0.0);
+    if low == 0.0 && draw.below(12) == 0 {
+        let most = if draw.below(2) == 0 { 0.0 } else { power(draw, -400.0, -10.0) };
+        for place in places {
+            *place = if most == 0.0 { -0.0 } else { (most * draw.unit()).min(high) };
+        }
         return;
     }
     for (i, place) in places.iter_mut().enumerate() {
@@ -91,6 +94,11 @@ pub fn temperature(draw: &mut Draw) -> f64 {
         1 => draw.within(TEMPERATURE),
         _ => draw.uniform(270.0, 330.0),
     }
+}
+
+/// An interval in which a concentration next to 0 stays there.
+pub fn short_interval(draw: &mut Draw) -> f64 {
+    draw.pick(&[5e-324, 5e-324, 1e-300, 1e-100, 1e-30, 1e-12])
 }
 
 /// From 2^low to 2^high, evenly by the exponent.
