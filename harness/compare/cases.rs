@@ -465,7 +465,8 @@ fn salt_numbers(draw: &mut Draw, _: u64) -> Case {
     let mut turns = Vec::new();
     for _ in 0..draw.count(1, 2) {
         let (temp_k, free) = (records::temperature(draw), f64::from_bits(draw.pick(&SPECIAL)));
-        let porosity = draw.within(POROSITY);
+        // few binary digits: among them where the logarithm halves its argument
+        let porosity = if draw.below(8) == 0 { draw.pick(&[0.75, 0.375, 0.1875, 0.5, 0.25, 1.0]) } else { draw.within(POROSITY) };
         for (call, x) in [(13, free), (14, free), (15, porosity), (16, porosity)] {
             turns.push(Turn::new(draw, Function::Number(call), &[x, temp_k]));
         }
@@ -514,8 +515,10 @@ fn dfn_current(draw: &mut Draw, cell: &dfn::Cell) -> f64 {
 
 fn dfn_interval(draw: &mut Draw, cell: &dfn::Cell) -> f64 {
     let empty = next_to_empty(cell.c_s_neg[0]) || next_to_empty(cell.c_s_pos[0]);
+    let steep = (40.0..900.0).contains(&cell.params.numbers[18]);
     match draw.below(4) {
         1 | 2 if empty => records::short_interval(draw),
+        1 | 2 | 3 if steep => records::steep_interval(draw, cell),
         0 => draw.pick(&[1.0, 10.0, 0.1, 5e-324, 86_400.0]),
         _ => records::power(draw, -16.0, 10.0),
     }

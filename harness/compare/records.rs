@@ -211,7 +211,38 @@ pub fn breaking(draw: &mut Draw, params: &mut dfn::Params, config: &mut dfn::Con
     config.counts[0] = draw.count(3, 6);
 }
 
+/// The binary exponent.
+fn exponent(x: f64) -> f64 {
+    ((x.to_bits() >> 52) & 0x7FF) as f64 - 1023.0
+}
+
+/// A cell whose electrolyte diffusivity spans many decades.
+fn steep(draw: &mut Draw) -> dfn::Cell {
+    let (mut params, mut config) = (dfn_params(draw), dfn_config(draw));
+    params.numbers[16] = draw.uniform(500.0, 2000.0);
+    params.numbers[18] = draw.uniform(40.0, 1000.0);
+    config.counts[0] = draw.count(3, 8);
+    let mut made = dfn::Cell::new(params, config).expect("parameters in range");
+    for place in made.c_e.iter_mut().filter(|place| **place != 0.0) {
+        *place *= draw.uniform(0.4, 1.2);
+    }
+    made
+}
+
+/// An interval in which such a cell's electrolyte moves, and not all of it to the clamp.
+pub fn steep_interval(draw: &mut Draw, cell: &dfn::Cell) -> f64 {
+    let numbers = &cell.params.numbers;
+    let least = cell.c_e.iter().filter(|place| **place != 0.0).fold(numbers[16], |a, b| a.min(*b));
+    let diffusivity = exponent(numbers[17]) + numbers[18] * (1.0 - least / numbers[16]) / std::f64::consts::LN_2;
+    let spacing = exponent(numbers[0] / cell.config.counts[0] as f64);
+    let middle = (2.0 * spacing - diffusivity).clamp(-1000.0, 10.0);
+    power(draw, middle - 12.0, middle + 4.0)
+}
+
 pub fn dfn_cell(draw: &mut Draw) -> dfn::Cell {
+    if draw.below(8) == 0 {
+        return steep(draw);
+    }
     let (mut params, mut config) = (dfn_params(draw), dfn_config(draw));
     if draw.below(12) == 0 {
         breaking(draw, &mut params, &mut config);
