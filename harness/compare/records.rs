@@ -253,7 +253,13 @@ pub fn dfn_cell(draw: &mut Draw) -> dfn::Cell {
         profile(draw, &mut made.c_s_neg[..n_x_neg * n_r], Range { low: 0.0, high: params.numbers[6] });
         profile(draw, &mut made.c_s_pos[..n_x_pos * n_r], Range { low: 0.0, high: params.numbers[12] });
         let range = draw.pick(&[dfn::CONCENTRATION, Range { low: 100.0, high: 3000.0 }, Range { low: 900.0, high: 1500.0 }]);
-        profile(draw, &mut made.c_e[..n_x_neg + 1 + n_x_pos], range);
+        let c_e = &mut made.c_e[..n_x_neg + 1 + n_x_pos];
+        if draw.below(12) == 0 {
+            // a ratio to c_e0 at which the logarithm halves its argument
+            c_e.fill((params.numbers[16] * draw.pick(&[0.75, 1.5, 0.375])).clamp(1.0, 1e5));
+        } else {
+            profile(draw, c_e, range);
+        }
         made.time_s = clock(draw);
     }
     if draw.below(6) == 0 {
