@@ -256,7 +256,7 @@ pub fn dfn_cell(draw: &mut Draw) -> dfn::Cell {
         let c_e = &mut made.c_e[..n_x_neg + 1 + n_x_pos];
         if draw.below(12) == 0 {
             // a ratio to c_e0 at which the logarithm halves its argument
-            c_e.fill((params.numbers[16] * draw.pick(&[0.75, 1.5, 0.375])).clamp(1.0, 1e5));
+            c_e.fill((params.numbers[16] * draw.pick(&[0.1875, 0.09375, 0.75, 12.0, 24.0])).clamp(1.0, 1e5));
         } else {
             profile(draw, c_e, range);
         }
