@@ -2,6 +2,7 @@
 //! Each file stands in a module of its own name; dfn.rs gets a child module that reaches its private members.
 #![allow(dead_code, clippy::all)]
 
+#[cfg_attr(published, path = "published.rs")]
 pub mod standins;
 
 pub mod electrode {

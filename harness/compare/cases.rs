@@ -1,0 +1,672 @@
+//! The cases: a record, and a list of calls on it, each of which gets what the call before it handed back.
+use crate::call::{Argument, Call, Function, System};
+use crate::draw::Draw;
+use crate::images::{image_of, words_of, Meaning, Record};
+use crate::records;
+use calls::dfn;
+use calls::electrode::{self, Sheet};
+use calls::electrolyte::{Electrolyte, POROSITY};
+use calls::particle::Particle;
+use calls::solver::{Cell, DIFFUSIVITY};
+use calls::table::{Range, TEMPERATURE};
+use calls::words::{word, Slot};
+
+/// A call in a list. Its image is the record so far with some words changed, cut off or lengthened.
+#[derive(Clone)]
+pub struct Turn {
+    /// the call; its image is not looked at
+    pub call: Call,
+    pub changes: Vec<(usize, u64)>,
+    pub image_bytes: Option<usize>,
+}
+
+#[derive(Clone)]
+pub struct Case {
+    pub start: Vec<u8>,
+    pub turns: Vec<Turn>,
+}
+
+impl Turn {
+    pub fn new(draw: &mut Draw, function: Function, numbers: &[f64]) -> Self {
+        let call = Call {
+            function,
+            image: Vec::new(),
+            numbers: numbers.iter().map(|x| x.to_bits()).collect(),
+            rows: 0,
+            system: System::default(),
+            answer_bytes: function.answer_bytes(),
+            filler: draw.bits(),
+        };
+        Self { call, changes: Vec::new(), image_bytes: None }
+    }
+
+    fn with_rows(mut self, rows: usize) -> Self {
+        self.call.rows = rows;
+        self
+    }
+
+    /// On the record as it is, with the right lengths.
+    fn is_plain(&self) -> bool {
+        self.changes.is_empty() && self.image_bytes.is_none() && self.call.answer_bytes == self.call.function.answer_bytes()
+    }
+
+    /// The call on this record.
+    pub fn on(&self, record: &[u8]) -> Call {
+        let mut image = record.to_vec();
+        for (at, to) in &self.changes {
+            if let Some(place) = image.get_mut(8 * at..8 * at + 8) {
+                place.copy_from_slice(&to.to_le_bytes());
+            }
+        }
+        if let Some(bytes) = self.image_bytes {
+            image.resize(bytes, (self.call.filler >> 20) as u8);
+        }
+        Call { image, ..self.call.clone() }
+    }
+}
+
+impl Case {
+    pub fn single(call: &Call) -> Self {
+        Self { start: call.image.clone(), turns: vec![Turn { call: call.clone(), changes: Vec::new(), image_bytes: None }] }
+    }
+}
+
+/// Patterns that are special to binary64: zeros, subnormals, the ends of the format, infinities, NaNs of several kinds.
+const SPECIAL: [u64; 18] = [
+    0,
+    1 << 63,
+    1,
+    (1 << 63) | 1,
+    0x000F_FFFF_FFFF_FFFF,
+    0x0010_0000_0000_0000,
+    0x7FEF_FFFF_FFFF_FFFF,
+    0xFFEF_FFFF_FFFF_FFFF,
+    0x7FF0_0000_0000_0000,
+    0xFFF0_0000_0000_0000,
+    0x7FF8_0000_0000_0000,
+    0xFFF8_0000_0000_0000,
+    0x7FF0_0000_0000_0001,
+    0xFFF0_0000_0000_0001,
+    0x7FF4_0000_0000_0000,
+    u64::MAX,
+    0x3FF0_0000_0000_0000,
+    0xBFF0_0000_0000_0000,
+];
+
+/// A number at or around a limit, special, or of random bits.
+fn around(draw: &mut Draw, low: f64, high: f64) -> u64 {
+    match draw.below(4) {
+        0 => draw.pick(&SPECIAL),
+        1 if draw.below(2) == 0 => draw.bits(),
+        1 => (-draw.within(Range { low, high })).to_bits(),
+        _ => {
+            let (inside, outside) = ([low, high, low.next_up(), high.next_down()], [low.next_down(), high.next_up()]);
+            (if draw.below(2) == 0 { draw.pick(&inside) } else { draw.pick(&outside) }).to_bits()
+        }
+    }
+}
+
+fn count_around(draw: &mut Draw, low: u64, high: u64) -> u64 {
+    match draw.below(4) {
+        0 => draw.bits() >> draw.below(64),
+        1 => draw.count(low, high),
+        _ => draw.pick(&[0, 1, low.wrapping_sub(1), low, low + 1, high - 1, high, high + 1, 1 << 32, (1 << 32) + low, 1 << 63, u64::MAX]),
+    }
+}
+
+fn word_around(draw: &mut Draw, meaning: Meaning) -> u64 {
+    match meaning {
+        Meaning::Count(low, high) => count_around(draw, low, high),
+        Meaning::Number(range) => around(draw, range.low, range.high),
+        Meaning::Clock => around(draw, 0.0, f64::MAX),
+        Meaning::Unused if draw.below(2) == 0 => draw.pick(&[1 << 63, 1, 0x3FF0_0000_0000_0000, 0x7FF8_0000_0000_0000]),
+        Meaning::Unused | Meaning::Free => draw.pick(&SPECIAL),
+    }
+}
+
+fn argument_around(draw: &mut Draw, argument: Argument) -> u64 {
+    match argument {
+        Argument::Ignored => draw.pick(&SPECIAL),
+        Argument::Finite => around(draw, -f64::MAX, f64::MAX),
+        Argument::Temperature => around(draw, TEMPERATURE.low, TEMPERATURE.high),
+        Argument::Radius => around(draw, electrode::RANGES[0].low, electrode::RANGES[0].high),
+        Argument::Porosity => around(draw, POROSITY.low, POROSITY.high),
+        Argument::Load(most) => around(draw, -most, most),
+        Argument::Interval => around(draw, 0.0, 86_400.0),
+    }
+}
+
+/// A word of the record: a field, a place at the edge of what is used, or any.
+fn some_word(draw: &mut Draw, record: Record, words: &[u64]) -> usize {
+    let fields = record.fields();
+    if fields.arrays.is_empty() || draw.below(2) == 0 {
+        return draw.pick(&fields.plain);
+    }
+    let array = draw.pick(&fields.arrays);
+    let used = array.used_of(words);
+    let at = match draw.below(4) {
+        0 => draw.below(array.places as u64) as usize,
+        1 => used,
+        2 => used.saturating_sub(1),
+        _ => draw.below(used.max(1) as u64) as usize,
+    };
+    array.start + at.min(array.places - 1)
+}
+
+/// One argument or one word of the record at its limits; or, for a run, the length of the slice.
+fn one_fault(draw: &mut Draw, turn: &mut Turn, record: Record, words: &[u64]) {
+    let run = matches!(turn.call.function, Function::Discharge | Function::Galvanostatic);
+    if run && draw.below(8) == 0 {
+        turn.call.rows = draw.below(9) as usize;
+        return;
+    }
+    let arguments = turn.call.function.arguments();
+    let to_argument = !arguments.is_empty() && (words.is_empty() || draw.below(2) == 0);
+    if to_argument {
+        let at = draw.below(arguments.len() as u64) as usize;
+        turn.call.numbers[at] = argument_around(draw, arguments[at]);
+    } else if !words.is_empty() {
+        let at = some_word(draw, record, words);
+        turn.changes.push((at, word_around(draw, record.fields().meaning(at, words))));
+    }
+}
+
+fn wrong_length(draw: &mut Draw, right: usize) -> usize {
+    match draw.below(4) {
+        0 => draw.below(2 * right as u64 + 16) as usize,
+        1 => right + 8,
+        2 => right.saturating_sub(8),
+        _ => draw.pick(&[0, 1, 7, 8, right.saturating_sub(1), right + 1]),
+    }
+}
+
+/// Faults in some of the calls: one, two at once, wrong lengths. `words` is the record that the calls are on.
+fn with_faults(draw: &mut Draw, mut turns: Vec<Turn>, record: Record, words: &[u64]) -> Vec<Turn> {
+    for turn in &mut turns {
+        match draw.below(20) {
+            0..=4 => one_fault(draw, turn, record, words),
+            5 | 6 => {
+                one_fault(draw, turn, record, words);
+                one_fault(draw, turn, record, words);
+            }
+            7 => {
+                lengths(draw, turn);
+                if draw.below(2) == 0 {
+                    one_fault(draw, turn, record, words);
+                }
+            }
+            _ => {}
+        }
+    }
+    turns
+}
+
+/// A wrong length of the image, of the answer, or of both.
+fn lengths(draw: &mut Draw, turn: &mut Turn) {
+    let function = turn.call.function;
+    let which = if function == Function::Solve { 1 } else { draw.below(3) };
+    if which != 1 {
+        turn.image_bytes = Some(wrong_length(draw, function.record().bytes()));
+    }
+    if which != 0 {
+        turn.call.answer_bytes = wrong_length(draw, function.answer_bytes());
+    }
+}
+
+/// A list of calls on a drawn record, or on one that its first call builds.
+fn listed(draw: &mut Draw, record: Record, slots: &[Slot], build: Option<(Function, Vec<Slot>)>, turns: Vec<Turn>) -> Case {
+    let image = image_of(record.parts(), slots);
+    let words = words_of(&image);
+    let mut turns = with_faults(draw, turns, record, &words);
+    let Some((function, given)) = build else {
+        return Case { start: image, turns };
+    };
+    let start = image_of(function.record().parts(), &given);
+    let plain = Turn::new(draw, function, &[]);
+    let mut built = with_faults(draw, vec![plain.clone()], function.record(), &words_of(&start));
+    if !built[0].is_plain() {
+        built.push(plain);
+    }
+    turns.splice(0..0, built);
+    Case { start, turns }
+}
+
+pub type Plan = fn(&mut Draw, u64) -> Case;
+
+fn stoichiometry(draw: &mut Draw) -> f64 {
+    match draw.below(4) {
+        0 => f64::from_bits(draw.pick(&SPECIAL)),
+        1 => draw.pick(&[0.0, 1.0, 0.01, 0.99, 0.1, 0.9, 1e-4, 1.0 - 1e-4, 0.5]),
+        _ => draw.uniform(-0.1, 1.1),
+    }
+}
+
+fn sheet_numbers(draw: &mut Draw, _: u64) -> Case {
+    let sheet = records::sheet(draw);
+    let mut turns = Vec::new();
+    for _ in 0..draw.count(1, 3) {
+        let free = f64::from_bits(draw.pick(&SPECIAL));
+        let temp_k = records::temperature(draw);
+        turns.push(Turn::new(draw, Function::Number(1), &[temp_k, free]));
+        turns.push(Turn::new(draw, Function::Number(2), &[free, free]));
+        let theta = stoichiometry(draw);
+        turns.push(Turn::new(draw, Function::Number(3), &[theta, free]));
+        turns.push(Turn::new(draw, Function::Number(4), &[theta, free]));
+    }
+    listed(draw, Record::Sheet, &sheet.slots(), None, turns)
+}
+
+fn sphere(draw: &mut Draw, _: u64) -> Case {
+    let turns = (0..4)
+        .map(|_| {
+            let (radius, free) = (draw.within(electrode::RANGES[0]), f64::from_bits(draw.pick(&SPECIAL)));
+            Turn::new(draw, Function::Number(5), &[radius, free])
+        })
+        .collect();
+    listed(draw, Record::Nothing, &[], None, turns)
+}
+
+/// Ready records, and calls that are not listed.
+fn ready(draw: &mut Draw, turn: u64) -> Case {
+    let ready = Turn::new(draw, Function::Build(1 + turn % 6), &[]);
+    let number = draw.pick(&[0, 20, 21, 1 << 32, (1 << 32) + 1, u64::MAX, 13 << 8]);
+    let build = draw.pick(&[0, 13, 14, 1 << 32, (1 << 32) + 1, u64::MAX, 7 << 8]);
+    let free = f64::from_bits(draw.pick(&SPECIAL));
+    let mut unlisted = [Turn::new(draw, Function::Number(number), &[free, 298.15]), Turn::new(draw, Function::Build(build), &[])];
+    for turn in &mut unlisted {
+        turn.image_bytes = Some(draw.pick(&[0, 8, 80, 600, 1256]));
+        turn.call.answer_bytes = draw.pick(&[0, 8, 80, 600, 1256]);
+    }
+    let mut turns = with_faults(draw, vec![ready], Record::Nothing, &[]);
+    if draw.below(4) == 0 {
+        lengths(draw, &mut turns[0]);
+    }
+    turns.extend(unlisted);
+    Case { start: Vec::new(), turns }
+}
+
+/// An interval in which so many sub-steps of the given length go, up to 2^14 of them.
+fn interval_of(draw: &mut Draw, least: f64) -> f64 {
+    let count = match draw.below(8) {
+        0 => draw.pick(&[0.01, 0.5, 1.0, 2.0, 3.0, 4095.0, 4096.0, 4097.0]),
+        1 => draw.count(1, 40) as f64,
+        2..=6 => records::power(draw, -3.0, 7.0),
+        _ => records::power(draw, 3.0, 12.5),
+    };
+    let exact = least * count;
+    let near = match draw.below(6) {
+        0 => exact.next_up(),
+        1 => exact.next_down(),
+        2 => draw.pick(&[0.1, 1.0, 10.0, 60.0]),
+        _ => exact,
+    };
+    near.clamp(f64::from_bits(1), 86_400.0)
+}
+
+fn particle_numbers(draw: &mut Draw) -> Turn {
+    let (call, free) = (draw.count(6, 10), f64::from_bits(draw.pick(&SPECIAL)));
+    let x = if call == 6 { records::temperature(draw) } else { free };
+    Turn::new(draw, Function::Number(call), &[x, free])
+}
+
+fn next_to_empty(place: f64) -> bool {
+    place < 1e-3
+}
+
+fn particle_steps(draw: &mut Draw, turn: u64) -> Case {
+    let (sheet, n) = (records::sheet(draw), 3 + turn % 62);
+    let build = draw.below(3) == 0;
+    let particle = if build { Particle::new(sheet, n).expect("a sheet in range") } else { records::particle(draw, sheet, n) };
+    let mut turns = Vec::new();
+    for _ in 0..draw.count(1, 8) {
+        let temp_k = records::temperature(draw);
+        let least = 0.45 * particle.dt_stable(temp_k).expect("a particle in range");
+        let d_s = sheet.d_s(temp_k).expect("a sheet in range");
+        let flux = match draw.below(8) {
+            0 => draw.pick(&[0.0, -0.0, 1e13, -1e13, -1e-300]),
+            1 => records::power(draw, -60.0, 43.0) * records::sign(draw),
+            _ => d_s * sheet.c_s_max() / sheet.numbers[0] * n as f64 * draw.uniform(-1.0, 1.0),
+        };
+        let dt = if draw.below(8) == 0 { records::power(draw, -1000.0, 16.0) } else { least * draw.pick(&[0.01, 0.3, 0.9, 2.0]) };
+        // a change too small for a subnormal keeps the sign of a zero
+        let short = next_to_empty(particle.c_s[0]) && draw.below(2) == 0;
+        let (flux, dt) = if short { (draw.pick(&[-1e-300, 1e-300, -0.0, flux]), records::short_interval(draw)) } else { (flux, dt) };
+        let numbers = [flux.clamp(-1e13, 1e13), dt.clamp(f64::from_bits(1), 86_400.0), temp_k];
+        turns.push(Turn::new(draw, Function::ParticleStep, &numbers));
+        if draw.below(2) == 0 {
+            turns.push(particle_numbers(draw));
+        }
+    }
+    let build = build.then(|| (Function::Build(7), [sheet.slots(), vec![word(n)]].concat()));
+    listed(draw, Record::Particle, &particle.slots(), build, turns)
+}
+
+fn least_interval(cell: &Cell, temp_k: f64) -> f64 {
+    let stable = |p: &Particle| 0.45 * p.dt_stable(temp_k).expect("a particle in range");
+    stable(&cell.anode).min(stable(&cell.cathode))
+}
+
+/// A cell, and how it can be built where it is as it was built.
+fn some_cell(draw: &mut Draw, n: u64) -> (Cell, Option<(Function, Vec<Slot>)>) {
+    if draw.below(3) != 0 {
+        return (records::cell(draw, n), None);
+    }
+    let config = records::config(draw, n);
+    match draw.below(3) {
+        0 => (Cell::graphite_lfp(config).expect("a config in range"), Some((Function::Build(8), config.slots()))),
+        1 => (Cell::graphite_nmc(config).expect("a config in range"), Some((Function::Build(9), config.slots()))),
+        _ => {
+            let (anode, cathode) = records::sheets(draw);
+            let given = [config.slots(), anode.slots(), cathode.slots()].concat();
+            (Cell::new(config, anode, cathode).expect("sheets in range"), Some((Function::Build(10), given)))
+        }
+    }
+}
+
+/// A temperature at which both diffusivities are in range, mostly.
+fn cell_temperature(draw: &mut Draw, cell: &Cell) -> f64 {
+    let in_range = |sheet: &Sheet, temp_k: f64| DIFFUSIVITY.holds(sheet.d_s(temp_k).expect("a sheet in range"));
+    for _ in 0..4 {
+        let temp_k = records::temperature(draw);
+        if draw.below(6) == 0 || in_range(&cell.anode.sheet, temp_k) && in_range(&cell.cathode.sheet, temp_k) {
+            return temp_k;
+        }
+    }
+    298.15
+}
+
+fn cell_steps(draw: &mut Draw, turn: u64) -> Case {
+    let (cell, build) = some_cell(draw, 3 + turn % 62);
+    let area = cell.anode.sheet.numbers[6];
+    let mut turns = Vec::new();
+    for _ in 0..draw.count(1, 6) {
+        let temp_k = cell_temperature(draw, &cell);
+        let (mut current, mut dt) = (records::current(draw, area), interval_of(draw, least_interval(&cell, temp_k)));
+        if (next_to_empty(cell.anode.c_s[0]) || next_to_empty(cell.cathode.c_s[0])) && draw.below(2) == 0 {
+            (current, dt) = (draw.pick(&[1e-300, -1e-300, 0.0, -0.0, current]), records::short_interval(draw));
+        }
+        let numbers = [current, dt, temp_k];
+        turns.push(Turn::new(draw, Function::CellStep, &numbers));
+        if draw.below(3) == 0 {
+            let (call, free) = (draw.count(11, 12), f64::from_bits(draw.pick(&SPECIAL)));
+            turns.push(Turn::new(draw, Function::Number(call), &[free, free]));
+        }
+    }
+    listed(draw, Record::Cell, &cell.slots(), build, turns)
+}
+
+fn slice_length(draw: &mut Draw) -> usize {
+    match draw.below(8) {
+        0 => draw.count(8, 24) as usize,
+        1 => draw.count(400, 1600) as usize,
+        2 => 8 * draw.count(1, 5) as usize,
+        _ => draw.count(8, 240) as usize,
+    }
+}
+
+fn time_limit(draw: &mut Draw, start: f64, dt: f64) -> f64 {
+    let rows = draw.count(1, 60) as f64;
+    match draw.below(8) {
+        0 => draw.pick(&[0.0, -0.0, -1.0, -1e300, 5e-324, f64::MAX, -f64::MAX]),
+        1 => (start + dt * rows).next_up(),
+        2 => (start + dt * rows).next_down(),
+        3 | 4 => 1e300,
+        _ => start + dt * rows,
+    }
+}
+
+/// A voltage limit that a cell with these voltages, row by row, meets after a while.
+fn limit_between(draw: &mut Draw, voltages: &[f64], limits: &mut [f64]) {
+    let Some((last, before)) = voltages.split_last() else { return };
+    let Some(before) = before.last() else { return };
+    let between = 0.5 * (last + before);
+    let exact = if draw.below(3) == 0 { *last } else { between };
+    let exact = exact.clamp(-10.0, 10.0);
+    if last < before {
+        limits[0] = exact;
+        limits[1] = 10.0;
+    } else {
+        limits[0] = -10.0;
+        limits[1] = exact;
+    }
+}
+
+fn discharges(draw: &mut Draw, turn: u64) -> Case {
+    let n = if draw.below(2) == 0 { 3 + turn % 62 } else { draw.count(3, 12) };
+    let (mut cell, mut build) = some_cell(draw, n);
+    let area = cell.anode.sheet.numbers[6];
+    let temp_k = cell_temperature(draw, &cell);
+    let current = records::current(draw, area);
+    let least = least_interval(&cell, temp_k);
+    let few = draw.below(20) != 0;
+    let dt = if few { least * records::power(draw, -2.0, 4.0) } else { interval_of(draw, least) };
+    let dt = dt.clamp(f64::from_bits(1), 86_400.0);
+    if draw.below(2) == 0 {
+        let (mut voltages, mut next) = (Vec::new(), cell.clone());
+        for _ in 0..draw.count(2, 12) {
+            let Ok((after, report)) = next.step(current, dt, temp_k) else { break };
+            voltages.push(report.state.voltage);
+            next = after;
+        }
+        limit_between(draw, &voltages, &mut cell.config.numbers[..2]);
+        build = None;
+    }
+    let mut turns = Vec::new();
+    for _ in 0..draw.count(1, 3) {
+        let limit = time_limit(draw, 0.0, dt);
+        let rows = slice_length(draw);
+        turns.push(Turn::new(draw, Function::Discharge, &[current, dt, temp_k, limit]).with_rows(rows));
+    }
+    listed(draw, Record::Cell, &cell.slots(), build, turns)
+}
+
+fn salt_numbers(draw: &mut Draw, _: u64) -> Case {
+    let salt = records::salt(draw);
+    let mut turns = Vec::new();
+    for _ in 0..draw.count(1, 2) {
+        let (temp_k, free) = (records::temperature(draw), f64::from_bits(draw.pick(&SPECIAL)));
+        // few binary digits: among them where the logarithm halves its argument
+        let porosity = if draw.below(8) == 0 { draw.pick(&[0.75, 0.375, 0.1875, 0.5, 0.25, 1.0]) } else { draw.within(POROSITY) };
+        for (call, x) in [(13, free), (14, free), (15, porosity), (16, porosity)] {
+            turns.push(Turn::new(draw, Function::Number(call), &[x, temp_k]));
+        }
+    }
+    listed(draw, Record::Salt, &salt.slots(), None, turns)
+}
+
+fn electrolyte_steps(draw: &mut Draw, _: u64) -> Case {
+    let build = draw.below(3) == 0;
+    let electrolyte = if build { Electrolyte::new(records::regions(draw)).expect("regions in range") } else { records::electrolyte(draw) };
+    let mut turns = Vec::new();
+    for _ in 0..draw.count(1, 6) {
+        let temp_k = records::temperature(draw);
+        let stable = electrolyte.dt_stable(temp_k).expect("an electrolyte in range");
+        let dt = if draw.below(6) == 0 { records::power(draw, -60.0, 16.4) } else { stable * draw.pick(&[0.01, 0.2, 0.9, 5.0]) };
+        let sizes = [0.0, -0.0, 1.0, 50.0, 1e4, 1e9];
+        let sources = [0, 1].map(|_| draw.pick(&sizes) * draw.uniform(-1.0, 1.0));
+        let numbers = [sources[0], sources[1], dt.clamp(f64::from_bits(1), 86_400.0), temp_k];
+        turns.push(Turn::new(draw, Function::ElectrolyteStep, &numbers));
+        let (call, free) = (draw.count(17, 19), f64::from_bits(draw.pick(&SPECIAL)));
+        let x = if call == 19 { temp_k } else { free };
+        turns.push(Turn::new(draw, Function::Number(call), &[x, free]));
+    }
+    let build = build.then(|| (Function::Build(11), electrolyte.regions.slots()));
+    listed(draw, Record::Electrolyte, &electrolyte.slots(), build, turns)
+}
+
+fn some_dfn(draw: &mut Draw) -> (dfn::Cell, Option<(Function, Vec<Slot>)>) {
+    if draw.below(3) != 0 {
+        return (records::dfn_cell(draw), None);
+    }
+    let (mut params, mut config) = (records::dfn_params(draw), records::dfn_config(draw));
+    if draw.below(8) == 0 {
+        records::breaking(draw, &mut params, &mut config);
+    }
+    let given = [params.slots(), config.slots()].concat();
+    (dfn::Cell::new(params, config).expect("parameters in range"), Some((Function::Build(12), given)))
+}
+
+fn dfn_current(draw: &mut Draw, cell: &dfn::Cell) -> f64 {
+    if cell.params.numbers[18] > 900.0 && draw.below(2) == 0 {
+        return 0.0;
+    }
+    records::current(draw, cell.params.numbers[3])
+}
+
+fn dfn_interval(draw: &mut Draw, cell: &dfn::Cell) -> f64 {
+    let empty = next_to_empty(cell.c_s_neg[0]) || next_to_empty(cell.c_s_pos[0]);
+    let steep = (40.0..900.0).contains(&cell.params.numbers[18]);
+    match draw.below(4) {
+        1 | 2 if empty => records::short_interval(draw),
+        1 | 2 | 3 if steep => records::steep_interval(draw, cell),
+        0 => draw.pick(&[1.0, 10.0, 0.1, 5e-324, 86_400.0]),
+        _ => records::power(draw, -16.0, 10.0),
+    }
+}
+
+fn dfn_steps(draw: &mut Draw, _: u64) -> Case {
+    let (cell, build) = some_dfn(draw);
+    let mut turns = Vec::new();
+    for _ in 0..draw.count(1, 6) {
+        let numbers = [dfn_current(draw, &cell), dfn_interval(draw, &cell)];
+        turns.push(Turn::new(draw, Function::DfnStep, &numbers));
+    }
+    listed(draw, Record::DfnCell, &cell.slots(), build, turns)
+}
+
+fn galvanostatic(draw: &mut Draw, _: u64) -> Case {
+    let (mut cell, mut build) = some_dfn(draw);
+    let (current, dt) = (dfn_current(draw, &cell), dfn_interval(draw, &cell));
+    if draw.below(2) == 0 {
+        let (mut voltages, mut next) = (Vec::new(), cell.clone());
+        for _ in 0..draw.count(2, 12) {
+            let Ok((after, report)) = next.step(current, dt) else { break };
+            voltages.push(report.voltage);
+            next = after;
+        }
+        limit_between(draw, &voltages, &mut cell.config.voltages);
+        build = None;
+    }
+    let mut turns = Vec::new();
+    for _ in 0..draw.count(1, 2) {
+        let limit = time_limit(draw, cell.time_s, dt);
+        let rows = slice_length(draw);
+        turns.push(Turn::new(draw, Function::Galvanostatic, &[current, dt, limit]).with_rows(rows));
+    }
+    listed(draw, Record::DfnCell, &cell.slots(), build, turns)
+}
+
+/// Entries of a matrix: ordinary, tiny about the singular limit, huge, small whole numbers, special.
+fn entries(draw: &mut Draw, n: usize) -> Vec<f64> {
+    let way = draw.below(7);
+    let size = draw.pick(&[1.0, 1e3, 1e-13, 3e-14, 1e150, 1e307]);
+    let entry = |draw: &mut Draw| match way {
+        0 => draw.pick(&[0.0, 1.0, -1.0, 2.0, -0.0]),
+        1 => records::power(draw, -60.0, 1000.0) * records::sign(draw),
+        2 => draw.pick(&[1e-14, 1e-14f64.next_down(), 1e-14f64.next_up(), -1e-14, 0.0]),
+        _ => draw.uniform(-size, size),
+    };
+    (0..n * n).map(|_| entry(draw)).collect()
+}
+
+fn system(draw: &mut Draw, n: usize) -> System {
+    let mut a = entries(draw, n);
+    let size = draw.pick(&[1.0, 1e3, 1e-300, 1e307]);
+    let mut b: Vec<f64> = (0..n).map(|_| draw.uniform(-size, size)).collect();
+    if n > 0 {
+        let row = |draw: &mut Draw| draw.below(n as u64) as usize;
+        match draw.below(8) {
+            0 => {
+                // a row that is another's multiple, or nearly so
+                let (from, to, times) = (row(draw), row(draw), draw.pick(&[1.0, -2.0, 0.5, 1e-14]));
+                let off = draw.pick(&[0.0, 1e-14, 1e-16, 1e-13]);
+                for k in 0..n {
+                    a[to * n + k] = times * a[from * n + k] + off * draw.unit();
+                }
+            }
+            1 => {
+                let column = row(draw);
+                for k in 0..n {
+                    a[k * n + column] = draw.pick(&[0.0, -0.0, 1e-15, 9.99e-15]);
+                }
+            }
+            2 => {
+                // an exchange of rows of the identity
+                a.fill(0.0);
+                for k in 0..n {
+                    a[k * n + (n - 1 - k)] = 1.0;
+                }
+            }
+            3 => {
+                let at = draw.below((n * n) as u64) as usize;
+                a[at] = f64::from_bits(draw.pick(&SPECIAL));
+            }
+            4 => b[row(draw)] = f64::from_bits(draw.pick(&SPECIAL)),
+            _ => {}
+        }
+    }
+    let bits = |all: &[f64]| all.iter().map(|x| x.to_bits()).collect();
+    System { a: bits(&a), b: bits(&b), n: n as u64 }
+}
+
+fn solve(draw: &mut Draw, turn: u64) -> Case {
+    let mut turns = Vec::new();
+    for part in 0..2 {
+        let n = if part == 0 { turn % 33 } else { draw.count(1, 6) } as usize;
+        let mut turn = Turn::new(draw, Function::Solve, &[]);
+        turn.call.system = system(draw, n);
+        let system = &mut turn.call.system;
+        match draw.below(24) {
+            0 => system.n = count_around(draw, 0, 32),
+            1 => system.a.truncate(draw.below(1 + system.a.len() as u64) as usize),
+            2 => system.b.push(0),
+            3 => {
+                system.n = count_around(draw, 0, 32);
+                system.a.push(draw.pick(&SPECIAL));
+            }
+            4 => lengths(draw, &mut turn),
+            _ => {}
+        }
+        turns.push(turn);
+    }
+    Case { start: Vec::new(), turns }
+}
+
+/// Images of random bytes, and right images with one random byte.
+fn random_images(draw: &mut Draw, _: u64) -> Case {
+    let functions = crate::call::listed();
+    let function = draw.pick(&functions);
+    let record = function.record();
+    let numbers: Vec<f64> = function.arguments().iter().map(|_| f64::from_bits(draw.bits())).collect();
+    let mut turn = Turn::new(draw, function, &numbers);
+    turn.call.rows = draw.below(40) as usize;
+    let start = (0..record.bytes()).map(|_| draw.bits() as u8).collect();
+    Case { start, turns: vec![turn] }
+}
+
+/// One random byte in a record that was right.
+fn random_byte(draw: &mut Draw, turn: u64) -> Case {
+    let plans: [Plan; 6] = [particle_steps, cell_steps, electrolyte_steps, dfn_steps, sheet_numbers, salt_numbers];
+    let mut case = plans[(turn % 6) as usize](draw, turn / 6);
+    case.turns.truncate(2);
+    if !case.start.is_empty() {
+        let at = draw.below(case.start.len() as u64) as usize;
+        case.start[at] = draw.bits() as u8;
+    }
+    case
+}
+
+/// The plans in turn, some more often than others.
+pub const PLANS: [Plan; 24] = [
+    sheet_numbers, particle_steps, cell_steps, electrolyte_steps, dfn_steps, solve, discharges, galvanostatic, ready, salt_numbers,
+    particle_steps, cell_steps, random_byte, dfn_steps, solve, sphere, electrolyte_steps, random_images, particle_steps, cell_steps,
+    sheet_numbers, dfn_steps, discharges, galvanostatic,
+];
+
+/// A case by its number; it depends on the seed and the number alone.
+pub fn case(seed: u64, number: u64) -> Case {
+    let mut draw = Draw::seeded(seed.wrapping_mul(0x9E6C_63D0_876A_68EE) ^ number.wrapping_mul(0xD605_BBB5_8C8A_BBC9));
+    draw.bits();
+    let plan = (number % PLANS.len() as u64) as usize;
+    PLANS[plan](&mut draw, number / PLANS.len() as u64 * 5 + plan as u64)
+}

@@ -1,0 +1,272 @@
+//! Drawn records: ready ones, ready ones with every number moved, and ones from the whole of their ranges.
+use crate::draw::Draw;
+use calls::dfn::{self, Coefficients};
+use calls::electrode::{self, Sheet};
+use calls::electrolyte::{self, Electrolyte, Params, Regions};
+use calls::particle::Particle;
+use calls::solver::{self, Cell, Config};
+use calls::table::{Range, TEMPERATURE};
+
+/// Each number moved by up to a factor of two, in its range.
+fn moved<const N: usize>(draw: &mut Draw, numbers: [f64; N], ranges: &[Range; N]) -> [f64; N] {
+    std::array::from_fn(|i| (numbers[i] * draw.uniform(0.5, 2.0)).clamp(ranges[i].low, ranges[i].high))
+}
+
+pub fn sheet(draw: &mut Draw) -> Sheet {
+    let ready = draw.pick(&[Sheet::graphite_anode(), Sheet::lfp_cathode(), Sheet::nmc_cathode()]);
+    match draw.below(4) {
+        0 => ready,
+        1 => Sheet { chemistry: ready.chemistry, numbers: moved(draw, ready.numbers, &electrode::RANGES) },
+        _ => Sheet { chemistry: draw.count(1, 3), numbers: draw.all_within(&electrode::RANGES) },
+    }
+}
+
+/// A solid or electrolyte profile in a range: rough, smooth, at the ends, nearly flat, with zeros and subnormals; next to empty.
+fn profile(draw: &mut Draw, places: &mut [f64], range: Range) {
+    let Range { low, high } = range;
+    let (start, slope, way) = (draw.unit(), draw.uniform(-1.0, 1.0) / places.len() as f64, draw.below(8));
+    if low == 0.0 && draw.below(12) == 0 {
+        let most = if draw.below(2) == 0 { 0.0 } else { power(draw, -400.0, -10.0) };
+        for place in places {
+            *place = if most == 0.0 { -0.0 } else { (most * draw.unit()).min(high) };
+        }
+        return;
+    }
+    for (i, place) in places.iter_mut().enumerate() {
+        let part = match way {
+            0 | 1 => draw.unit(),
+            2 => draw.pick(&[0.0, 1.0, 0.5]),
+            3 => start + 1e-12 * draw.unit(),
+            _ => start + slope * i as f64,
+        };
+        *place = (low + part * (high - low)).clamp(low, high);
+        if way == 1 && low == 0.0 && draw.below(6) == 0 {
+            *place = draw.pick(&[0.0, -0.0, f64::from_bits(1), 1e-310, high, high.next_down()]);
+        }
+    }
+}
+
+pub fn particle(draw: &mut Draw, sheet: Sheet, n: u64) -> Particle {
+    let mut particle = Particle::new(sheet, n).expect("a sheet and a count in range");
+    if draw.below(5) != 0 {
+        profile(draw, &mut particle.c_s[..n as usize], Range { low: 0.0, high: sheet.c_s_max() });
+    }
+    particle
+}
+
+pub const READY_CONFIG: [f64; 5] = [2.5, 4.2, 96_485.0, 8.314, 2e-4];
+
+pub fn config(draw: &mut Draw, n_nodes: u64) -> Config {
+    let mut numbers = if draw.below(2) == 0 { READY_CONFIG } else { draw.all_within(&solver::RANGES) };
+    if draw.below(2) == 0 {
+        // limits that seldom end a run
+        (numbers[0], numbers[1]) = (-10.0, 10.0);
+    }
+    Config { n_nodes, numbers }
+}
+
+pub fn clock(draw: &mut Draw) -> f64 {
+    match draw.below(8) {
+        0..=3 => 0.0,
+        4 => draw.pick(&[-0.0, 5e-324, 1e300, f64::MAX, 86_400.0]),
+        _ => draw.uniform(0.0, 1e6),
+    }
+}
+
+/// Two sheets of one cell.
+pub fn sheets(draw: &mut Draw) -> (Sheet, Sheet) {
+    match draw.below(4) {
+        0 => (Sheet::graphite_anode(), Sheet::lfp_cathode()),
+        1 => (Sheet::graphite_anode(), Sheet::nmc_cathode()),
+        _ => (sheet(draw), sheet(draw)),
+    }
+}
+
+pub fn cell(draw: &mut Draw, n: u64) -> Cell {
+    let (anode, cathode) = sheets(draw);
+    let (anode, cathode) = (particle(draw, anode, n), particle(draw, cathode, n));
+    Cell { config: config(draw, n), anode, cathode, time_s: clock(draw) }
+}
+
+pub fn temperature(draw: &mut Draw) -> f64 {
+    match draw.below(4) {
+        0 => 298.15,
+        1 => draw.within(TEMPERATURE),
+        _ => draw.uniform(270.0, 330.0),
+    }
+}
+
+/// An interval in which a concentration next to 0 stays there.
+pub fn short_interval(draw: &mut Draw) -> f64 {
+    draw.pick(&[5e-324, 5e-324, 1e-300, 1e-100, 1e-30, 1e-12])
+}
+
+/// From 2^low to 2^high, evenly by the exponent.
+pub fn power(draw: &mut Draw, low: f64, high: f64) -> f64 {
+    let exponent = draw.uniform(low, high);
+    let whole = exponent.floor();
+    f64::from_bits(((1023.0 + whole) as u64) << 52) * (1.0 + (exponent - whole))
+}
+
+pub fn sign(draw: &mut Draw) -> f64 {
+    draw.pick(&[1.0, -1.0])
+}
+
+/// A current that moves such an area: zeros, ordinary densities, and up to the limit.
+pub fn current(draw: &mut Draw, area: f64) -> f64 {
+    match draw.below(8) {
+        0 => draw.pick(&[0.0, -0.0, 1e6, -1e6, 5e-324, -5e-324]),
+        1 => draw.uniform(-1e6, 1e6),
+        _ => (area * power(draw, -10.0, 12.0) * sign(draw)).clamp(-1e6, 1e6),
+    }
+}
+
+pub fn salt(draw: &mut Draw) -> Params {
+    let ready = Params::lipf6_ec_dmc();
+    match draw.below(4) {
+        0 => ready,
+        1 => Params { numbers: moved(draw, ready.numbers, &electrolyte::RANGES) },
+        _ => Params { numbers: draw.all_within(&electrolyte::RANGES) },
+    }
+}
+
+pub const READY_REGIONS: ([f64; 3], [f64; 3], [u64; 3]) = ([1e-4, 2.5e-5, 8e-5], [0.3, 0.4, 0.35], [5, 3, 5]);
+
+pub fn regions(draw: &mut Draw) -> Regions {
+    let params = salt(draw);
+    let most = if draw.below(3) == 0 { 3 } else { electrolyte::MOST_NODES };
+    let counts = std::array::from_fn(|_| draw.count(1, most));
+    let (lengths, porosities, _) = READY_REGIONS;
+    if draw.below(3) == 0 {
+        return Regions { params, lengths, porosities, counts };
+    }
+    Regions {
+        params,
+        lengths: draw.all_within(&[electrolyte::LENGTH; 3]),
+        porosities: draw.all_within(&[electrolyte::POROSITY; 3]),
+        counts,
+    }
+}
+
+/// An electrolyte; now and then with places so large that a sum or a step leaves the finite numbers.
+pub fn electrolyte(draw: &mut Draw) -> Electrolyte {
+    let mut made = Electrolyte::new(regions(draw)).expect("regions in range");
+    let used: u64 = made.regions.counts.iter().sum();
+    let places = &mut made.c_e[..used as usize];
+    match draw.below(8) {
+        0 => {}
+        1 => {
+            for place in places {
+                *place = draw.pick(&[1e-10, 1.0, 1e5, 1e300, 1e307, 1e308, f64::MAX]);
+            }
+        }
+        2 => {
+            for place in places {
+                *place = power(draw, -33.0, 1000.0).max(1e-10);
+            }
+        }
+        3 => {
+            for place in places {
+                *place = draw.pick(&[1e-10, 1e-10f64.next_up(), 1000.0, 1e5]);
+            }
+        }
+        _ => profile(draw, places, Range { low: 0.5, high: 2000.0 }),
+    }
+    made
+}
+
+fn coefficients(draw: &mut Draw) -> Coefficients {
+    let count = draw.below(1 + dfn::MOST_COEFFICIENTS as u64) as usize;
+    let size = draw.pick(&[1.0, 5.0, 1000.0]);
+    let values: Vec<f64> = (0..count).map(|_| draw.within(Range { low: -size, high: size })).collect();
+    Coefficients::of(&values)
+}
+
+pub fn dfn_params(draw: &mut Draw) -> dfn::Params {
+    let ready = draw.pick(&[dfn::Params::nmc_graphite(), dfn::Params::lfp_graphite()]);
+    match draw.below(5) {
+        0 => ready,
+        1 | 2 => dfn::Params { numbers: moved(draw, ready.numbers, &dfn::RANGES), ..ready },
+        3 => dfn::Params { ocv_neg: coefficients(draw), ocv_pos: coefficients(draw), numbers: moved(draw, ready.numbers, &dfn::RANGES) },
+        _ => dfn::Params { numbers: draw.all_within(&dfn::RANGES), ocv_neg: coefficients(draw), ocv_pos: coefficients(draw) },
+    }
+}
+
+pub fn dfn_config(draw: &mut Draw) -> dfn::Config {
+    let (most_x, most_r) = draw.pick(&[(3, 4), (6, 8), (dfn::MOST_X, dfn::MOST_R)]);
+    let counts = [draw.count(1, most_x), draw.count(1, most_x), draw.count(2, most_r)];
+    let voltages = match draw.below(4) {
+        0 => [2.5, 4.3],
+        1 => draw.all_within(&[dfn::VOLTAGE; 2]),
+        _ => [-10.0, 10.0],
+    };
+    dfn::Config { counts, voltages }
+}
+
+/// Parameters of a cell whose first step passes and whose second gives 8: a node that falls to the clamp, far below
+/// c_e0, has an electrolyte diffusivity that is no number.
+pub fn breaking(draw: &mut Draw, params: &mut dfn::Params, config: &mut dfn::Config) {
+    params.numbers[16] = draw.pick(&[1e5, 9e4]);
+    params.numbers[18] = draw.pick(&[1000.0, 990.0]);
+    config.counts[0] = draw.count(3, 6);
+}
+
+/// The binary exponent.
+fn exponent(x: f64) -> f64 {
+    ((x.to_bits() >> 52) & 0x7FF) as f64 - 1023.0
+}
+
+/// A cell whose electrolyte diffusivity spans many decades.
+fn steep(draw: &mut Draw) -> dfn::Cell {
+    let (mut params, mut config) = (dfn_params(draw), dfn_config(draw));
+    params.numbers[16] = draw.uniform(500.0, 2000.0);
+    params.numbers[18] = draw.uniform(40.0, 1000.0);
+    config.counts[0] = draw.count(3, 8);
+    let mut made = dfn::Cell::new(params, config).expect("parameters in range");
+    for place in made.c_e.iter_mut().filter(|place| **place != 0.0) {
+        *place *= draw.uniform(0.4, 1.2);
+    }
+    made
+}
+
+/// An interval in which such a cell's electrolyte moves, and not all of it to the clamp.
+pub fn steep_interval(draw: &mut Draw, cell: &dfn::Cell) -> f64 {
+    let numbers = &cell.params.numbers;
+    let least = cell.c_e.iter().filter(|place| **place != 0.0).fold(numbers[16], |a, b| a.min(*b));
+    let diffusivity = exponent(numbers[17]) + numbers[18] * (1.0 - least / numbers[16]) / std::f64::consts::LN_2;
+    let spacing = exponent(numbers[0] / cell.config.counts[0] as f64);
+    let middle = (2.0 * spacing - diffusivity).clamp(-1000.0, 10.0);
+    power(draw, middle - 12.0, middle + 4.0)
+}
+
+pub fn dfn_cell(draw: &mut Draw) -> dfn::Cell {
+    if draw.below(8) == 0 {
+        return steep(draw);
+    }
+    let (mut params, mut config) = (dfn_params(draw), dfn_config(draw));
+    if draw.below(12) == 0 {
+        breaking(draw, &mut params, &mut config);
+    }
+    let mut made = dfn::Cell::new(params, config).expect("parameters in range");
+    let [n_x_neg, n_x_pos, n_r] = config.counts.map(|n| n as usize);
+    if draw.below(4) != 0 {
+        profile(draw, &mut made.c_s_neg[..n_x_neg * n_r], Range { low: 0.0, high: params.numbers[6] });
+        profile(draw, &mut made.c_s_pos[..n_x_pos * n_r], Range { low: 0.0, high: params.numbers[12] });
+        let range = draw.pick(&[dfn::CONCENTRATION, Range { low: 100.0, high: 3000.0 }, Range { low: 900.0, high: 1500.0 }]);
+        let c_e = &mut made.c_e[..n_x_neg + 1 + n_x_pos];
+        if draw.below(12) == 0 {
+            // a ratio to c_e0 at which the logarithm halves its argument
+            c_e.fill((params.numbers[16] * draw.pick(&[0.1875, 0.09375, 0.75, 12.0, 24.0])).clamp(1.0, 1e5));
+        } else {
+            profile(draw, c_e, range);
+        }
+        made.time_s = clock(draw);
+    }
+    if draw.below(6) == 0 {
+        // fields that a step only overwrites may hold anything
+        for place in &mut made.overwritten {
+            *place = f64::from_bits(draw.pick(&[0x7FF8_0000_0000_0000, 0xFFF0_0000_0000_0001, 0x7FF0_0000_0000_0000, 1, 1 << 63]));
+        }
+    }
+    made
+}

@@ -1,0 +1,277 @@
+//! The smallest failing input that can be found from one that fails.
+use crate::call::{ask_oracle, ask_port, Answer, Argument, Call, Function};
+use crate::cases::{Case, Turn};
+use crate::images::{bytes_from, image_of, words_of, Record};
+use crate::records::{READY_CONFIG, READY_REGIONS};
+use calls::dfn;
+use calls::electrode::Sheet;
+use calls::electrolyte::{Electrolyte, Params, Regions};
+use calls::particle::Particle;
+use calls::solver::{Cell, Config};
+use calls::words::word;
+use std::time::{Duration, Instant};
+
+/// The calls of a case one after the other, up to the first that differs; `each` is told of every call.
+pub fn first_difference(case: &Case, mut each: impl FnMut(&Call, &Answer, u64)) -> Option<(usize, Call, Vec<String>)> {
+    let mut record = case.start.clone();
+    for (at, turn) in case.turns.iter().enumerate() {
+        let call = turn.on(&record);
+        let (oracle, port) = (ask_oracle(&call), ask_port(&call));
+        let differences = port.differences(&oracle);
+        if !differences.is_empty() {
+            return Some((at, call, differences));
+        }
+        each(&call, &oracle, port.kept_bytes(&oracle));
+        let next = call.function.next();
+        if next != Record::Nothing && oracle.image.is_some() {
+            record = port.answer()[..next.bytes()].to_vec();
+        }
+    }
+    None
+}
+
+/// The two numbers, where oracle and port differ.
+fn failure(call: &Call) -> Option<(u64, u64)> {
+    let (oracle, port) = (ask_oracle(call), ask_port(call));
+    (!port.differences(&oracle).is_empty()).then_some((oracle.number, port.number))
+}
+
+fn ready_config(n_nodes: u64) -> Config {
+    Config { n_nodes, numbers: READY_CONFIG }
+}
+
+/// The ready record with such counts of nodes, as words.
+fn ready_words(record: Record, words: &[u64]) -> Vec<u64> {
+    let count = |at: usize, low: u64, high: u64| words.get(at).copied().filter(|n| (low..=high).contains(n)).unwrap_or(low + 2);
+    let (anode, cathode) = (Sheet::graphite_anode(), Sheet::lfp_cathode());
+    let regions = || {
+        let (lengths, porosities, _) = READY_REGIONS;
+        let counts = [13, 14, 15].map(|at| count(at, 1, 32));
+        Regions { params: Params::lipf6_ec_dmc(), lengths, porosities, counts }
+    };
+    let dfn_config = || dfn::Config { counts: [count(59, 1, 16), count(60, 1, 16), count(61, 2, 32)], voltages: [2.5, 4.3] };
+    let slots = match record {
+        Record::Nothing => Vec::new(),
+        Record::Sheet => anode.slots(),
+        Record::SheetAndNodes => [anode.slots(), vec![word(count(10, 3, 64))]].concat(),
+        Record::Particle => Particle::new(anode, count(10, 3, 64)).expect("ready").slots(),
+        Record::Config => ready_config(count(0, 3, 64)).slots(),
+        Record::ConfigAndSheets => [ready_config(count(0, 3, 64)).slots(), anode.slots(), cathode.slots()].concat(),
+        Record::Cell => Cell::graphite_lfp(ready_config(count(0, 3, 64))).expect("ready").slots(),
+        Record::Salt => Params::lipf6_ec_dmc().slots(),
+        Record::Regions => regions().slots(),
+        Record::Electrolyte => Electrolyte::new(regions()).expect("ready").slots(),
+        Record::DfnParamsAndConfig => [dfn::Params::nmc_graphite().slots(), dfn_config().slots()].concat(),
+        Record::DfnCell => dfn::Cell::new(dfn::Params::nmc_graphite(), dfn_config()).expect("ready").slots(),
+    };
+    words_of(&image_of(record.parts(), &slots))
+}
+
+/// The words with one count changed, the arrays that depend on it packed anew.
+fn with_count(record: Record, words: &[u64], changes: &[(usize, u64)]) -> Vec<u64> {
+    let fields = record.fields();
+    let mut next = words.to_vec();
+    for (at, to) in changes {
+        next[*at] = *to;
+    }
+    for array in &fields.arrays {
+        let (before, after) = (array.used_of(words), array.used_of(&next));
+        let places = array.start..array.start + array.places;
+        let kept: Vec<u64> = match array.used {
+            crate::images::Used::Product(_, n_r) => {
+                let (old, new) = (words[n_r].clamp(1, 64) as usize, next[n_r].clamp(1, 64) as usize);
+                (0..after).map(|i| words[array.start + (i / new * old + i % new).min(array.places - 1)]).collect()
+            }
+            _ => words[array.start..array.start + after.min(before)].to_vec(),
+        };
+        let last = *kept.last().unwrap_or(&0);
+        for (i, at) in places.enumerate() {
+            next[at] = if i < after { *kept.get(i).unwrap_or(&last) } else { 0 };
+        }
+    }
+    next
+}
+
+/// Words that hold counts of nodes, in groups that go together.
+fn counts(record: Record) -> &'static [&'static [usize]] {
+    match record {
+        Record::SheetAndNodes | Record::Particle => &[&[10]],
+        Record::Config | Record::ConfigAndSheets => &[&[0]],
+        Record::Cell => &[&[0, 16, 91]],
+        Record::Regions | Record::Electrolyte => &[&[13], &[14], &[15]],
+        Record::DfnParamsAndConfig | Record::DfnCell => &[&[59], &[60], &[61]],
+        _ => &[],
+    }
+}
+
+fn ready_argument(argument: Argument) -> f64 {
+    match argument {
+        Argument::Ignored | Argument::Load(_) => 0.0,
+        Argument::Temperature => 298.15,
+        Argument::Finite | Argument::Interval => 1.0,
+        Argument::Radius => 1e-6,
+        Argument::Porosity => 0.5,
+    }
+}
+
+/// Calls that are a little smaller or plainer than this one, the boldest first.
+fn smaller(call: &Call) -> Vec<Call> {
+    let mut all = Vec::new();
+    let function = call.function;
+    let record = function.record();
+    if function.is_listed() {
+        for (at, argument) in function.arguments().iter().enumerate() {
+            for to in [ready_argument(*argument), 1.0] {
+                let mut next = call.clone();
+                next.numbers[at] = to.to_bits();
+                all.push(next);
+            }
+        }
+        if call.answer_bytes != function.answer_bytes() {
+            all.push(Call { answer_bytes: function.answer_bytes(), ..call.clone() });
+        }
+    }
+    for rows in [8, call.rows / 2, call.rows.saturating_sub(8), call.rows.saturating_sub(1)] {
+        if rows < call.rows {
+            all.push(Call { rows, ..call.clone() });
+        }
+    }
+    if function == Function::Solve {
+        smaller_systems(call, &mut all);
+    }
+    if call.image.len() == record.bytes() && record != Record::Nothing {
+        let words = words_of(&call.image);
+        let mut push = |words: &[u64]| all.push(Call { image: bytes_from(words), ..call.clone() });
+        push(&ready_words(record, &words));
+        for group in counts(record) {
+            let now = words[group[0]];
+            for to in [1, 2, 3, now / 2, now.saturating_sub(1)] {
+                if to < now {
+                    let changes: Vec<(usize, u64)> = group.iter().map(|at| (*at, to)).collect();
+                    push(&with_count(record, &words, &changes));
+                }
+            }
+        }
+        let ready = ready_words(record, &words);
+        let fields = record.fields();
+        for array in &fields.arrays {
+            let used = array.used_of(&words);
+            let flat = |with: u64| {
+                let mut next = words.clone();
+                next[array.start..array.start + used].fill(with);
+                next
+            };
+            if used > 0 {
+                let mut next = words.clone();
+                let places = array.start..array.start + array.places;
+                next[places.clone()].copy_from_slice(&ready[places]);
+                push(&next);
+                push(&flat(words[array.start]));
+                push(&flat(0));
+            }
+            for at in array.start..array.start + array.places {
+                for to in [ready[at], if at > array.start { words[at - 1] } else { 0 }, 0] {
+                    if words[at] != to {
+                        let mut next = words.clone();
+                        next[at] = to;
+                        push(&next);
+                    }
+                }
+            }
+        }
+        for at in &fields.plain {
+            if words[*at] != ready[*at] {
+                let mut next = words.clone();
+                next[*at] = ready[*at];
+                push(&next);
+            }
+        }
+    }
+    all.retain(|next| size(next) < size(call));
+    all
+}
+
+fn smaller_systems(call: &Call, all: &mut Vec<Call>) {
+    let system = &call.system;
+    let n = system.n as usize;
+    let square = n <= 64 && system.a.len() == n * n && system.b.len() == n;
+    if square && n > 0 {
+        for out in 0..n {
+            let mut next = call.clone();
+            next.system.n -= 1;
+            next.system.a = (0..n * n).filter(|i| i / n != out && i % n != out).map(|i| system.a[i]).collect();
+            next.system.b.remove(out);
+            all.push(next);
+        }
+    }
+    for to in [0, 1f64.to_bits()] {
+        for at in 0..system.a.len() {
+            let mut next = call.clone();
+            next.system.a[at] = to;
+            all.push(next);
+        }
+        for at in 0..system.b.len() {
+            let mut next = call.clone();
+            next.system.b[at] = to;
+            all.push(next);
+        }
+    }
+}
+
+/// How large a call is: nodes and rows, then words that are not as in the ready record, then words that are not 0.
+fn size(call: &Call) -> (usize, usize, usize) {
+    let words = words_of(&call.image);
+    let record = call.function.record();
+    let plain = call.image.len() == record.bytes() && record != Record::Nothing;
+    let nodes: u64 = if plain { counts(record).iter().flat_map(|group| group.iter()).map(|at| words[*at].min(1 << 20)).sum() } else { 0 };
+    let unlike = if plain {
+        let ready = ready_words(record, &words);
+        words.iter().zip(&ready).filter(|(a, b)| a != b).count()
+    } else {
+        words.len()
+    };
+    let arguments = call.function.arguments().iter().zip(&call.numbers);
+    let strange = arguments.filter(|(a, n)| **n != ready_argument(**a).to_bits()).count()
+        + call.numbers.iter().filter(|n| ![0, 1f64.to_bits()].contains(n)).count();
+    let system = &call.system;
+    let entries = system.a.iter().chain(&system.b).map(|n| if *n == 0 { 0 } else { 1 + usize::from(*n != 1f64.to_bits()) }).sum::<usize>();
+    let lengths = usize::from(call.answer_bytes != call.function.answer_bytes());
+    let changing = words.windows(2).filter(|pair| pair[0] != pair[1]).count();
+    (nodes as usize + call.rows + system.a.len() + system.b.len(), 2 * unlike + strange + lengths, changing + entries)
+}
+
+/// The smallest call that was found in half a minute and fails with the same two numbers.
+fn smallest(mut call: Call, numbers: (u64, u64)) -> Call {
+    let end = Instant::now() + Duration::from_secs(30);
+    while Instant::now() < end {
+        match smaller(&call).into_iter().find(|next| Instant::now() < end && failure(next) == Some(numbers)) {
+            Some(next) => call = next,
+            None => break,
+        }
+    }
+    call
+}
+
+/// The failing call by itself and made small; or, where it fails after other calls only, the shortest list; or nothing,
+/// where the difference does not come again.
+pub fn shrunk(case: &Case, at: usize, call: &Call) -> Option<Case> {
+    if let Some(numbers) = failure(call) {
+        return Some(Case::single(&smallest(call.clone(), numbers)));
+    }
+    let mut turns: Vec<Turn> = case.turns[..=at].to_vec();
+    let still = |turns: &[Turn]| first_difference(&Case { start: case.start.clone(), turns: turns.to_vec() }, |_, _, _| ()).is_some();
+    if !still(&turns) {
+        return None;
+    }
+    let mut out = 0;
+    while out < turns.len() {
+        let mut fewer = turns.clone();
+        fewer.remove(out);
+        if still(&fewer) {
+            turns = fewer;
+        } else {
+            out += 1;
+        }
+    }
+    Some(Case { start: case.start.clone(), turns })
+}

@@ -1,0 +1,76 @@
+//! The port as Rust calls it: the functions of harness/c/persimmonjib.h, on slices.
+
+mod boundary {
+    extern "C" {
+        pub fn pj_number(call: u64, image: *const u8, image_len: usize, x: f64, y: f64, answer: *mut u8, answer_len: usize) -> u64;
+        pub fn pj_build(call: u64, image: *const u8, image_len: usize, answer: *mut u8, answer_len: usize) -> u64;
+        pub fn pj_particle_step(
+            particle: *const u8, particle_len: usize, j_n: f64, dt: f64, temp_k: f64, answer: *mut u8, answer_len: usize,
+        ) -> u64;
+        pub fn pj_cell_step(
+            cell: *const u8, cell_len: usize, current_a: f64, dt: f64, temp_k: f64, answer: *mut u8, answer_len: usize,
+        ) -> u64;
+        pub fn pj_electrolyte_step(
+            electrolyte: *const u8, electrolyte_len: usize, j_n_neg: f64, j_n_pos: f64, dt: f64, temp_k: f64, answer: *mut u8,
+            answer_len: usize,
+        ) -> u64;
+        pub fn pj_dfn_step(cell: *const u8, cell_len: usize, current_a: f64, dt_s: f64, answer: *mut u8, answer_len: usize) -> u64;
+        pub fn pj_simulate_discharge(
+            cell: *const u8, cell_len: usize, current_a: f64, dt: f64, temp_k: f64, max_time_s: f64, rows: *mut f64, rows_len: usize,
+            answer: *mut u8, answer_len: usize,
+        ) -> u64;
+        pub fn pj_run_galvanostatic(
+            cell: *const u8, cell_len: usize, current_a: f64, dt_s: f64, max_time_s: f64, rows: *mut f64, rows_len: usize,
+            answer: *mut u8, answer_len: usize,
+        ) -> u64;
+        pub fn pj_solve_dense(
+            a: *const f64, a_len: usize, b: *const f64, b_len: usize, n: usize, answer: *mut u8, answer_len: usize,
+        ) -> u64;
+    }
+}
+
+// A slice's pointer is never null, and a `&mut` slice overlaps no other: what the header asks of its caller.
+
+pub fn number(call: u64, image: &[u8], [x, y]: [f64; 2], answer: &mut [u8]) -> u64 {
+    unsafe { boundary::pj_number(call, image.as_ptr(), image.len(), x, y, answer.as_mut_ptr(), answer.len()) }
+}
+
+pub fn build(call: u64, image: &[u8], answer: &mut [u8]) -> u64 {
+    unsafe { boundary::pj_build(call, image.as_ptr(), image.len(), answer.as_mut_ptr(), answer.len()) }
+}
+
+pub fn particle_step(particle: &[u8], [j_n, dt, temp_k]: [f64; 3], answer: &mut [u8]) -> u64 {
+    unsafe { boundary::pj_particle_step(particle.as_ptr(), particle.len(), j_n, dt, temp_k, answer.as_mut_ptr(), answer.len()) }
+}
+
+pub fn cell_step(cell: &[u8], [current_a, dt, temp_k]: [f64; 3], answer: &mut [u8]) -> u64 {
+    unsafe { boundary::pj_cell_step(cell.as_ptr(), cell.len(), current_a, dt, temp_k, answer.as_mut_ptr(), answer.len()) }
+}
+
+pub fn electrolyte_step(electrolyte: &[u8], [j_n_neg, j_n_pos, dt, temp_k]: [f64; 4], answer: &mut [u8]) -> u64 {
+    let (image, answer_len) = (electrolyte, answer.len());
+    unsafe { boundary::pj_electrolyte_step(image.as_ptr(), image.len(), j_n_neg, j_n_pos, dt, temp_k, answer.as_mut_ptr(), answer_len) }
+}
+
+pub fn dfn_step(cell: &[u8], [current_a, dt_s]: [f64; 2], answer: &mut [u8]) -> u64 {
+    unsafe { boundary::pj_dfn_step(cell.as_ptr(), cell.len(), current_a, dt_s, answer.as_mut_ptr(), answer.len()) }
+}
+
+pub fn simulate_discharge(cell: &[u8], numbers: [f64; 4], rows: &mut [f64], answer: &mut [u8]) -> u64 {
+    let [current_a, dt, temp_k, max_time_s] = numbers;
+    let (rows_len, answer_len) = (rows.len(), answer.len());
+    let (rows, answer) = (rows.as_mut_ptr(), answer.as_mut_ptr());
+    unsafe {
+        boundary::pj_simulate_discharge(cell.as_ptr(), cell.len(), current_a, dt, temp_k, max_time_s, rows, rows_len, answer, answer_len)
+    }
+}
+
+pub fn run_galvanostatic(cell: &[u8], [current_a, dt_s, max_time_s]: [f64; 3], rows: &mut [f64], answer: &mut [u8]) -> u64 {
+    let (rows_len, answer_len) = (rows.len(), answer.len());
+    let (rows, answer) = (rows.as_mut_ptr(), answer.as_mut_ptr());
+    unsafe { boundary::pj_run_galvanostatic(cell.as_ptr(), cell.len(), current_a, dt_s, max_time_s, rows, rows_len, answer, answer_len) }
+}
+
+pub fn solve_dense(a: &[f64], b: &[f64], n: usize, answer: &mut [u8]) -> u64 {
+    unsafe { boundary::pj_solve_dense(a.as_ptr(), a.len(), b.as_ptr(), b.len(), n, answer.as_mut_ptr(), answer.len()) }
+}

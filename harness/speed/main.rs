@@ -1,0 +1,205 @@
+//! Times of oracle, port and published Rust on the same inputs, as a table in markdown.
+//!
+//!     speed [ROUNDS]
+//!
+//! In every round each side does the same work once, one after the other, in an order that changes from round to round.
+//! A number of the table is the median of the rounds; the spread is that of the ratio, from its lower to its upper quartile.
+mod clock;
+mod oracle_side {
+    use oracle as model;
+    include!("rust_side.rs");
+}
+mod port_side;
+mod published_side {
+    use published as model;
+    include!("rust_side.rs");
+}
+
+use std::time::Duration;
+
+pub const TEMPERATURE: f64 = 298.15;
+const ROUNDS: usize = 21;
+/// how long one side's part of a round is to take
+const ROUND: Duration = Duration::from_millis(30);
+
+/// Bits of what was worked out last, by which oracle and port are held together.
+pub type Answer = Vec<u64>;
+
+#[derive(Clone, Copy)]
+pub struct Load {
+    pub current_a: f64,
+    pub dt: f64,
+}
+
+impl Load {
+    /// In turns out of the cell and into it, so that it stays near where it was.
+    pub fn current(&self, turn: usize) -> f64 {
+        if turn % 2 == 0 {
+            self.current_a
+        } else {
+            -self.current_a
+        }
+    }
+}
+
+pub struct System {
+    pub n: usize,
+    pub a: Vec<f64>,
+    pub b: Vec<f64>,
+}
+
+impl System {
+    /// A full matrix with a heavy diagonal, its rows in reverse, so that rows are exchanged.
+    fn of_order(n: usize) -> Self {
+        let entry = |i: usize, j: usize| ((i * 31 + j * 17) % 23) as f64 / 23.0 - 0.5 + if i + j + 1 == n { n as f64 } else { 0.0 };
+        let a = (0..n * n).map(|k| entry(k / n, k % n)).collect();
+        Self { n, a, b: (0..n).map(|i| i as f64 - 2.5).collect() }
+    }
+}
+
+/// One side's work, so many times; how long it took and what came out.
+type Work<'a> = Box<dyn Fn(usize) -> (Duration, Answer) + 'a>;
+
+struct Case<'a> {
+    name: String,
+    /// oracle, port, published
+    sides: [Work<'a>; 3],
+    /// units in one time
+    units: f64,
+    /// done once a round, where one time is long enough
+    once: bool,
+}
+
+fn quartiles(mut values: Vec<f64>) -> [f64; 3] {
+    values.sort_by(f64::total_cmp);
+    [1, 2, 3].map(|quarter| values[(values.len() - 1) * quarter / 4])
+}
+
+/// A row of the table: medians in ns, the ratio with its spread.
+fn row(case: &Case, rounds: usize) -> String {
+    let [oracle, port, published] = &case.sides;
+    assert_eq!(oracle(3).1, port(3).1, "{}: oracle and port differ", case.name);
+    published(3);
+    let times = if case.once { 1 } else { (ROUND.as_secs_f64() / (oracle(3).0.as_secs_f64() / 3.0)).clamp(1.0, 1e7) as usize };
+    let mut taken: [Vec<f64>; 3] = Default::default();
+    for round in 0..rounds {
+        let mut answers: [Answer; 3] = Default::default();
+        for turn in 0..3 {
+            let side = (round + turn) % 3;
+            let (time, answer) = case.sides[side](times);
+            taken[side].push(time.as_nanos() as f64 / times as f64 / case.units);
+            answers[side] = answer;
+        }
+        assert_eq!(answers[0], answers[1], "{}: oracle and port differ", case.name);
+    }
+    let ratio = |over: usize| -> Vec<f64> { taken[over].iter().zip(&taken[1]).map(|(a, b)| a / b).collect() };
+    let [low, middle, high] = quartiles(ratio(0));
+    let median = |side: usize| quartiles(taken[side].clone())[1];
+    format!(
+        "| {} | {:.0} | {:.0} | {middle:.2} | {low:.2} to {high:.2} | {:.0} | {:.2} |",
+        case.name,
+        median(0),
+        median(1),
+        median(2),
+        quartiles(ratio(2))[1]
+    )
+}
+
+fn cell_steps(name: String, n: usize, load: Load, units: f64) -> Case<'static> {
+    Case {
+        name,
+        sides: [
+            Box::new(move |times| oracle_side::cell_steps(n, load, times)),
+            Box::new(move |times| {
+                let (taken, answer, _) = port_side::cell_steps(n, load, times);
+                (taken, answer)
+            }),
+            Box::new(move |times| published_side::cell_steps(n, load, times)),
+        ],
+        units,
+        once: false,
+    }
+}
+
+fn cases(systems: &[System; 2]) -> Vec<Case<'_>> {
+    let mut all = Vec::new();
+    for (n, dt) in [(11, 1000.0), (20, 400.0), (64, 40.0)] {
+        let load = Load { current_a: 3.0, dt };
+        let (_, _, count) = port_side::cell_steps(n, load, 1);
+        all.push(cell_steps(format!("a sub-step, n = {n} ({count} in {dt} s)"), n, load, count as f64));
+    }
+    for n in [11, 20, 64] {
+        for dt in [1.0, 10.0] {
+            all.push(cell_steps(format!("a cell step of {dt} s, n = {n}"), n, Load { current_a: 3.0, dt }, 1.0));
+        }
+    }
+    let rows = 10_000;
+    let run = Load { current_a: 0.3, dt: 1.0 };
+    all.push(Case {
+        name: format!("a cell step of 1 s in a run of {rows} rows, n = 11"),
+        sides: [
+            Box::new(move |_| oracle_side::cell_run(11, run, rows)),
+            Box::new(move |_| port_side::cell_run(11, run, rows)),
+            Box::new(move |_| published_side::cell_run(11, run, rows)),
+        ],
+        units: rows as f64,
+        once: true,
+    });
+    let load = Load { current_a: 20.0, dt: 1.0 };
+    for counts in [[5, 5, 6], [16, 16, 32]] {
+        let [a, b, c] = counts;
+        all.push(Case {
+            name: format!("a DFN step of 1 s, {a}/{b}/{c}"),
+            sides: [
+                Box::new(move |times| oracle_side::dfn_steps(counts, load, times)),
+                Box::new(move |times| port_side::dfn_steps(counts, load, times)),
+                Box::new(move |times| published_side::dfn_steps(counts, load, times)),
+            ],
+            units: 1.0,
+            once: false,
+        });
+    }
+    let counts = [5, 5, 6];
+    all.push(Case {
+        name: format!("a DFN step of 1 s in a run of {rows} rows, 5/5/6"),
+        sides: [
+            Box::new(move |_| oracle_side::dfn_run(counts, run, rows)),
+            Box::new(move |_| port_side::dfn_run(counts, run, rows)),
+            Box::new(move |_| published_side::dfn_run(counts, run, rows)),
+        ],
+        units: rows as f64,
+        once: true,
+    });
+    for system in systems {
+        all.push(Case {
+            name: format!("solve_dense, order {}", system.n),
+            sides: [
+                Box::new(move |times| oracle_side::solves(system, times)),
+                Box::new(move |times| port_side::solves(system, times)),
+                Box::new(move |times| published_side::solves(system, times)),
+            ],
+            units: 1.0,
+            once: false,
+        });
+    }
+    all
+}
+
+fn main() {
+    let rounds = match std::env::args().nth(1).map(|given| given.parse::<usize>()) {
+        None => ROUNDS,
+        Some(Ok(rounds)) if rounds > 0 => rounds,
+        _ => {
+            eprintln!("speed: a count of rounds above 0");
+            std::process::exit(2);
+        }
+    };
+    println!("| what, in ns | oracle | port | oracle / port | quartiles of the ratio | published Rust | published / port |");
+    println!("|---|---|---|---|---|---|---|");
+    let systems = [System::of_order(8), System::of_order(32)];
+    for case in cases(&systems) {
+        println!("{}", row(&case, rounds));
+    }
+    println!();
+    println!("Medians of {rounds} rounds.");
+}

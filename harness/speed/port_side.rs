@@ -1,0 +1,99 @@
+//! What is timed of the port: images in, images out, as firmware calls it.
+use crate::{clock, Answer, Load, System, TEMPERATURE};
+use std::hint::black_box;
+use std::time::Duration;
+
+// lengths of harness/c/persimmonjib.h, in bytes
+const CELL: usize = 1256;
+const REPORT: usize = 72;
+const DFN_CELL: usize = 9008;
+const DFN_REPORT: usize = 64;
+const ENDING: usize = 16;
+
+fn image(words: &[u64]) -> Vec<u8> {
+    words.iter().flat_map(|word| word.to_le_bytes()).collect()
+}
+
+pub fn word(image: &[u8], at: usize) -> u64 {
+    u64::from_le_bytes(image[8 * at..8 * at + 8].try_into().expect("eight bytes"))
+}
+
+fn accepted(number: u64) {
+    assert_eq!(number, 0, "the port refused");
+}
+
+fn spm(n_nodes: usize) -> Vec<u8> {
+    let numbers = [-10.0, 10.0, 96_485.0, 8.314, 2e-4f64].map(f64::to_bits);
+    let mut cell = vec![0; CELL];
+    accepted(port::build(8, &image(&[&[n_nodes as u64], &numbers[..]].concat()), &mut cell));
+    cell
+}
+
+fn dfn(counts: [usize; 3]) -> Vec<u8> {
+    let (mut given, mut cell) = (vec![0; 472], vec![0; DFN_CELL]);
+    accepted(port::build(5, &[], &mut given));
+    given.extend(image(&counts.map(|n| n as u64)));
+    given.extend(image(&[(-10.0f64).to_bits(), 10f64.to_bits()]));
+    accepted(port::build(12, &given, &mut cell));
+    cell
+}
+
+/// Steps one after the other, the answer of each being the image of the next. Two buffers take turns, so nothing is copied.
+fn steps(start: Vec<u8>, answer: usize, times: usize, mut step: impl FnMut(usize, &[u8], &mut [u8]) -> u64) -> (Duration, Vec<u8>) {
+    let cell = start.len();
+    let mut now = start;
+    now.resize(answer, 0);
+    let mut next = vec![0; answer];
+    let started = clock::now();
+    for turn in 0..times {
+        accepted(step(turn, black_box(&now[..cell]), black_box(&mut next)));
+        std::mem::swap(&mut now, &mut next);
+    }
+    (clock::now() - started, now)
+}
+
+/// Steps of the cell, and the count of sub-steps of the last.
+pub fn cell_steps(n_nodes: usize, load: Load, times: usize) -> (Duration, Answer, u64) {
+    let (taken, last) = steps(spm(n_nodes), CELL + REPORT, times, |turn, cell, answer| {
+        port::cell_step(cell, [load.current(turn), load.dt, TEMPERATURE], answer)
+    });
+    // voltage, clock, the cathode's first place
+    (taken, vec![word(&last, CELL / 8), word(&last, CELL / 8 - 1), word(&last, 92)], word(&last, CELL / 8 + 8))
+}
+
+pub fn dfn_steps(counts: [usize; 3], load: Load, times: usize) -> (Duration, Answer) {
+    let (taken, last) = steps(dfn(counts), DFN_CELL + DFN_REPORT, times, |turn, cell, answer| {
+        port::dfn_step(cell, [load.current(turn), load.dt], answer)
+    });
+    (taken, vec![word(&last, DFN_CELL / 8), word(&last, DFN_CELL / 8 - 5), word(&last, 64 + 512)])
+}
+
+pub fn cell_run(n_nodes: usize, load: Load, rows: usize) -> (Duration, Answer) {
+    let (cell, mut lent, mut answer) = (spm(n_nodes), vec![-1.0; 8 * rows], vec![0; CELL + ENDING]);
+    let numbers = [load.current_a, load.dt, TEMPERATURE, load.dt * rows as f64];
+    let started = clock::now();
+    accepted(port::simulate_discharge(black_box(&cell), numbers, black_box(&mut lent), &mut answer));
+    let taken = clock::now() - started;
+    let written = word(&answer, CELL / 8 + 1);
+    let last = &lent[8 * (written as usize - 1)..];
+    (taken, vec![written, last[0].to_bits(), last[5].to_bits()])
+}
+
+pub fn dfn_run(counts: [usize; 3], load: Load, rows: usize) -> (Duration, Answer) {
+    let (cell, mut lent, mut answer) = (dfn(counts), vec![-1.0; 8 * rows], vec![0; DFN_CELL + ENDING]);
+    let started = clock::now();
+    accepted(port::run_galvanostatic(black_box(&cell), [load.current_a, load.dt, load.dt * rows as f64], black_box(&mut lent), &mut answer));
+    let taken = clock::now() - started;
+    let written = word(&answer, DFN_CELL / 8 + 1);
+    let last = &lent[8 * (written as usize - 1)..];
+    (taken, vec![written, last[0].to_bits(), last[4].to_bits()])
+}
+
+pub fn solves(system: &System, times: usize) -> (Duration, Answer) {
+    let mut answer = [0; 256];
+    let started = clock::now();
+    for _ in 0..times {
+        accepted(port::solve_dense(black_box(&system.a), black_box(&system.b), black_box(system.n), black_box(&mut answer)));
+    }
+    (clock::now() - started, (0..system.n).map(|i| word(&answer, i)).collect())
+}

@@ -1,0 +1,66 @@
+// What is timed of the Rust; included once for the oracle and once for the published Rust, with `model` as its name.
+use crate::{clock, Answer, Load, System, TEMPERATURE};
+use model::dfn::{access, DfnConfig, DfnParams, DfnSolver};
+use model::solver::{SpmConfig, SpmSolver};
+use std::hint::black_box;
+use std::time::Duration;
+
+fn spm(n_nodes: usize) -> SpmSolver {
+    SpmSolver::graphite_lfp(SpmConfig { n_nodes, v_min: -10.0, v_max: 10.0, ..SpmConfig::default() })
+}
+
+pub fn cell_steps(n_nodes: usize, load: Load, times: usize) -> (Duration, Answer) {
+    let mut solver = spm(n_nodes);
+    let mut voltage = 0.0;
+    let started = clock::now();
+    for turn in 0..times {
+        voltage = black_box(solver.step(black_box(load.current(turn)), black_box(load.dt), black_box(TEMPERATURE))).voltage;
+    }
+    let taken = clock::now() - started;
+    (taken, vec![voltage.to_bits(), solver.time_s.to_bits(), solver.cathode.c_s[0].to_bits()])
+}
+
+pub fn cell_run(n_nodes: usize, load: Load, rows: usize) -> (Duration, Answer) {
+    let mut solver = spm(n_nodes);
+    let limit = load.dt * rows as f64;
+    let started = clock::now();
+    let states = black_box(solver.simulate_discharge(black_box(load.current_a), black_box(load.dt), black_box(TEMPERATURE), limit));
+    let taken = clock::now() - started;
+    let last = states.last().expect("rows");
+    (taken, vec![states.len() as u64, last.voltage.to_bits(), last.theta_pos_avg.to_bits()])
+}
+
+fn dfn([n_x_neg, n_x_pos, n_r]: [usize; 3]) -> DfnSolver {
+    DfnSolver::new(DfnParams::nmc_graphite(), DfnConfig { n_x_neg, n_x_pos, n_r, v_min: -10.0, v_max: 10.0, ..DfnConfig::default() })
+}
+
+pub fn dfn_steps(counts: [usize; 3], load: Load, times: usize) -> (Duration, Answer) {
+    let mut solver = dfn(counts);
+    let mut voltage = 0.0;
+    let started = clock::now();
+    for turn in 0..times {
+        voltage = black_box(solver.step(black_box(load.current(turn)), black_box(load.dt))).voltage;
+    }
+    let taken = clock::now() - started;
+    let state = access::state_of(solver);
+    (taken, vec![voltage.to_bits(), state.time_s.to_bits(), state.c_s_pos[0][0].to_bits()])
+}
+
+pub fn dfn_run(counts: [usize; 3], load: Load, rows: usize) -> (Duration, Answer) {
+    let mut solver = dfn(counts);
+    let limit = load.dt * rows as f64;
+    let started = clock::now();
+    let steps = black_box(solver.run_galvanostatic(black_box(load.current_a), black_box(load.dt), limit));
+    let taken = clock::now() - started;
+    let last = steps.last().expect("rows");
+    (taken, vec![steps.len() as u64, last.voltage.to_bits(), last.theta_pos.to_bits()])
+}
+
+pub fn solves(system: &System, times: usize) -> (Duration, Answer) {
+    let mut last = Vec::new();
+    let started = clock::now();
+    for _ in 0..times {
+        last = black_box(access::solve(black_box(&system.a), black_box(&system.b), black_box(system.n)).expect("a regular matrix"));
+    }
+    (clock::now() - started, last.iter().map(|x| x.to_bits()).collect())
+}
