@@ -1,14 +1,14 @@
--- `bench::porous::is_rows` is safe and ends. Assumes nothing.
+-- `bench::list::is_array` is safe and ends. Assumes nothing.
 use Prim.Native.Nat.{_≤_, _-_}
 use borrow.Author.Needs.{needs}
-use Rattle.bench.proofs.porous.is_rows.Statement.{statement}
-use Rattle.bench.proofs.porous.is_rows.Tie as tie
+use Rattle.bench.proofs.list.is_array.Statement.{statement}
+use Rattle.bench.proofs.list.is_array.Tie as tie
 
 abbrev Inv-loop : tie.InvT-loop
-Inv-loop fd rows listed n agrees₀ i₀ agrees i = i ≤ n
+Inv-loop fd c listed n agrees₀ i₀ agrees i = i ≤ n
 
 abbrev μ-loop : tie.MeasureT-loop
-μ-loop fd rows listed n agrees₀ i₀ agrees i = n - i
+μ-loop fd c listed n agrees₀ i₀ agrees i = n - i
 
 next-u64-requires : tie.Need-next-u64-requires Inv-loop μ-loop
 next-u64-requires c κs = search needs
@@ -16,14 +16,8 @@ next-u64-requires c κs = search needs
 loop-holds : tie.Need-loop-holds Inv-loop μ-loop
 loop-holds c = search needs
 
-mark-requires : tie.Need-mark-requires Inv-loop μ-loop
-mark-requires c κs = search needs
-
-to-bits-requires : tie.Need-to-bits-requires Inv-loop μ-loop
-to-bits-requires c κs = search needs
-
-next-u64-requires-2 : tie.Need-next-u64-requires-2 Inv-loop μ-loop
-next-u64-requires-2 c κs = search needs
+word-at-requires : tie.Need-word-at-requires Inv-loop μ-loop
+word-at-requires c κs = search needs
 
 mul-to-bits : tie.Need-mul-to-bits Inv-loop μ-loop
 mul-to-bits c = search needs
@@ -31,8 +25,8 @@ mul-to-bits c = search needs
 shared-slice-read-to-bits : tie.Need-shared-slice-read-to-bits Inv-loop μ-loop
 shared-slice-read-to-bits c = search needs
 
-to-bits-requires-2 : tie.Need-to-bits-requires-2 Inv-loop μ-loop
-to-bits-requires-2 c κs = search needs
+to-bits-requires : tie.Need-to-bits-requires Inv-loop μ-loop
+to-bits-requires c κs = search needs
 
 add-i : tie.Need-add-i Inv-loop μ-loop
 add-i c = search needs
@@ -46,20 +40,18 @@ loop-again c = search needs
 returns : tie.Need-returns Inv-loop μ-loop
 returns c = search needs
 
-pub is-rows-spec : {M : Type 1} → statement M
-is-rows-spec =
+pub is-array-spec : {M : Type 1} → statement M
+is-array-spec =
     tie.close
     (tie.spec
     Inv-loop
     μ-loop
     next-u64-requires
     loop-holds
-    mark-requires
-    to-bits-requires
-    next-u64-requires-2
+    word-at-requires
     mul-to-bits
     shared-slice-read-to-bits
-    to-bits-requires-2
+    to-bits-requires
     add-i
     loop-less
     loop-again

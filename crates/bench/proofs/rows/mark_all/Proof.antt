@@ -1,10 +1,12 @@
--- `bench::porous::mark_all` is safe and ends. Assumes nothing.
+-- `bench::rows::mark_all` is safe and ends. Assumes nothing.
 use Prim.Native.Nat.{_≤_, _-_}
-use mathlib.Core.Path.{_≡_, refl}
-use lib.ListN.{length, length-set}
+use mathlib.Core.Path.{_≡_}
+use lib.ListN.{length}
+use mathlib.Core.Path.{refl}
+use lib.ListN.{length-set}
 use borrow.Author.Needs.{needs}
-use Rattle.bench.proofs.porous.mark_all.Statement.{statement}
-use Rattle.bench.proofs.porous.mark_all.Tie as tie
+use Rattle.bench.proofs.rows.mark_all.Statement.{statement}
+use Rattle.bench.proofs.rows.mark_all.Tie as tie
 
 abbrev Inv-loop : tie.InvT-loop
 Inv-loop rows₀ n i₀ rows i = (i ≤ n) × (length rows ≡ length rows₀)

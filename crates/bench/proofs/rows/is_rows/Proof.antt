@@ -1,23 +1,20 @@
--- `bench::porous::is_array` is safe and ends. Assumes nothing.
+-- `bench::rows::is_rows` is safe and ends. Assumes nothing.
 use Prim.Native.Nat.{_≤_, _-_}
 use borrow.Author.Needs.{needs}
-use Rattle.bench.proofs.porous.is_array.Statement.{statement}
-use Rattle.bench.proofs.porous.is_array.Tie as tie
+use Rattle.bench.proofs.rows.is_rows.Statement.{statement}
+use Rattle.bench.proofs.rows.is_rows.Tie as tie
 
 abbrev Inv-loop : tie.InvT-loop
-Inv-loop fd c listed n agrees₀ i₀ agrees i = i ≤ n
+Inv-loop fd rows count written n agrees₀ i₀ agrees i = i ≤ n
 
 abbrev μ-loop : tie.MeasureT-loop
-μ-loop fd c listed n agrees₀ i₀ agrees i = n - i
+μ-loop fd rows count written n agrees₀ i₀ agrees i = n - i
 
 next-u64-requires : tie.Need-next-u64-requires Inv-loop μ-loop
 next-u64-requires c κs = search needs
 
 loop-holds : tie.Need-loop-holds Inv-loop μ-loop
 loop-holds c = search needs
-
-next-u64-requires-2 : tie.Need-next-u64-requires-2 Inv-loop μ-loop
-next-u64-requires-2 c κs = search needs
 
 mul-to-bits : tie.Need-mul-to-bits Inv-loop μ-loop
 mul-to-bits c = search needs
@@ -27,6 +24,9 @@ shared-slice-read-to-bits c = search needs
 
 to-bits-requires : tie.Need-to-bits-requires Inv-loop μ-loop
 to-bits-requires c κs = search needs
+
+row-word-requires : tie.Need-row-word-requires Inv-loop μ-loop
+row-word-requires c κs = search needs
 
 add-i : tie.Need-add-i Inv-loop μ-loop
 add-i c = search needs
@@ -40,18 +40,18 @@ loop-again c = search needs
 returns : tie.Need-returns Inv-loop μ-loop
 returns c = search needs
 
-pub is-array-spec : {M : Type 1} → statement M
-is-array-spec =
+pub is-rows-spec : {M : Type 1} → statement M
+is-rows-spec =
     tie.close
     (tie.spec
     Inv-loop
     μ-loop
     next-u64-requires
     loop-holds
-    next-u64-requires-2
     mul-to-bits
     shared-slice-read-to-bits
     to-bits-requires
+    row-word-requires
     add-i
     loop-less
     loop-again
