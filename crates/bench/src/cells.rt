@@ -1,16 +1,13 @@
 // The lists of the single-particle cell's calls and its run.
-use crate::list::OVER;
 use crate::list::is_answer;
+use crate::list::is_array;
 use crate::list::is_f64;
 use crate::list::next_f64;
 use crate::list::next_u64;
-use crate::list::next_word;
-use crate::list::verdict;
-use crate::particles::is_places;
+use crate::list::same;
 use crate::particles::next_particle;
 use crate::particles::same_particle;
 use crate::sheets::next_sheet;
-use crate::sheets::same;
 use electrode::ElectrodeParams;
 use kinetics::SpmConfig;
 use particle::ParticleDiffusion;
@@ -77,8 +74,8 @@ pub(crate) fn is_changed(fd: i32, s: SpmSolver) -> bool {
     let pos = s.cathode;
     let c_neg = neg.c_s;
     let c_pos = pos.c_s;
-    let first = is_places(fd, c_neg);
-    let second = is_places(fd, c_pos);
+    let first = is_array(fd, &c_neg);
+    let second = is_array(fd, &c_pos);
     first & second & is_f64(fd, s.time_s)
 }
 
@@ -124,33 +121,25 @@ fn is_built(fd: i32, a: SpmAnswer) -> bool {
     (a.refusal == 0) & same_solver(s, next_solver(fd, next_u64(fd)))
 }
 
-pub(crate) fn ready_line(fd: i32) -> u64 {
-    let first = next_word(fd);
-    if first.end == 0 {
-        return OVER;
-    }
-    let config = next_config(fd, first.value);
+pub(crate) fn ready_line(fd: i32, first: u64) -> bool {
+    let config = next_config(fd, first);
     let lfp = is_built(fd, SpmSolver::graphite_lfp(config));
     let nmc = is_built(fd, SpmSolver::graphite_nmc(config));
-    verdict(lfp & nmc)
+    lfp & nmc
 }
 
-pub(crate) fn new_line(fd: i32) -> u64 {
-    let first = next_word(fd);
-    if first.end == 0 {
-        return OVER;
-    }
-    let config = next_config(fd, first.value);
+pub(crate) fn new_line(fd: i32, first: u64) -> bool {
+    let config = next_config(fd, first);
     let anode = next_sheet(fd, next_u64(fd));
     let cathode = next_sheet(fd, next_u64(fd));
     let number = next_u64(fd);
     let a = SpmSolver::new(config, anode, cathode);
     if number != 0 {
-        return verdict(a.refusal == number);
+        return a.refusal == number;
     }
     let s = a.solver;
     let made = s.config;
-    verdict((a.refusal == 0) & same_config(made, config) & is_changed(fd, s))
+    (a.refusal == 0) & same_config(made, config) & is_changed(fd, s)
 }
 
 fn is_state(fd: i32, s: SpmState) -> bool {
@@ -181,25 +170,17 @@ fn is_step(fd: i32, before: SpmSolver, r: SpmStep) -> bool {
     (r.refusal == 0) & report & count & kept(before, after) & is_changed(fd, after)
 }
 
-pub(crate) fn step_line(fd: i32) -> u64 {
-    let first = next_word(fd);
-    if first.end == 0 {
-        return OVER;
-    }
-    let s = next_solver(fd, first.value);
+pub(crate) fn step_line(fd: i32, first: u64) -> bool {
+    let s = next_solver(fd, first);
     let current_a = next_f64(fd);
     let dt = next_f64(fd);
     let temp_k = next_f64(fd);
-    verdict(is_step(fd, s, s.step(current_a, dt, temp_k)))
+    is_step(fd, s, s.step(current_a, dt, temp_k))
 }
 
-pub(crate) fn number_line(fd: i32) -> u64 {
-    let first = next_word(fd);
-    if first.end == 0 {
-        return OVER;
-    }
-    let s = next_solver(fd, first.value);
+pub(crate) fn number_line(fd: i32, first: u64) -> bool {
+    let s = next_solver(fd, first);
     let ocv = is_answer(fd, s.ocv());
     let soc = is_answer(fd, s.soc_estimate());
-    verdict(ocv & soc)
+    ocv & soc
 }

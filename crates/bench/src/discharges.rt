@@ -1,88 +1,56 @@
 // The list of the single-particle cell's run.
-ghost use mathlib.Core.Path.{_≡_};
-ghost use lib.ListN.{length};
 use crate::cells::is_changed;
 use crate::cells::kept;
 use crate::cells::next_solver;
 use crate::cells::same_solver;
-use crate::list::OVER;
-use crate::list::is_f64;
 use crate::list::next_f64;
 use crate::list::next_u64;
-use crate::list::next_word;
-use crate::list::verdict;
+use crate::rows::is_ending;
+use crate::rows::is_rows;
+use crate::rows::mark_all;
 use discharge_run::DischargeRun;
-use runs::Ending;
+use discharge_run::simulate_discharge;
 use solver::SpmSolver;
 
-// What the place i of the lent slice holds before the run.
-fn before_run(i: usize) -> f64 {
-    -(std::num::nearest_u64_to_f64(i as u64) + 1.0)
-}
-
-fn fresh_slice() -> [f64; 256]
-    ensures { λ r. ⌜ 256 ≡ length r ⌝ }
-{
-    let mut out = [0.0; 256];
-    for i in 0..256 {
-        out[i] = before_run(i);
-    }
-    out
-}
-
-// Whether the first `written` places are the next words, and the others as before the run.
-fn is_slice(fd: i32, out: [f64; 256], written: u64) -> bool {
-    let mut same = true;
-    for i in 0..256 {
-        if (i as u64) < written {
-            same = same & is_f64(fd, out[i]);
-        } else {
-            same = same & (words::to_bits(out[i]) == words::to_bits(before_run(i)));
-        }
-    }
-    same
-}
-
-pub(crate) fn is_ending(ending: Ending, number: u64, refusal: u64) -> bool {
-    match ending {
-        Ending::Voltage => (number == 1) & (refusal == 0),
-        Ending::Time => (number == 2) & (refusal == 0),
-        Ending::Full => (number == 3) & (refusal == 0),
-        Ending::Refused(k) => (number == 4) & (refusal == k),
-    }
-}
-
-// Ending, refusal, rows; then, where there is a row, both profiles and the clock.
-fn is_run(fd: i32, s: SpmSolver, r: DischargeRun, out: [f64; 256]) -> bool {
+// Whether the next answer is r: the ending, the refusal, the rows; then, where there is a row, both profiles and the clock.
+fn is_run(fd: i32, before: SpmSolver, r: DischargeRun, rows: &[f64]) -> bool {
+    let kind = r.ending;
     let number = next_u64(fd);
-    let refusal = next_u64(fd);
-    let written = next_u64(fd);
-    let ending = r.ending;
+    let ending = is_ending(kind, number, next_u64(fd));
+    let written = is_rows(fd, rows, r.rows);
     let after = r.solver;
-    let rows = is_slice(fd, out, written);
-    let count = (r.rows as u64) == written / 8;
-    let end = is_ending(ending, number, refusal);
-    if written == 0 {
-        return rows & count & end & same_solver(s, after);
+    if r.rows == 0 {
+        return ending & written & same_solver(before, after);
     }
-    rows & count & end & kept(s, after) & is_changed(fd, after)
+    ending & written & kept(before, after) & is_changed(fd, after)
 }
 
-pub(crate) fn run_line(fd: i32) -> u64 {
-    let first = next_word(fd);
-    if first.end == 0 {
-        return OVER;
-    }
-    let s = next_solver(fd, first.value);
+fn run_agrees(
+    fd: i32,
+    s: SpmSolver,
+    rows: &mut [f64],
+    current_a: f64,
+    dt: f64,
+    temp_k: f64,
+    limit: f64,
+) -> bool {
+    mark_all(rows);
+    let r = simulate_discharge(s, current_a, dt, temp_k, limit, rows);
+    is_run(fd, s, r, rows)
+}
+
+// No run of the list has more than 256 places.
+pub(crate) fn run_line(fd: i32, first: u64) -> bool {
+    let s = next_solver(fd, first);
     let current_a = next_f64(fd);
     let dt = next_f64(fd);
     let temp_k = next_f64(fd);
     let limit = next_f64(fd);
-    let length = next_u64(fd) as usize;
-    let mut out = fresh_slice();
-    if length > 256 {
-        return verdict(false);
+    let n = next_u64(fd) as usize;
+    if n <= 256 {
+        let mut rows = [0.0; 256];
+        let lent = &mut rows[..n];
+        return run_agrees(fd, s, lent, current_a, dt, temp_k, limit);
     }
-    let r = discharge_run::simulate_discharge(s, current_a, dt, temp_k, limit, &mut out[..length]);
-    verdict(is_run(fd, s, r, out))
+    false
 }

@@ -1,11 +1,11 @@
 // The lists of the electrolyte's calls.
-use crate::list::OVER;
 use crate::list::is_answer;
-use crate::list::is_f64;
+use crate::list::is_array;
 use crate::list::next_f64;
 use crate::list::next_u64;
-use crate::list::next_word;
-use crate::list::verdict;
+use crate::list::read_array;
+use crate::list::same;
+use crate::list::same_arrays;
 use electrolyte::Count;
 use electrolyte::ElectrolyteState;
 use electrolyte::StateAnswer;
@@ -62,17 +62,9 @@ fn next_regions(fd: i32, d_e_ref: f64) -> ElectrolyteState {
     }
 }
 
-// A place of a profile: the next word where it is listed, else +0.
-fn next_place(fd: i32, listed: bool) -> u64 {
-    if listed { next_u64(fd) } else { 0 }
-}
-
 fn next_places(fd: i32) -> [f64; 96] {
-    let listed = next_count(fd);
     let mut c = [0.0; 96];
-    for i in 0..96 {
-        c[i] = words::from_bits(next_place(fd, i < listed));
-    }
+    read_array(fd, &mut c);
     c
 }
 
@@ -83,36 +75,22 @@ fn next_state(fd: i32, d_e_ref: f64) -> ElectrolyteState {
     e
 }
 
-// Whether the next profile is c, by the bits of all 96 places.
 fn is_profile(fd: i32, c: [f64; 96]) -> bool {
-    let listed = next_count(fd);
-    let mut same = true;
-    for i in 0..96 {
-        same = same & (next_place(fd, i < listed) == words::to_bits(c[i]));
-    }
-    same
-}
-
-fn same_f64(x: f64, y: f64) -> bool {
-    words::to_bits(x) == words::to_bits(y)
+    is_array(fd, &c)
 }
 
 fn same_profile(c: [f64; 96], d: [f64; 96]) -> bool {
-    let mut same = true;
-    for i in 0..96 {
-        same = same & same_f64(c[i], d[i]);
-    }
-    same
+    same_arrays(&c, &d)
 }
 
 fn same_params(p: ElectrolyteParams, q: ElectrolyteParams) -> bool {
-    same_f64(p.d_e_ref, q.d_e_ref)
-        & same_f64(p.kappa_ref, q.kappa_ref)
-        & same_f64(p.t_plus, q.t_plus)
-        & same_f64(p.bruggeman, q.bruggeman)
-        & same_f64(p.c_e_init, q.c_e_init)
-        & same_f64(p.e_a_de, q.e_a_de)
-        & same_f64(p.e_a_kappa, q.e_a_kappa)
+    same(p.d_e_ref, q.d_e_ref)
+        & same(p.kappa_ref, q.kappa_ref)
+        & same(p.t_plus, q.t_plus)
+        & same(p.bruggeman, q.bruggeman)
+        & same(p.c_e_init, q.c_e_init)
+        & same(p.e_a_de, q.e_a_de)
+        & same(p.e_a_kappa, q.e_a_kappa)
 }
 
 // Whether two states have the same parameters and regions.
@@ -120,12 +98,12 @@ fn same_regions(a: ElectrolyteState, b: ElectrolyteState) -> bool {
     let p = a.params;
     let q = b.params;
     same_params(p, q)
-        & same_f64(a.l_neg, b.l_neg)
-        & same_f64(a.l_sep, b.l_sep)
-        & same_f64(a.l_pos, b.l_pos)
-        & same_f64(a.eps_neg, b.eps_neg)
-        & same_f64(a.eps_sep, b.eps_sep)
-        & same_f64(a.eps_pos, b.eps_pos)
+        & same(a.l_neg, b.l_neg)
+        & same(a.l_sep, b.l_sep)
+        & same(a.l_pos, b.l_pos)
+        & same(a.eps_neg, b.eps_neg)
+        & same(a.eps_sep, b.eps_sep)
+        & same(a.eps_pos, b.eps_pos)
         & (a.n_neg == b.n_neg)
         & (a.n_sep == b.n_sep)
         & (a.n_pos == b.n_pos)
@@ -191,27 +169,19 @@ fn is_count(fd: i32, a: Count) -> bool {
     }
 }
 
-pub(crate) fn rates_line(fd: i32) -> u64 {
-    let first = next_word(fd);
-    if first.end == 0 {
-        return OVER;
-    }
-    let p = next_params(fd, words::from_bits(first.value));
+pub(crate) fn rates_line(fd: i32, first: u64) -> bool {
+    let p = next_params(fd, words::from_bits(first));
     let porosity = next_f64(fd);
     let temp_k = next_f64(fd);
     let d_e = is_answer(fd, p.d_e(temp_k));
     let kappa = is_answer(fd, p.kappa(temp_k));
     let d_e_eff = is_answer(fd, p.d_e_eff(porosity, temp_k));
     let kappa_eff = is_answer(fd, p.kappa_eff(porosity, temp_k));
-    verdict(d_e & kappa & d_e_eff & kappa_eff)
+    d_e & kappa & d_e_eff & kappa_eff
 }
 
-pub(crate) fn new_line(fd: i32) -> u64 {
-    let first = next_word(fd);
-    if first.end == 0 {
-        return OVER;
-    }
-    let e = next_regions(fd, words::from_bits(first.value));
+pub(crate) fn new_line(fd: i32, first: u64) -> bool {
+    let e = next_regions(fd, words::from_bits(first));
     let params = e.params;
     let a = ElectrolyteState::new(
         params,
@@ -225,39 +195,35 @@ pub(crate) fn new_line(fd: i32) -> u64 {
         e.n_sep,
         e.n_pos,
     );
-    verdict(is_state(fd, a, e, zero_state()))
+    is_state(fd, a, e, zero_state())
 }
 
-pub(crate) fn numbers_line(fd: i32) -> u64 {
-    let first = next_word(fd);
-    if first.end == 0 {
-        return OVER;
-    }
-    let e = next_state(fd, words::from_bits(first.value));
+pub(crate) fn numbers_line(fd: i32, first: u64) -> bool {
+    let e = next_state(fd, words::from_bits(first));
     let n_total = is_count(fd, e.n_total());
     let c_avg = is_answer(fd, e.c_avg());
-    verdict(n_total & c_avg)
+    n_total & c_avg
 }
 
-pub(crate) fn step_line(fd: i32) -> u64 {
-    let first = next_word(fd);
-    if first.end == 0 {
-        return OVER;
-    }
-    let e = next_state(fd, words::from_bits(first.value));
+pub(crate) fn step_line(fd: i32, first: u64) -> bool {
+    let e = next_state(fd, words::from_bits(first));
     let j_n_neg = next_f64(fd);
     let j_n_pos = next_f64(fd);
     let dt = next_f64(fd);
     let temp_k = next_f64(fd);
-    verdict(is_state(fd, e.step_concentration(j_n_neg, j_n_pos, dt, temp_k), e, e))
+    is_state(fd, e.step_concentration(j_n_neg, j_n_pos, dt, temp_k), e, e)
 }
 
-pub(crate) fn dt_stable_line(fd: i32) -> u64 {
-    let first = next_word(fd);
-    if first.end == 0 {
-        return OVER;
-    }
-    let e = next_state(fd, words::from_bits(first.value));
+pub(crate) fn dt_stable_line(fd: i32, first: u64) -> bool {
+    let e = next_state(fd, words::from_bits(first));
     let temp_k = next_f64(fd);
-    verdict(is_answer(fd, e.dt_stable(temp_k)))
+    is_answer(fd, e.dt_stable(temp_k))
+}
+
+// The ready parameters, whose first number is read already.
+pub(crate) fn is_ready(fd: i32, d_e_ref: u64) -> bool {
+    same_params(
+        next_params(fd, words::from_bits(d_e_ref)),
+        ElectrolyteParams::lipf6_ec_dmc(),
+    )
 }

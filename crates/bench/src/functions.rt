@@ -1,41 +1,26 @@
 // The lists of the elementary functions.
-use crate::list::OVER;
 use crate::list::is_f64;
 use crate::list::next_f64;
 use crate::list::next_u64;
-use crate::list::next_word;
-use crate::list::verdict;
 
 // E, L, S and H.
-pub(crate) fn elementary_line(fd: i32) -> u64 {
-    let first = next_word(fd);
-    if first.end == 0 {
-        return OVER;
-    }
-    let x = words::from_bits(first.value);
+pub(crate) fn elementary_line(fd: i32, first: u64) -> bool {
+    let x = words::from_bits(first);
     let exp = is_f64(fd, elementary::exp(x));
     let ln = is_f64(fd, elementary::ln(x));
     let sqrt = is_f64(fd, square_root::sqrt(x));
     let asinh = is_f64(fd, elementary::asinh(x));
-    verdict(exp & ln & sqrt & asinh)
+    exp & ln & sqrt & asinh
 }
 
-pub(crate) fn powf_line(fd: i32) -> u64 {
-    let first = next_word(fd);
-    if first.end == 0 {
-        return OVER;
-    }
+pub(crate) fn powf_line(fd: i32, first: u64) -> bool {
     let b = next_f64(fd);
-    verdict(is_f64(fd, elementary::powf(words::from_bits(first.value), b)))
+    is_f64(fd, elementary::powf(words::from_bits(first), b))
 }
 
 // Powers, clamp, max, min, signum (which no NaN has) and size.
-pub(crate) fn small_line(fd: i32) -> u64 {
-    let first = next_word(fd);
-    if first.end == 0 {
-        return OVER;
-    }
-    let x = words::from_bits(first.value);
+pub(crate) fn small_line(fd: i32, first: u64) -> bool {
+    let x = words::from_bits(first);
     let low = next_f64(fd);
     let high = next_f64(fd);
     let y = next_f64(fd);
@@ -46,13 +31,9 @@ pub(crate) fn small_line(fd: i32) -> u64 {
         & is_f64(fd, elementary::max(x, y))
         & is_f64(fd, elementary::min(x, y));
     let signs = is_f64(fd, elementary::signum(x)) & is_f64(fd, elementary::abs(x));
-    verdict(powers & choices & signs)
+    powers & choices & signs
 }
 
-pub(crate) fn count_line(fd: i32) -> u64 {
-    let first = next_word(fd);
-    if first.end == 0 {
-        return OVER;
-    }
-    verdict(elementary::ceil_count(words::from_bits(first.value)) == next_u64(fd))
+pub(crate) fn count_line(fd: i32, first: u64) -> bool {
+    elementary::ceil_count(words::from_bits(first)) == next_u64(fd)
 }

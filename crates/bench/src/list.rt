@@ -7,13 +7,6 @@ pub struct Word {
     pub end: u8,
 }
 
-// What a line is found to be.
-pub const OVER: u64 = 0;
-
-pub const AGREES: u64 = 1;
-
-pub const DIFFERS: u64 = 2;
-
 fn wide(b: u8) -> u64 {
     b as u64
 }
@@ -80,6 +73,45 @@ pub(crate) fn is_answer(fd: i32, a: Answer) -> bool {
     }
 }
 
-pub(crate) fn verdict(agrees: bool) -> u64 {
-    if agrees { AGREES } else { DIFFERS }
+// ---- arrays: how many places are listed, then these; the others are +0
+
+// A place's word: the next one where it is listed, else that of +0.
+fn word_at(fd: i32, listed: bool) -> u64 {
+    if listed { next_u64(fd) } else { 0 }
+}
+
+// Reads an array into all the places that there are.
+pub(crate) fn read_array(fd: i32, places: &mut [f64]) {
+    let listed = next_u64(fd);
+    let n = places.len();
+    for i in 0..n {
+        places[i] = words::from_bits(word_at(fd, (i as u64) < listed));
+    }
+}
+
+// Whether the next array is c, by its bits.
+pub(crate) fn is_array(fd: i32, c: &[f64]) -> bool {
+    let listed = next_u64(fd);
+    let n = c.len();
+    let mut agrees = listed <= n as u64;
+    for i in 0..n {
+        agrees = agrees & (word_at(fd, (i as u64) < listed) == words::to_bits(c[i]));
+    }
+    agrees
+}
+
+pub(crate) fn same(a: f64, b: f64) -> bool {
+    words::to_bits(a) == words::to_bits(b)
+}
+
+// Whether two arrays of one length are alike, by their bits.
+pub(crate) fn same_arrays(a: &[f64], b: &[f64]) -> bool {
+    let n = a.len();
+    let mut agrees = n == b.len();
+    for i in 0..n {
+        if i < b.len() {
+            agrees = agrees & same(a[i], b[i]);
+        }
+    }
+    agrees
 }

@@ -1,48 +1,25 @@
 // The lists of the particle's calls.
-use crate::list::OVER;
 use crate::list::is_answer;
+use crate::list::is_array;
 use crate::list::next_f64;
 use crate::list::next_u64;
-use crate::list::next_word;
-use crate::list::verdict;
+use crate::list::read_array;
+use crate::list::same_arrays;
 use crate::sheets::next_sheet;
 use crate::sheets::same_sheet;
 use electrode::ElectrodeParams;
 use particle::ParticleAnswer;
 use particle::ParticleDiffusion;
 
-// A profile: how many places are listed, then these; the others are +0.
-pub(crate) fn next_places(fd: i32) -> [f64; 64] {
-    let listed = next_u64(fd);
+fn next_places(fd: i32) -> [f64; 64] {
     let mut c = [0.0; 64];
-    for i in 0..64 {
-        if (i as u64) < listed {
-            c[i] = next_f64(fd);
-        }
-    }
+    read_array(fd, &mut c);
     c
 }
 
-// Whether the next profile is c, by its bits.
-pub(crate) fn is_places(fd: i32, c: [f64; 64]) -> bool {
-    let listed = next_u64(fd);
-    let mut same = true;
-    for i in 0..64 {
-        let mut expected: u64 = 0;
-        if (i as u64) < listed {
-            expected = next_u64(fd);
-        }
-        same = same & (words::to_bits(c[i]) == expected);
-    }
-    same
-}
-
-fn same_places(a: [f64; 64], b: [f64; 64]) -> bool {
-    let mut same = true;
-    for i in 0..64 {
-        same = same & (words::to_bits(a[i]) == words::to_bits(b[i]));
-    }
-    same
+// Whether the next profile is c.
+fn is_places(fd: i32, c: [f64; 64]) -> bool {
+    is_array(fd, &c)
 }
 
 pub(crate) fn same_particle(a: ParticleDiffusion, b: ParticleDiffusion) -> bool {
@@ -50,7 +27,7 @@ pub(crate) fn same_particle(a: ParticleDiffusion, b: ParticleDiffusion) -> bool 
     let q = b.params;
     let c = a.c_s;
     let d = b.c_s;
-    same_sheet(p, q) & (a.n_nodes == b.n_nodes) & same_places(c, d)
+    same_sheet(p, q) & (a.n_nodes == b.n_nodes) & same_arrays(&c, &d)
 }
 
 // A particle whose chemistry is read already.
@@ -78,12 +55,8 @@ fn is_particle_answer(fd: i32, before: ParticleDiffusion, a: ParticleAnswer) -> 
     (a.refusal == 0) & same_sheet(params, old) & (p.n_nodes == before.n_nodes) & is_places(fd, c_s)
 }
 
-pub(crate) fn new_line(fd: i32) -> u64 {
-    let first = next_word(fd);
-    if first.end == 0 {
-        return OVER;
-    }
-    let params = next_sheet(fd, first.value);
+pub(crate) fn new_line(fd: i32, first: u64) -> bool {
+    let params = next_sheet(fd, first);
     let n = next_u64(fd) as usize;
     let number = next_u64(fd);
     let a = ParticleDiffusion::new(params, n);
@@ -91,42 +64,30 @@ pub(crate) fn new_line(fd: i32) -> u64 {
     let c_s = p.c_s;
     let made = p.params;
     if number != 0 {
-        return verdict((a.refusal == number) & (p.n_nodes == 0) & (words::to_bits(c_s[0]) == 0));
+        return (a.refusal == number) & (p.n_nodes == 0) & (words::to_bits(c_s[0]) == 0);
     }
-    verdict((a.refusal == 0) & same_sheet(made, params) & (p.n_nodes == n) & is_places(fd, c_s))
+    (a.refusal == 0) & same_sheet(made, params) & (p.n_nodes == n) & is_places(fd, c_s)
 }
 
-pub(crate) fn step_line(fd: i32) -> u64 {
-    let first = next_word(fd);
-    if first.end == 0 {
-        return OVER;
-    }
-    let p = next_particle(fd, first.value);
+pub(crate) fn step_line(fd: i32, first: u64) -> bool {
+    let p = next_particle(fd, first);
     let j_n = next_f64(fd);
     let dt = next_f64(fd);
     let temp_k = next_f64(fd);
-    verdict(is_particle_answer(fd, p, p.step(j_n, dt, temp_k)))
+    is_particle_answer(fd, p, p.step(j_n, dt, temp_k))
 }
 
-pub(crate) fn dt_stable_line(fd: i32) -> u64 {
-    let first = next_word(fd);
-    if first.end == 0 {
-        return OVER;
-    }
-    let p = next_particle(fd, first.value);
+pub(crate) fn dt_stable_line(fd: i32, first: u64) -> bool {
+    let p = next_particle(fd, first);
     let temp_k = next_f64(fd);
-    verdict(is_answer(fd, p.dt_stable(temp_k)))
+    is_answer(fd, p.dt_stable(temp_k))
 }
 
-pub(crate) fn number_line(fd: i32) -> u64 {
-    let first = next_word(fd);
-    if first.end == 0 {
-        return OVER;
-    }
-    let p = next_particle(fd, first.value);
+pub(crate) fn number_line(fd: i32, first: u64) -> bool {
+    let p = next_particle(fd, first);
     let surface = is_answer(fd, p.theta_surface());
     let average = is_answer(fd, p.theta_avg());
     let concentration = is_answer(fd, p.c_avg());
     let potential = is_answer(fd, p.ocp_surface());
-    verdict(surface & average & concentration & potential)
+    surface & average & concentration & potential
 }

@@ -1,12 +1,15 @@
 // The lists of the Doyle-Fuller-Newman cell's calls.
-use crate::discharges::is_ending;
-use crate::list::OVER;
+use crate::electrolytes;
+use crate::list::is_array;
 use crate::list::is_f64;
 use crate::list::next_f64;
 use crate::list::next_u64;
-use crate::list::next_word;
-use crate::list::verdict;
-use crate::sheets::same;
+use crate::list::read_array;
+use crate::list::same;
+use crate::list::same_arrays;
+use crate::rows::is_ending;
+use crate::rows::is_rows;
+use crate::rows::mark_all;
 use dfn::DfnAnswer;
 use dfn::DfnSolver;
 use dfn::DfnStep;
@@ -18,76 +21,33 @@ use galvanostatic_run::run_galvanostatic;
 // ---- arrays
 
 fn next_coeffs(fd: i32) -> [f64; 16] {
-    let listed = next_u64(fd);
     let mut c = [0.0; 16];
-    for i in 0..16 {
-        if (i as u64) < listed {
-            c[i] = next_f64(fd);
-        }
-    }
+    read_array(fd, &mut c);
     c
 }
 
 fn next_solid(fd: i32) -> [f64; 512] {
-    let listed = next_u64(fd);
     let mut c = [0.0; 512];
-    for i in 0..512 {
-        if (i as u64) < listed {
-            c[i] = next_f64(fd);
-        }
-    }
+    read_array(fd, &mut c);
     c
 }
 
 fn next_salt(fd: i32) -> [f64; 33] {
-    let listed = next_u64(fd);
     let mut c = [0.0; 33];
-    for i in 0..33 {
-        if (i as u64) < listed {
-            c[i] = next_f64(fd);
-        }
-    }
+    read_array(fd, &mut c);
     c
 }
 
-// Whether the next array is c, by its bits.
-fn is_array(fd: i32, c: &[f64]) -> bool {
-    let listed = next_u64(fd);
-    let n = c.len();
-    let mut agrees = true;
-    for i in 0..n {
-        let mut expected: u64 = 0;
-        if (i as u64) < listed {
-            expected = next_u64(fd);
-        }
-        agrees = agrees & (words::to_bits(c[i]) == expected);
-    }
-    agrees
-}
-
-// Whether two arrays are alike, by their bits.
 fn same_coeffs(a: [f64; 16], b: [f64; 16]) -> bool {
-    let mut agrees = true;
-    for i in 0..16 {
-        agrees = agrees & same(a[i], b[i]);
-    }
-    agrees
+    same_arrays(&a, &b)
 }
 
 fn same_solid(a: [f64; 512], b: [f64; 512]) -> bool {
-    let mut agrees = true;
-    for i in 0..512 {
-        agrees = agrees & same(a[i], b[i]);
-    }
-    agrees
+    same_arrays(&a, &b)
 }
 
 fn same_salt(a: [f64; 33], b: [f64; 33]) -> bool {
-    let mut agrees = true;
-    for i in 0..33 {
-        agrees = agrees & same(a[i], b[i]);
-    }
-    agrees
+    same_arrays(&a, &b)
 }
 
 // ---- records
@@ -317,32 +277,18 @@ fn is_empty(r: DfnStep) -> bool {
 
 // ---- lines
 
-// nmc_graphite and lfp_graphite, after the seven numbers of the electrolyte's ready parameters, which belong to another crate.
-pub(crate) fn ready_line(fd: i32) -> u64 {
-    let first = next_word(fd);
-    if first.end == 0 {
-        return OVER;
-    }
-    next_u64(fd);
-    next_u64(fd);
-    next_u64(fd);
-    next_u64(fd);
-    next_u64(fd);
-    next_u64(fd);
+// lipf6_ec_dmc, nmc_graphite and lfp_graphite.
+pub(crate) fn ready_line(fd: i32, first: u64) -> bool {
+    let salt = electrolytes::is_ready(fd, first);
     let nmc = next_parameters(fd, next_u64(fd));
     let lfp = next_parameters(fd, next_u64(fd));
-    verdict(
-        same_parameters(nmc, DfnParams::nmc_graphite())
-            & same_parameters(lfp, DfnParams::lfp_graphite()),
-    )
+    salt
+        & same_parameters(nmc, DfnParams::nmc_graphite())
+        & same_parameters(lfp, DfnParams::lfp_graphite())
 }
 
-pub(crate) fn new_line(fd: i32) -> u64 {
-    let first = next_word(fd);
-    if first.end == 0 {
-        return OVER;
-    }
-    let params = next_parameters(fd, first.value);
+pub(crate) fn new_line(fd: i32, first: u64) -> bool {
+    let params = next_parameters(fd, first);
     let config = next_config(fd);
     let number = next_u64(fd);
     let b = DfnSolver::new(params, config);
@@ -350,17 +296,13 @@ pub(crate) fn new_line(fd: i32) -> u64 {
     let p = cell.params;
     let g = cell.config;
     if number != 0 {
-        return verdict(
-            (b.refusal == number)
-                & (g.n_x_neg == 0)
-                & (g.n_x_pos == 0)
-                & (g.n_r == 0)
-                & same(p.l_neg, 0.0),
-        );
+        return (b.refusal == number)
+            & (g.n_x_neg == 0)
+            & (g.n_x_pos == 0)
+            & (g.n_r == 0)
+            & same(p.l_neg, 0.0);
     }
-    verdict(
-        (b.refusal == 0) & same_parameters(p, params) & same_config(g, config) & is_state(fd, cell),
-    )
+    (b.refusal == 0) & same_parameters(p, params) & same_config(g, config) & is_state(fd, cell)
 }
 
 // Whether the next answer is a: of an accepted step the report and the new state, of a refused one the cell as it was.
@@ -374,52 +316,21 @@ fn is_answer(fd: i32, before: DfnSolver, a: DfnAnswer) -> bool {
     (a.refusal == 0) & same_make(before, cell) & is_report(fd, report) & is_state(fd, cell)
 }
 
-pub(crate) fn step_line(fd: i32) -> u64 {
-    let first = next_word(fd);
-    if first.end == 0 {
-        return OVER;
-    }
-    let cell = next_cell(fd, first.value);
+pub(crate) fn step_line(fd: i32, first: u64) -> bool {
+    let cell = next_cell(fd, first);
     let current = next_f64(fd);
     let dt = next_f64(fd);
-    verdict(is_answer(fd, cell, cell.step(current, dt)))
+    is_answer(fd, cell, cell.step(current, dt))
 }
 
 // ---- runs
-
-// What stands in the place i before a run.
-fn mark(i: usize) -> f64 {
-    -(std::num::nearest_u64_to_f64(i as u64) + 1.0)
-}
-
-fn mark_all(rows: &mut [f64]) {
-    let n = rows.len();
-    for i in 0..n {
-        rows[i] = mark(i);
-    }
-}
-
-// Whether the next slice is the rows that were written, and the places after them are as they were.
-fn is_rows(fd: i32, rows: &[f64]) -> bool {
-    let listed = next_u64(fd);
-    let n = rows.len();
-    let mut agrees = true;
-    for i in 0..n {
-        let mut expected = words::to_bits(mark(i));
-        if (i as u64) < listed {
-            expected = next_u64(fd);
-        }
-        agrees = agrees & (words::to_bits(rows[i]) == expected);
-    }
-    agrees
-}
 
 // Whether the next answer is r: the ending, the refusal, the rows, and the new state where there is a row.
 fn is_run(fd: i32, before: DfnSolver, r: DfnRun, rows: &[f64]) -> bool {
     let kind = r.ending;
     let number = next_u64(fd);
     let ending = is_ending(kind, number, next_u64(fd));
-    let written = is_rows(fd, rows);
+    let written = is_rows(fd, rows, r.rows);
     let cell = r.cell;
     if r.rows == 0 {
         return ending & written & same_cell(before, cell);
@@ -441,12 +352,8 @@ fn run_agrees(
 }
 
 // No run of the list has more than 160 places.
-pub(crate) fn run_line(fd: i32) -> u64 {
-    let first = next_word(fd);
-    if first.end == 0 {
-        return OVER;
-    }
-    let cell = next_cell(fd, first.value);
+pub(crate) fn run_line(fd: i32, first: u64) -> bool {
+    let cell = next_cell(fd, first);
     let current = next_f64(fd);
     let dt = next_f64(fd);
     let limit = next_f64(fd);
@@ -454,7 +361,7 @@ pub(crate) fn run_line(fd: i32) -> u64 {
     if n <= 160 {
         let mut rows = [0.0; 160];
         let lent = &mut rows[..n];
-        return verdict(run_agrees(fd, cell, current, dt, limit, lent));
+        return run_agrees(fd, cell, current, dt, limit, lent);
     }
-    verdict(false)
+    false
 }

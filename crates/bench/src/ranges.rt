@@ -1,9 +1,7 @@
 // The list of the tests of a range: x and a range's ends, what each test finds, and the numbers that follow.
-use crate::list::OVER;
 use crate::list::is_flag;
 use crate::list::next_u64;
 use crate::list::next_word;
-use crate::list::verdict;
 
 fn tests_agree(x: f64, low: f64, high: f64, fd: i32) -> bool {
     let inside = next_word(fd);
@@ -32,24 +30,20 @@ fn numbers_agree(inside: bool, x: u64, low: u64, high: u64, fd: i32) -> bool {
         & (first.end == b'\n')
 }
 
-pub(crate) fn line(fd: i32) -> u64 {
-    let x = next_word(fd);
-    if x.end == 0 {
-        return OVER;
-    }
+pub(crate) fn line(fd: i32, x: u64) -> bool {
     let low = next_word(fd);
     let high = next_word(fd);
-    let fx = words::from_bits(x.value);
+    let fx = words::from_bits(x);
     let flow = words::from_bits(low.value);
     let fhigh = words::from_bits(high.value);
     let tests = tests_agree(fx, flow, fhigh, fd);
     let numbers = numbers_agree(
         refusal::within(fx, flow, fhigh),
-        x.value,
+        x,
         low.value,
         high.value,
         fd,
     );
-    let same_bits = words::to_bits(fx) == x.value;
-    verdict(tests & numbers & same_bits & (high.end == b'\t'))
+    let same_bits = words::to_bits(fx) == x;
+    tests & numbers & same_bits & (high.end == b'\t')
 }

@@ -1,11 +1,9 @@
 // The lists of the electrode sheet's calls.
-use crate::list::OVER;
 use crate::list::is_answer;
 use crate::list::is_f64;
 use crate::list::next_f64;
 use crate::list::next_u64;
-use crate::list::next_word;
-use crate::list::verdict;
+use crate::list::same;
 use electrode::ElectrodeParams;
 
 // A sheet whose chemistry is read already.
@@ -46,10 +44,6 @@ pub(crate) fn is_sheet(fd: i32, chemistry: u64, p: ElectrodeParams) -> bool {
         & is_f64(fd, p.k_bv)
 }
 
-pub(crate) fn same(a: f64, b: f64) -> bool {
-    words::to_bits(a) == words::to_bits(b)
-}
-
 pub(crate) fn same_sheet(a: ElectrodeParams, b: ElectrodeParams) -> bool {
     (a.electrode_type == b.electrode_type)
         & same(a.r_particle, b.r_particle)
@@ -63,52 +57,32 @@ pub(crate) fn same_sheet(a: ElectrodeParams, b: ElectrodeParams) -> bool {
         & same(a.k_bv, b.k_bv)
 }
 
-pub(crate) fn ready_line(fd: i32) -> u64 {
-    let first = next_word(fd);
-    if first.end == 0 {
-        return OVER;
-    }
-    let graphite = is_sheet(fd, first.value, ElectrodeParams::graphite_anode());
+pub(crate) fn ready_line(fd: i32, first: u64) -> bool {
+    let graphite = is_sheet(fd, first, ElectrodeParams::graphite_anode());
     let lfp = is_sheet(fd, next_u64(fd), ElectrodeParams::lfp_cathode());
     let nmc = is_sheet(fd, next_u64(fd), ElectrodeParams::nmc_cathode());
-    verdict(graphite & lfp & nmc)
+    graphite & lfp & nmc
 }
 
-pub(crate) fn d_s_line(fd: i32) -> u64 {
-    let first = next_word(fd);
-    if first.end == 0 {
-        return OVER;
-    }
-    let p = next_sheet(fd, first.value);
+pub(crate) fn d_s_line(fd: i32, first: u64) -> bool {
+    let p = next_sheet(fd, first);
     let temp_k = next_f64(fd);
-    verdict(is_answer(fd, p.d_s(temp_k)))
+    is_answer(fd, p.d_s(temp_k))
 }
 
-pub(crate) fn area_line(fd: i32) -> u64 {
-    let first = next_word(fd);
-    if first.end == 0 {
-        return OVER;
-    }
-    let p = next_sheet(fd, first.value);
-    verdict(is_answer(fd, p.specific_area()))
+pub(crate) fn area_line(fd: i32, first: u64) -> bool {
+    let p = next_sheet(fd, first);
+    is_answer(fd, p.specific_area())
 }
 
-pub(crate) fn ocp_line(fd: i32) -> u64 {
-    let first = next_word(fd);
-    if first.end == 0 {
-        return OVER;
-    }
-    let p = next_sheet(fd, first.value);
+pub(crate) fn ocp_line(fd: i32, first: u64) -> bool {
+    let p = next_sheet(fd, first);
     let theta = next_f64(fd);
     let ocp = is_answer(fd, p.ocp(theta));
     let slope = is_answer(fd, p.docp_dtheta(theta));
-    verdict(ocp & slope)
+    ocp & slope
 }
 
-pub(crate) fn volume_line(fd: i32) -> u64 {
-    let first = next_word(fd);
-    if first.end == 0 {
-        return OVER;
-    }
-    verdict(is_answer(fd, electrode::sphere_volume(words::from_bits(first.value))))
+pub(crate) fn volume_line(fd: i32, first: u64) -> bool {
+    is_answer(fd, electrode::sphere_volume(words::from_bits(first)))
 }

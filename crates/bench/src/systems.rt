@@ -1,10 +1,8 @@
 // The list of `solve_dense`: the order, the matrix and the right side; the number, and where it is 0 the solution.
-use crate::list::OVER;
-use crate::list::is_f64;
+use crate::list::is_array;
 use crate::list::next_f64;
 use crate::list::next_u64;
-use crate::list::next_word;
-use crate::list::verdict;
+use crate::list::same_arrays;
 use dense::Solved;
 ghost use Prim.Native.Nat.{_≤_};
 ghost use lib.ListN.{length};
@@ -35,25 +33,15 @@ fn read_slice(fd: i32, room: &mut [f64]) -> usize
     kept
 }
 
-// Whether the places of a solution are the `listed` next words, by their bits, and then +0.
-fn places_agree(fd: i32, s: Solved, listed: u64) -> bool {
-    let mut left = listed;
-    let mut same = true;
-    for i in 0..32 {
-        if left > 0 {
-            same = same & is_f64(fd, s.x[i]);
-            left -= 1;
-        } else {
-            same = same & (words::to_bits(s.x[i]) == 0);
-        }
-    }
-    same & (left == 0)
-}
-
+// Whether the next answer is s: a solution, or a number with +0 throughout.
 fn agrees(fd: i32, s: Solved) -> bool {
     let number = next_u64(fd);
-    let listed = if number == 0 { next_u64(fd) } else { 0 };
-    (s.refusal == number) & places_agree(fd, s, listed)
+    let x = s.x;
+    if number == 0 {
+        return (s.refusal == 0) & is_array(fd, &x);
+    }
+    let zeros = [0.0; 32];
+    (s.refusal == number) & same_arrays(&x, &zeros)
 }
 
 // Solves the next system of the list.
@@ -63,13 +51,9 @@ fn solve_next(fd: i32, n: usize, a: &mut [f64], b: &mut [f64]) -> Solved {
     dense::solve_dense(&a[..rows], &b[..side], n)
 }
 
-pub(crate) fn line(fd: i32) -> u64 {
-    let n = next_word(fd);
-    if n.end == 0 {
-        return OVER;
-    }
+pub(crate) fn line(fd: i32, n: u64) -> bool {
     let mut a = [0.0; 1025];
     let mut b = [0.0; 33];
-    let s = solve_next(fd, n.value as usize, &mut a, &mut b);
-    verdict(agrees(fd, s))
+    let s = solve_next(fd, n as usize, &mut a, &mut b);
+    agrees(fd, s)
 }

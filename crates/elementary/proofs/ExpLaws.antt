@@ -4,7 +4,7 @@ use mathlib.Core.Bool.{Bool, true, false, cond}
 use Prim.Native.Nat.{ℕ, zero, suc, _-_, _<_}
 use native.Mathlib.Nat.{lt-irrefl}
 use native.Mathlib.Omega.{arith}
-use lib.Ieee.{Float, inf, neg, lt}
+use lib.Ieee.{Float, inf, neg, lt, add, mul, div, round, ofInt, ofBits}
 use Rattle.binary64.specs.Operators.{_⊕_, _⊗_, _⊘_, f64, count}
 use Rattle.elementary.specs.Exp.{one, series, squarings, powered, expOf, highest, lowest, scale}
 
@@ -43,3 +43,8 @@ exp-mid t h k = exp-is t false false h k
 pub powered-is : (t : Float) → squarings 10 (series 18 (t ⊘ scale) one) ≡ powered t
 unfolding powered
 powered-is t = refl
+
+-- E(0) = 1: what an Arrhenius factor is at the reference temperature
+pub exp-0 : expOf (f64 0) ≡ one
+unfolding expOf powered series squarings neg lt add mul div round ofInt ofBits
+exp-0 = refl

@@ -4,7 +4,6 @@ pub mod LnLaws
 pub mod LnSplits
 pub mod SignLaws
 pub mod CountLaws
-pub mod BenchCells
 pub mod Literals
 pub mod Constants
 pub mod ExpRange

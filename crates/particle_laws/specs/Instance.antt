@@ -9,7 +9,7 @@ use Rattle.fraction.specs.Order.{lit≤F}
 use Rattle.binary64.specs.Operators.{_⊖_, _⊗_, _⊘_, f64}
 use Rattle.binary64.specs.Value.{val}
 use Rattle.elementary.specs.Exp.{one, expOf}
-use Rattle.elementary.proofs.BenchCells.{bench-cells}
+use Rattle.elementary.proofs.ExpLaws.{exp-0}
 use Rattle.refusal.specs.Numbers.{firstMet, refusalUnless}
 use Rattle.electrode.specs.Sheet.{graphiteAnode, diffusivityAt}
 use Rattle.turns.specs.Turns.{firstBy}
@@ -69,7 +69,7 @@ times-one = refl
 -- 3.9e-14
 diffusivity-is : diffusivityAt graphiteAnode room ≡ f64 0x3d25_f47e_09a9_f0ea
 unfolding diffusivityAt graphiteAnode
-diffusivity-is = ap (λ (x : Float). f64 0x3d25_f47e_09a9_f0ea ⊗ expOf x) exponent-is ∙ ap (λ (x : Float). f64 0x3d25_f47e_09a9_f0ea ⊗ x) (bench-cells .exp-0) ∙ times-one
+diffusivity-is = ap (λ (x : Float). f64 0x3d25_f47e_09a9_f0ea ⊗ expOf x) exponent-is ∙ ap (λ (x : Float). f64 0x3d25_f47e_09a9_f0ea ⊗ x) exp-0 ∙ times-one
 
 sheet-is : start .params ≡ graphiteAnode
 unfolding made newRefusal fresh firstMet refusalUnless graphiteAnode le ofBits

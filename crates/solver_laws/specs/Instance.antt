@@ -21,7 +21,7 @@ use Rattle.elementary.specs.Choice.{clampOf, signumOf}
 use Rattle.elementary.proofs.AsinhRange.{asinh-finite}
 use Rattle.elementary.specs.Exp.{one, expOf}
 use Rattle.elementary.specs.Count.{ceilOf}
-use Rattle.elementary.proofs.BenchCells.{bench-cells}
+use Rattle.elementary.proofs.ExpLaws.{exp-0}
 use Rattle.refusal.specs.Numbers.{firstMet, refusalUnless}
 use Rattle.electrode.specs.declared.ElectrodeParams.{ElectrodeParams}
 use Rattle.electrode.specs.Sheet.{graphiteAnode, lfpCathode, specificArea, diffusivityAt}
@@ -130,11 +130,11 @@ times-one = (refl, refl)
 -- 3.9e-14 and 1e-14
 anode-diffusivity : diffusivityAt graphiteAnode room ≡ f64 0x3d25_f47e_09a9_f0ea
 unfolding diffusivityAt graphiteAnode
-anode-diffusivity = ap (λ (x : Float). f64 0x3d25_f47e_09a9_f0ea ⊗ expOf x) anode-exponent ∙ ap (λ (x : Float). f64 0x3d25_f47e_09a9_f0ea ⊗ x) (bench-cells .exp-0) ∙ times-one .0
+anode-diffusivity = ap (λ (x : Float). f64 0x3d25_f47e_09a9_f0ea ⊗ expOf x) anode-exponent ∙ ap (λ (x : Float). f64 0x3d25_f47e_09a9_f0ea ⊗ x) exp-0 ∙ times-one .0
 
 cathode-diffusivity : diffusivityAt lfpCathode room ≡ f64 0x3d06_849b_86a1_2b9b
 unfolding diffusivityAt lfpCathode
-cathode-diffusivity = ap (λ (x : Float). f64 0x3d06_849b_86a1_2b9b ⊗ expOf x) cathode-exponent ∙ ap (λ (x : Float). f64 0x3d06_849b_86a1_2b9b ⊗ x) (bench-cells .exp-0) ∙ times-one .1
+cathode-diffusivity = ap (λ (x : Float). f64 0x3d06_849b_86a1_2b9b ⊗ expOf x) cathode-exponent ∙ ap (λ (x : Float). f64 0x3d06_849b_86a1_2b9b ⊗ x) exp-0 ∙ times-one .1
 
 -- ---- the plan: one sub-step
 abbrev thePlan : Draw → Plan

@@ -5,12 +5,6 @@ use borrow.Author.Needs.{needs}
 use Rattle.bench.proofs.porous.run_line.Statement.{statement}
 use Rattle.bench.proofs.porous.run_line.Tie as tie
 
-next-word-requires : tie.Need-next-word-requires
-next-word-requires c κs = search needs
-
-returns : tie.Need-returns
-returns c = search needs
-
 next-cell-requires : tie.Need-next-cell-requires
 next-cell-requires c κs = search needs
 
@@ -30,29 +24,21 @@ array-borrow-prefix-rows : tie.Need-array-borrow-prefix-rows
 array-borrow-prefix-rows c = search needs
 
 slice-aggregate-lent : tie.Need-slice-aggregate-lent
-slice-aggregate-lent c = sym (length-take-le _ _ (c .before .if2 .taken))
+slice-aggregate-lent c = sym (length-take-le _ _ (c .before .if1 .taken))
 
 run-agrees-requires : tie.Need-run-agrees-requires
 run-agrees-requires c κs = search needs
 
-verdict-requires : tie.Need-verdict-requires
-verdict-requires c κs = search needs
+returns : tie.Need-returns
+returns c = search needs
 
 returns-2 : tie.Need-returns-2
 returns-2 c = search needs
-
-verdict-requires-2 : tie.Need-verdict-requires-2
-verdict-requires-2 c κs = search needs
-
-returns-3 : tie.Need-returns-3
-returns-3 c = search needs
 
 pub run-line-spec : {M : Type 1} → statement M
 run-line-spec =
     tie.close
     (tie.spec
-    next-word-requires
-    returns
     next-cell-requires
     next-f64-requires
     next-f64-requires-2
@@ -61,7 +47,5 @@ run-line-spec =
     array-borrow-prefix-rows
     slice-aggregate-lent
     run-agrees-requires
-    verdict-requires
-    returns-2
-    verdict-requires-2
-    returns-3)
+    returns
+    returns-2)

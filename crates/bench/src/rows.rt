@@ -1,0 +1,43 @@
+// What a run leaves in the slice that it was lent, and how it ended.
+use crate::list::next_u64;
+use runs::Ending;
+
+// What stands in the place i before a run.
+fn mark(i: usize) -> f64 {
+    -(std::num::nearest_u64_to_f64(i as u64) + 1.0)
+}
+
+pub(crate) fn mark_all(rows: &mut [f64]) {
+    let n = rows.len();
+    for i in 0..n {
+        rows[i] = mark(i);
+    }
+}
+
+// The word of the place i: the next one where it is written, else that from before the run.
+fn row_word(fd: i32, i: usize, written: u64) -> u64 {
+    if (i as u64) < written {
+        return next_u64(fd);
+    }
+    words::to_bits(mark(i))
+}
+
+// Whether the next slice is the rows that were written, `count` of them, and the places after them are as they were.
+pub(crate) fn is_rows(fd: i32, rows: &[f64], count: usize) -> bool {
+    let written = next_u64(fd);
+    let n = rows.len();
+    let mut agrees = count as u64 == written / 8;
+    for i in 0..n {
+        agrees = agrees & (words::to_bits(rows[i]) == row_word(fd, i, written));
+    }
+    agrees
+}
+
+pub(crate) fn is_ending(ending: Ending, number: u64, refusal: u64) -> bool {
+    match ending {
+        Ending::Voltage => (number == 1) & (refusal == 0),
+        Ending::Time => (number == 2) & (refusal == 0),
+        Ending::Full => (number == 3) & (refusal == 0),
+        Ending::Refused(k) => (number == 4) & (refusal == k),
+    }
+}

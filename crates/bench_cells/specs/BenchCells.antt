@@ -1,0 +1,101 @@
+-- The bench cells of document 01, in its order. Each left side is the definition that a contract cites: exp, ln, sqrt, asinh and ceil_count, solve_dense,
+-- the weights of the average, update_solid. Assumes nothing.
+use Prim.Native.Nat.{ℕ, _+_, _-_, _^_}
+use mathlib.Core.Path.{_≡_, refl}
+use mathlib.Core.Bool.{false}
+use mathlib.Core.List.{[], _∷_, map}
+use lib.ListN.{replicate}
+use lib.Ieee.{Float, binary64, isNan, lt, le, add, sub, mul, div, neg, round, ofInt, size, ofBits, toBits}
+use Rattle.binary64.specs.Operators.{f64}
+use Rattle.square_root.specs.Root.{sqrtOf, rounded, wholeRoot, rootBelow}
+use Rattle.elementary.specs.Exp.{series, squarings, powered, expOf}
+use Rattle.elementary.specs.Ln.{terms, lnParts, lnSplit, lnOf}
+use Rattle.elementary.specs.Asinh.{asinhOf}
+use Rattle.elementary.specs.Count.{ceilOf}
+use Rattle.refusal.specs.Numbers.{refusalUnless, firstMet}
+use Rattle.turns.specs.Turns.{firstBy, allBelow}
+use Rattle.places.specs.Places.{placesBy}
+use Rattle.profile.specs.Weights.{innerWeight, weight}
+use Rattle.dense.specs.declared.Solved.{Solved}
+use Rattle.dense_elimination.specs.Loops.{turnsFrom, forRange, unlessRefused, tryRange}
+use Rattle.dense_elimination.specs.Places.{zeros, firstFinite, allFinite}
+use Rattle.dense_elimination.specs.Elimination.{candidate, larger, pivotOf, swapped, rowsSwapped, rowReduced, rowLess, rowCleared, columnCleared, pivotTaken, columnWith, columnDone, eliminated}
+use Rattle.dense.specs.Substitution.{takenOut, columnSolved, substituted}
+use Rattle.dense.specs.Solve.{placeLoaded, rowLoaded, matrixLoaded, loaded, reduced, solution, inputRefusal, solutionRefusal, answer, solved}
+use Rattle.dfn_solid.specs.declared.Grain.{Grain}
+use Rattle.dfn_solid.specs.declared.Solid.{Solid}
+use Rattle.dfn_solid.specs.Solid.{dSolids, innerWith, surfaceWith, centreWith, nodeWith, particleWith, particlesWith, surfacesWith, solidAfter}
+
+infix 66 _over_
+-- ---- how the list writes its numbers
+-- a / b, rounded once
+abbrev pub _over_ : ℕ → ℕ → Float
+a over b = round binary64 false a b
+
+abbrev pub num : ℕ → Float
+num n = n over 1
+
+abbrev pub minusZero : Float
+minusZero = neg (num 0)
+
+-- the next smaller one of a number above 0
+abbrev pub nextBelow : Float → Float
+nextBelow x = f64 (toBits binary64 x - 1)
+
+-- what a system of order 2 answers: no refusal, and a solution whose other places are +0
+abbrev pub solvedTo : Float → Float → Solved
+solvedTo x y = answer 0 (x ∷ y ∷ zeros 30)
+
+-- two nodes 1 m apart, of largest concentration 100; diffusivity 1 m^2/s, no flux, 1 s
+abbrev pub twoNodes : Grain
+twoNodes = record { n = 2; dr = num 1; «d_ref» = num 1; «c_max» = num 100; flux = num 0; dt = num 1 }
+
+-- ---- the list
+pub record BenchCells : Type 0 where
+  -- E(0) = 1
+  pub exp-0 : expOf (num 0) ≡ num 1
+  -- L(1) = +0
+  pub ln-1 : lnOf (num 1) ≡ num 0
+  -- L(2) = c
+  pub ln-2 : lnOf (num 2) ≡ f64 0x3FE6_2E42_FEFA_39EF
+  -- S(2^-1074) = 2^-537
+  pub sqrt-least : sqrtOf (1 over 2 ^ 1074) ≡ 1 over 2 ^ 537
+  -- S(-0) = -0
+  pub sqrt-minus-0 : sqrtOf minusZero ≡ minusZero
+  -- H(-0) = -0
+  pub asinh-minus-0 : asinhOf minusZero ≡ minusZero
+  -- the identity of order 2 with (3, 4) gives (3, 4)
+  pub identity : solved (num 1 ∷ num 0 ∷ num 0 ∷ num 1 ∷ []) (num 3 ∷ num 4 ∷ []) 2 ≡ solvedTo (num 3) (num 4)
+  -- rows (0, 1), (1, 0) give (4, 3)
+  pub crossed : solved (num 0 ∷ num 1 ∷ num 1 ∷ num 0 ∷ []) (num 3 ∷ num 4 ∷ []) 2 ≡ solvedTo (num 4) (num 3)
+  -- order 1: entry 1e-14 with 0 gives 0
+  pub least-pivot : solved ((1 over 10 ^ 14) ∷ []) (num 0 ∷ []) 1 ≡ answer 0 (zeros 32)
+  -- the next smaller binary64 gives 9
+  pub below-least : solved (nextBelow (1 over 10 ^ 14) ∷ []) (num 0 ∷ []) 1 ≡ answer 9 (zeros 32)
+  -- q = 4,096 gives 4,096 sub-steps
+  pub count-4096 : ceilOf (num 4096) ≡ 4096
+  -- q = 1 + 2^-52 gives 2
+  pub count-above-1 : ceilOf ((2 ^ 52 + 1) over 2 ^ 52) ≡ 2
+  -- five nodes weigh 1, 4, 2, 4, 1
+  pub weights : map (weight 5) (0 ∷ 1 ∷ 2 ∷ 3 ∷ 4 ∷ []) ≡ num 1 ∷ num 4 ∷ num 2 ∷ num 4 ∷ num 1 ∷ []
+  -- DFN n_r = 2, profile (10, 20), M 100, no flux: (20, 20)
+  pub two-nodes : solidAfter twoNodes (num 10 ∷ num 20 ∷ replicate 510 (num 0)) 1 .c ≡ num 20 ∷ num 20 ∷ replicate 510 (num 0)
+
+pub bench-cells : BenchCells
+unfolding expOf powered series squarings lnOf lnSplit lnParts terms sqrtOf rounded wholeRoot rootBelow asinhOf ceilOf firstBy allBelow turnsFrom forRange unlessRefused tryRange firstFinite allFinite candidate larger pivotOf swapped rowsSwapped rowReduced rowLess rowCleared columnCleared pivotTaken columnWith columnDone eliminated takenOut columnSolved substituted placeLoaded rowLoaded matrixLoaded loaded reduced solution inputRefusal solutionRefusal answer solved refusalUnless firstMet innerWeight weight placesBy dSolids innerWith surfaceWith centreWith nodeWith particleWith particlesWith surfacesWith solidAfter isNan lt le add sub mul div neg round ofInt size ofBits toBits
+bench-cells = record {
+  exp-0 = refl;
+  ln-1 = refl;
+  ln-2 = refl;
+  sqrt-least = refl;
+  sqrt-minus-0 = refl;
+  asinh-minus-0 = refl;
+  identity = refl;
+  crossed = refl;
+  least-pivot = refl;
+  below-least = refl;
+  count-4096 = refl;
+  count-above-1 = refl;
+  weights = refl;
+  two-nodes = refl;
+}

@@ -1,0 +1,1 @@
+// The bench cells of document 01 as one theorem, in specs/. No code.

@@ -1,0 +1,50 @@
+-- `discharge::text::copied` is safe and ends. Assumes nothing.
+use Prim.Native.Nat.{_≤_, _-_}
+use mathlib.Core.Path.{_≡_}
+use lib.ListN.{length}
+use mathlib.Core.Path.{refl, sym}
+use lib.ListN.{length-set}
+use borrow.Author.Needs.{needs}
+use Rattle.discharge.proofs.text.copied.Statement.{statement}
+use Rattle.discharge.proofs.text.copied.Tie as tie
+
+abbrev Inv-loop : tie.InvT-loop
+Inv-loop text copy₀ i₀ copy i = (i ≤ 4096) × (length copy ≡ 4096)
+
+abbrev μ-loop : tie.MeasureT-loop
+μ-loop text copy₀ i₀ copy i = 4096 - i
+
+loop-holds : tie.Need-loop-holds Inv-loop μ-loop
+loop-holds c = (search needs, refl)
+
+element-copy-out-copy : tie.Need-element-copy-out-copy Inv-loop μ-loop
+element-copy-out-copy c = search needs
+
+array-write-copy : tie.Need-array-write-copy Inv-loop μ-loop
+array-write-copy c = search needs
+
+add-i : tie.Need-add-i Inv-loop μ-loop
+add-i c = search needs
+
+loop-less : tie.Need-loop-less Inv-loop μ-loop
+loop-less c = search needs
+
+loop-again : tie.Need-loop-again Inv-loop μ-loop
+loop-again c = (search needs, simp length-set (c .before .before .loop .inv .1))
+
+returns : tie.Need-returns Inv-loop μ-loop
+returns c = sym (c .before .loop .inv .1)
+
+pub copied-spec : {M : Type 1} → statement M
+copied-spec =
+    tie.close
+    (tie.spec
+    Inv-loop
+    μ-loop
+    loop-holds
+    element-copy-out-copy
+    array-write-copy
+    add-i
+    loop-less
+    loop-again
+    returns)
