@@ -1,0 +1,48 @@
+-- `boundary::pj_solve_dense` meets its contract. Assumes nothing.
+use Rattle.dense.specs.declared.Solved.{Solved}
+use Rattle.codec.specs.Words.{putRow}
+use lib.ListN.{length}
+use Rattle.codec.specs.Words.{putPlaces}
+use Rattle.boundary.specs.Calls.{denseNumber, denseAfter}
+use Rattle.boundary.proofs.Answers.{on, off, short, taken, left}
+use borrow.Author.Needs.{needs}
+use Rattle.boundary.proofs.pj_solve_dense.Statement.{statement}
+use Rattle.boundary.proofs.pj_solve_dense.Tie as tie
+
+lengths-fit-requires : tie.Need-lengths-fit-requires
+lengths-fit-requires c κs = search needs
+
+returns : tie.Need-returns
+unfolding denseNumber denseAfter
+returns c = short _ _ _ _ _ (c .before .lengths-fit .ensures) (off _ (c .if1 .taken))
+
+solve-dense-requires : tie.Need-solve-dense-requires
+solve-dense-requires c κs = search needs
+
+put-32-requires : tie.Need-put-32-requires
+put-32-requires c κs = search needs
+
+same-length : tie.Need-same-length
+same-length c = search needs depth 24
+
+returns-2 : tie.Need-returns-2
+unfolding denseNumber denseAfter
+returns-2 c = 
+    taken (λ (t : Solved). t .refusal) (λ (t : Solved). putRow (c .before .before .before .before .before .before .before .before .before .before .before .before .args .answer .now) 0 (t .x)) _ _ _ (c .before .before .before .before .before .before .solve-dense .ensures) _ _ (c .before .before .before .before .before .before .before .before .lengths-fit .ensures) (on _ (c .before .before .before .before .before .before .before .if1 .left)) _ (c .before .before .before .before .before .if2 .taken) (c .before .before .put-32 .ensures)
+
+returns-3 : tie.Need-returns-3
+unfolding denseNumber denseAfter
+returns-3 c = 
+    left (λ (t : Solved). t .refusal) (λ (t : Solved). putRow (c .before .before .before .before .before .before .before .args .answer .now) 0 (t .x)) _ _ _ (c .before .solve-dense .ensures) _ _ (c .before .before .before .lengths-fit .ensures) (on _ (c .before .before .if1 .left)) (c .if2 .left)
+
+pub pj-solve-dense-spec : {M : Type 1} → statement M
+pj-solve-dense-spec =
+    tie.close
+    (tie.spec
+    lengths-fit-requires
+    returns
+    solve-dense-requires
+    put-32-requires
+    same-length
+    returns-2
+    returns-3)

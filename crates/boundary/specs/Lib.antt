@@ -1,0 +1,3 @@
+-- The stepper for C.
+pub mod Calls
+pub mod Runs

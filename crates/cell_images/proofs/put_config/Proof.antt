@@ -1,0 +1,35 @@
+-- `cell_images::put_config` meets its contract. Assumes nothing.
+use Rattle.cell_images.specs.Images.{putConfig}
+use borrow.Author.Needs.{needs}
+use Rattle.cell_images.proofs.put_config.Statement.{statement}
+use Rattle.cell_images.proofs.put_config.Tie as tie
+use Rattle.cell_images.proofs.put_config.Reads as reads
+use Rattle.cell_images.proofs.put_config.Lts as lts
+use Rattle.codec.proofs.write_places.Reads as write-places-reads
+use Rattle.codec.proofs.write_word.Reads as write-word-reads
+
+write-word-requires : tie.Need-write-word-requires
+write-word-requires c κs = search needs
+
+slice-aggregate-write-places : tie.Need-slice-aggregate-write-places
+slice-aggregate-write-places c = search needs
+
+write-places-requires : tie.Need-write-places-requires
+write-places-requires c κs = search needs
+
+same-length : tie.Need-same-length
+same-length c = search needs depth 24
+
+returns : tie.Need-returns
+unfolding putConfig
+returns c = rw (c .before .before .write-places .ensures, c .before .before .before .before .before .before .before .write-word .ensures)
+
+pub put-config-spec : {M : Type 1} → statement M
+put-config-spec =
+    tie.close
+    (tie.spec
+    write-word-requires
+    slice-aggregate-write-places
+    write-places-requires
+    same-length
+    returns)

@@ -1,0 +1,2 @@
+-- Sheets, particles and single-particle cells as images.
+pub mod Images

@@ -1,0 +1,2 @@
+-- Words, numbers and rows of numbers in a string of bytes.
+pub mod Words

@@ -1,0 +1,35 @@
+-- `image_builds::new_electrolyte` meets its contract. Assumes nothing.
+use borrow.Author.Needs.{needs}
+use Rattle.electrolyte.specs.declared.StateAnswer.{StateAnswer}
+use Rattle.porous_images.specs.Images.{putElectrolyte}
+use Rattle.image_builds.specs.Written.{accepted, refused}
+use Rattle.image_builds.specs.Builds.{electrolyteBuilt}
+use Rattle.image_builds.proofs.new_electrolyte.Statement.{statement}
+use Rattle.image_builds.proofs.new_electrolyte.Tie as tie
+
+built-electrolyte-requires : tie.Need-built-electrolyte-requires
+built-electrolyte-requires c κs = search needs
+
+put-electrolyte-requires : tie.Need-put-electrolyte-requires
+put-electrolyte-requires c κs = search needs
+
+same-length : tie.Need-same-length
+same-length c = search needs depth 24
+
+
+returns : tie.Need-returns
+returns c =
+    accepted (λ (t : StateAnswer). t .refusal) (λ (t : StateAnswer). putElectrolyte (c .before .before .before .before .before .before .before .before .before .args .answer .now) (t .state)) _ _ _ (c .before .before .before .before .before .before .built-electrolyte .ensures) _ (c .before .before .before .before .before .if1 .taken) (c .before .before .put-electrolyte .ensures)
+
+returns-2 : tie.Need-returns-2
+returns-2 c = refused (λ (t : StateAnswer). t .refusal) (λ (t : StateAnswer). putElectrolyte (c .before .before .before .before .args .answer .now) (t .state)) _ _ _ (c .before .built-electrolyte .ensures) (c .if1 .left)
+
+pub new-electrolyte-spec : {M : Type 1} → statement M
+new-electrolyte-spec =
+    tie.close
+    (tie.spec
+    built-electrolyte-requires
+    put-electrolyte-requires
+    same-length
+    returns
+    returns-2)

@@ -1,0 +1,63 @@
+-- `image_builds::put_ready` meets its contract. Assumes nothing.
+use native.Mathlib.Omega.{arith}
+use borrow.Author.Tests.{ne-eqb, le-leb, lt-leb}
+use Rattle.image_builds.specs.Builds.{readyPut}
+use borrow.Author.Needs.{needs}
+use Rattle.image_builds.proofs.put_ready.Statement.{statement}
+use Rattle.image_builds.proofs.put_ready.Tie as tie
+
+ready-sheet-requires : tie.Need-ready-sheet-requires
+ready-sheet-requires c κs = search needs
+
+put-sheet-requires : tie.Need-put-sheet-requires
+put-sheet-requires c κs = search needs
+
+lipf6-ec-dmc-requires : tie.Need-lipf6-ec-dmc-requires
+lipf6-ec-dmc-requires c κs = search needs
+
+put-salt-requires : tie.Need-put-salt-requires
+put-salt-requires c κs = search needs
+
+ready-params-requires : tie.Need-ready-params-requires
+ready-params-requires c κs = search needs
+
+put-params-requires : tie.Need-put-params-requires
+put-params-requires c κs = search needs
+
+same-length : tie.Need-same-length
+same-length c = search needs depth 24
+
+returns : tie.Need-returns
+unfolding readyPut
+returns c = rw (le-leb (c .before .before .before .before .before .before .before .args .call) 3 (omega arith), ← c .before .before .before .ready-sheet .ensures) (c .before .before .put-sheet .ensures)
+
+same-length-2 : tie.Need-same-length-2
+same-length-2 c = search needs depth 24
+
+returns-2 : tie.Need-returns-2
+unfolding readyPut
+returns-2 c = rw (c .before .before .before .before .before .if2 .taken, ← c .before .before .before .lipf6-ec-dmc .ensures) (c .before .before .put-salt .ensures)
+
+same-length-3 : tie.Need-same-length-3
+same-length-3 c = search needs depth 24
+
+returns-3 : tie.Need-returns-3
+unfolding readyPut
+returns-3 c = rw (lt-leb (c .before .before .before .before .before .before .before .before .args .call) 3 (omega arith), ne-eqb _ _ (c .before .before .before .before .before .if2 .left), ← c .before .before .before .ready-params .ensures) (c .before .before .put-params .ensures)
+
+pub put-ready-spec : {M : Type 1} → statement M
+put-ready-spec =
+    tie.close
+    (tie.spec
+    ready-sheet-requires
+    put-sheet-requires
+    lipf6-ec-dmc-requires
+    put-salt-requires
+    ready-params-requires
+    put-params-requires
+    same-length
+    returns
+    same-length-2
+    returns-2
+    same-length-3
+    returns-3)

@@ -1,0 +1,82 @@
+-- What each call that gives a record writes, by its number. Definitions only.
+use Prim.Native.Nat.{ℕ}
+use mathlib.Core.Bool.{cond}
+use mathlib.Core.List.{List}
+use lib.Dec.{eqb, leb}
+use Rattle.codec.specs.Words.{wordAt, floatAt}
+use Rattle.electrode.specs.declared.ElectrodeParams.{ElectrodeParams}
+use Rattle.electrode.specs.Sheet.{graphiteAnode, lfpCathode, nmcCathode}
+use Rattle.particle.specs.declared.ParticleAnswer.{ParticleAnswer}
+use Rattle.particle.specs.Calls as P
+use Rattle.solver.specs.declared.SpmAnswer.{SpmAnswer}
+use Rattle.solver.specs.Cell as S
+use Rattle.electrolyte.specs.declared.StateAnswer.{StateAnswer}
+use Rattle.electrolyte_parameters.specs.Params.{lipf6EcDmc}
+use Rattle.electrolyte.specs.State.{unfilled}
+use Rattle.electrolyte.specs.Calls as E
+use Rattle.dfn_parameters.specs.declared.DfnParams.{DfnParams}
+use Rattle.dfn_parameters.specs.Ready.{nmcGraphite, lfpGraphite}
+use Rattle.dfn.specs.declared.DfnBuild.{DfnBuild}
+use Rattle.dfn.specs.Build as D
+use Rattle.cell_images.specs.Images.{sheetAt, configAt, putSheet, putParticle, putCell}
+use Rattle.porous_images.specs.Images.{saltAt, putSalt, putElectrolyte, paramsAt, putParams}
+use Rattle.porous_images.specs.Images as I
+use Rattle.image_builds.specs.Written.{written}
+
+-- ---- ready records: 1 graphite_anode, 2 lfp_cathode, 3 nmc_cathode, 4 lipf6_ec_dmc, 5 nmc_graphite, 6 lfp_graphite
+
+unfoldable pub readySheet : ℕ → ElectrodeParams
+readySheet call = cond (eqb call 1) graphiteAnode (cond (eqb call 2) lfpCathode nmcCathode)
+
+unfoldable pub readyParams : ℕ → DfnParams
+readyParams call = cond (eqb call 5) nmcGraphite lfpGraphite
+
+unfoldable pub readyPut : ℕ → List ℕ → List ℕ
+readyPut call a =
+    cond (leb call 3) (putSheet a 0 (readySheet call)) (cond (eqb call 4) (putSalt a lipf6EcDmc) (putParams a (readyParams call)))
+
+-- ---- new records from their images
+
+-- 7: a sheet, a count of nodes
+unfoldable pub particleMade : List ℕ → ParticleAnswer
+particleMade s = P.made (sheetAt s 0) (wordAt s 10)
+
+-- 8 graphite_lfp, 9 graphite_nmc: a configuration; 10: a configuration and two sheets
+unfoldable pub cellBuilt : ℕ → List ℕ → SpmAnswer
+cellBuilt call s =
+    cond (eqb call 8) (S.ready (configAt s) lfpCathode)
+    (cond (eqb call 9) (S.ready (configAt s) nmcCathode) (S.built (configAt s) (sheetAt s 6) (sheetAt s 16)))
+
+-- 11: an electrolyte's image without its places
+unfoldable pub electrolyteBuilt : List ℕ → StateAnswer
+electrolyteBuilt s =
+    E.built
+    (unfilled (saltAt s) (floatAt s 7) (floatAt s 8) (floatAt s 9) (floatAt s 10) (floatAt s 11) (floatAt s 12) (wordAt s 13) (wordAt s 14) (wordAt s 15))
+
+-- 12: parameters and grid
+unfoldable pub dfnMade : List ℕ → DfnBuild
+dfnMade s = D.made (paramsAt s) (I.configAt s)
+
+unfoldable pub newNumber : ℕ → List ℕ → ℕ
+newNumber call s =
+    cond (eqb call 7) (particleMade s .refusal)
+    (cond (leb call 10) (cellBuilt call s .refusal) (cond (eqb call 11) (electrolyteBuilt s .refusal) (dfnMade s .refusal)))
+
+unfoldable pub newAfter : ℕ → List ℕ → List ℕ → List ℕ
+newAfter call s a =
+    cond (eqb call 7) (written (particleMade s .refusal) (putParticle a 0 (particleMade s .particle)) a)
+    (cond (leb call 10) (written (cellBuilt call s .refusal) (putCell a (cellBuilt call s .solver)) a)
+    (cond (eqb call 11) (written (electrolyteBuilt s .refusal) (putElectrolyte a (electrolyteBuilt s .state)) a)
+    (written (dfnMade s .refusal) (I.putCell a (dfnMade s .cell)) a)))
+
+-- ---- lengths in bytes of the image and of the answer
+
+unfoldable pub buildLength : ℕ → ℕ
+buildLength call =
+    cond (leb call 6) 0 (cond (eqb call 7) 88 (cond (leb call 9) 48 (cond (eqb call 10) 208 (cond (eqb call 11) 128 512))))
+
+unfoldable pub builtLength : ℕ → ℕ
+builtLength call =
+    cond (leb call 3) 80
+    (cond (eqb call 4) 56
+    (cond (leb call 6) 472 (cond (eqb call 7) 600 (cond (leb call 10) 1256 (cond (eqb call 11) 896 9008)))))

@@ -1,0 +1,3 @@
+-- The calls that give a record.
+pub mod Written
+pub mod Builds

@@ -1,0 +1,89 @@
+-- `image_numbers::number_of` meets its contract. Assumes nothing.
+use Rattle.image_numbers.specs.Numbers.{numberSaid}
+use native.Mathlib.Omega.{arith}
+use borrow.Author.Tests.{le-leb, lt-leb}
+use borrow.Author.Needs.{needs}
+use Rattle.image_numbers.proofs.number_of.Statement.{statement}
+use Rattle.image_numbers.proofs.number_of.Tie as tie
+use Rattle.image_numbers.proofs.number_of.Reads as reads
+use Rattle.image_numbers.proofs.number_of.Lts as lts
+use Rattle.cell_images.proofs.cell_at.Reads as cell-at-reads
+use Rattle.cell_images.proofs.particle_at.Reads as particle-at-reads
+use Rattle.cell_images.proofs.sheet_at.Reads as sheet-at-reads
+use Rattle.image_numbers.proofs.cell_number.Reads as cell-number-reads
+use Rattle.image_numbers.proofs.electrolyte_number.Reads as electrolyte-number-reads
+use Rattle.image_numbers.proofs.particle_number.Reads as particle-number-reads
+use Rattle.image_numbers.proofs.rate_number.Reads as rate-number-reads
+use Rattle.image_numbers.proofs.sheet_number.Reads as sheet-number-reads
+use Rattle.porous_images.proofs.electrolyte_at.Reads as electrolyte-at-reads
+use Rattle.porous_images.proofs.salt_at.Reads as salt-at-reads
+
+sheet-at-requires : tie.Need-sheet-at-requires
+sheet-at-requires c κs = search needs
+
+sheet-number-requires : tie.Need-sheet-number-requires
+sheet-number-requires c κs = search needs
+
+returns : tie.Need-returns
+unfolding numberSaid
+returns c = rw (le-leb (c .before .before .before .before .args .call) 5 (omega arith), ← c .before .sheet-at .ensures) (c .sheet-number .ensures)
+
+particle-at-requires : tie.Need-particle-at-requires
+particle-at-requires c κs = search needs
+
+particle-number-requires : tie.Need-particle-number-requires
+particle-number-requires c κs = search needs
+
+returns-2 : tie.Need-returns-2
+unfolding numberSaid
+returns-2 c = rw (lt-leb (c .before .before .before .before .before .args .call) 5 (omega arith), le-leb (c .before .before .before .before .before .args .call) 10 (omega arith), ← c .before .particle-at .ensures) (c .particle-number .ensures)
+
+cell-at-requires : tie.Need-cell-at-requires
+cell-at-requires c κs = search needs
+
+cell-number-requires : tie.Need-cell-number-requires
+cell-number-requires c κs = search needs
+
+returns-3 : tie.Need-returns-3
+unfolding numberSaid
+returns-3 c = rw (lt-leb (c .before .before .before .before .before .before .args .call) 5 (omega arith), lt-leb (c .before .before .before .before .before .before .args .call) 10 (omega arith), le-leb (c .before .before .before .before .before .before .args .call) 12 (omega arith), ← c .before .cell-at .ensures) (c .cell-number .ensures)
+
+salt-at-requires : tie.Need-salt-at-requires
+salt-at-requires c κs = search needs
+
+rate-number-requires : tie.Need-rate-number-requires
+rate-number-requires c κs = search needs
+
+returns-4 : tie.Need-returns-4
+unfolding numberSaid
+returns-4 c = rw (lt-leb (c .before .before .before .before .before .before .before .args .call) 5 (omega arith), lt-leb (c .before .before .before .before .before .before .before .args .call) 10 (omega arith), lt-leb (c .before .before .before .before .before .before .before .args .call) 12 (omega arith), le-leb (c .before .before .before .before .before .before .before .args .call) 16 (omega arith), ← c .before .salt-at .ensures) (c .rate-number .ensures)
+
+electrolyte-at-requires : tie.Need-electrolyte-at-requires
+electrolyte-at-requires c κs = search needs
+
+electrolyte-number-requires : tie.Need-electrolyte-number-requires
+electrolyte-number-requires c κs = search needs
+
+returns-5 : tie.Need-returns-5
+unfolding numberSaid
+returns-5 c = rw (lt-leb (c .before .before .before .before .before .before .before .args .call) 5 (omega arith), lt-leb (c .before .before .before .before .before .before .before .args .call) 10 (omega arith), lt-leb (c .before .before .before .before .before .before .before .args .call) 12 (omega arith), lt-leb (c .before .before .before .before .before .before .before .args .call) 16 (omega arith), ← c .before .electrolyte-at .ensures) (c .electrolyte-number .ensures)
+
+pub number-of-spec : {M : Type 1} → statement M
+number-of-spec =
+    tie.close
+    (tie.spec
+    sheet-at-requires
+    sheet-number-requires
+    returns
+    particle-at-requires
+    particle-number-requires
+    returns-2
+    cell-at-requires
+    cell-number-requires
+    returns-3
+    salt-at-requires
+    rate-number-requires
+    returns-4
+    electrolyte-at-requires
+    electrolyte-number-requires
+    returns-5)

@@ -1,0 +1,2 @@
+-- The calls that give a number from an image.
+pub mod Numbers

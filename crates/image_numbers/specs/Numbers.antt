@@ -1,0 +1,71 @@
+-- What each call that gives a number answers to an image, by its number. Definitions only.
+use Prim.Native.Nat.{ℕ}
+use mathlib.Core.Bool.{cond}
+use mathlib.Core.List.{List, map}
+use lib.Dec.{eqb, leb}
+use lib.Ieee.{Float}
+use Rattle.binary64.specs.Operators.{count}
+use Rattle.refusal.specs.Answers.{Said}
+use Rattle.electrode.specs.declared.ElectrodeParams.{ElectrodeParams}
+use Rattle.electrode.specs.Calls.{dS, specificAreaCall, ocpCall, slopeCall, volumeCall}
+use Rattle.particle.specs.declared.ParticleDiffusion.{ParticleDiffusion}
+use Rattle.particle.specs.Calls as P
+use Rattle.solver.specs.declared.SpmSolver.{SpmSolver}
+use Rattle.solver.specs.Cell.{ocvCall, socCall}
+use Rattle.electrolyte_parameters.specs.declared.ElectrolyteParams.{ElectrolyteParams}
+use Rattle.electrolyte.specs.declared.ElectrolyteState.{ElectrolyteState}
+use Rattle.electrolyte_parameters.specs.Calls as R
+use Rattle.electrolyte.specs.Calls as E
+use Rattle.cell_images.specs.Images.{sheetAt, particleAt, cellAt}
+use Rattle.porous_images.specs.Images.{saltAt, electrolyteAt}
+
+-- 1 d_s, 2 specific_area, 3 ocp, 4 docp_dtheta, 5 sphere_volume
+unfoldable pub sheetNumber : ℕ → ElectrodeParams → Float → Said
+sheetNumber call p x =
+    cond (eqb call 1) (dS p x)
+    (cond (eqb call 2) (specificAreaCall p)
+    (cond (eqb call 3) (ocpCall p x)
+    (cond (eqb call 4) (slopeCall p x) (volumeCall x))))
+
+-- 6 dt_stable, 7 theta_surface, 8 theta_avg, 9 c_avg, 10 ocp_surface
+unfoldable pub particleNumber : ℕ → ParticleDiffusion → Float → Said
+particleNumber call p x =
+    cond (eqb call 6) (P.dtStable p x)
+    (cond (eqb call 7) (P.thetaSurface p)
+    (cond (eqb call 8) (P.thetaAvg p)
+    (cond (eqb call 9) (P.cAvg p) (P.ocpSurface p))))
+
+-- 11 ocv, 12 soc_estimate
+unfoldable pub cellNumber : ℕ → SpmSolver → Said
+cellNumber call s = cond (eqb call 11) (ocvCall s) (socCall s)
+
+-- 13 d_e, 14 kappa, 15 d_e_eff, 16 kappa_eff
+unfoldable pub rateNumber : ℕ → ElectrolyteParams → Float → Float → Said
+rateNumber call p porosity t =
+    cond (eqb call 13) (R.dE p t)
+    (cond (eqb call 14) (R.kappaCall p t)
+    (cond (eqb call 15) (R.dEEff p porosity t) (R.kappaEff p porosity t)))
+
+-- a count as a number
+abbrev pub countSaid : E.Counted → Said
+countSaid c = record { number = c .number; values = map count (c .values) }
+
+unfoldable pub nodesSaid : ElectrolyteState → Said
+nodesSaid e = countSaid (E.nTotal e)
+
+-- 17 n_total, 18 c_avg, 19 dt_stable
+unfoldable pub electrolyteNumber : ℕ → ElectrolyteState → Float → Said
+electrolyteNumber call e x = cond (eqb call 17) (nodesSaid e) (cond (eqb call 18) (E.cAvg e) (E.dtStable e x))
+
+-- which record the image holds
+unfoldable pub numberSaid : ℕ → List ℕ → Float → Float → Said
+numberSaid call s x y =
+    cond (leb call 5) (sheetNumber call (sheetAt s 0) x)
+    (cond (leb call 10) (particleNumber call (particleAt s 0) x)
+    (cond (leb call 12) (cellNumber call (cellAt s))
+    (cond (leb call 16) (rateNumber call (saltAt s) x y) (electrolyteNumber call (electrolyteAt s) x))))
+
+-- how many bytes that record's image has: none for a sphere's volume
+unfoldable pub numberLength : ℕ → ℕ
+numberLength call =
+    cond (leb call 4) 80 (cond (eqb call 5) 0 (cond (leb call 10) 600 (cond (leb call 12) 1256 (cond (leb call 16) 56 896))))

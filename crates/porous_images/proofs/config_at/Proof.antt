@@ -1,0 +1,39 @@
+-- `porous_images::config_at` meets its contract. Assumes nothing.
+use Rattle.porous_images.specs.Images.{configAt}
+use borrow.Author.Needs.{needs}
+use Rattle.porous_images.proofs.config_at.Statement.{statement}
+use Rattle.porous_images.proofs.config_at.Tie as tie
+use Rattle.porous_images.proofs.config_at.Reads as reads
+use Rattle.porous_images.proofs.config_at.Lts as lts
+use Rattle.codec.proofs.read_f64.Reads as read-f64-reads
+use Rattle.codec.proofs.read_word.Reads as read-word-reads
+
+read-word-requires : tie.Need-read-word-requires
+read-word-requires c κs = search needs
+
+read-word-requires-2 : tie.Need-read-word-requires-2
+read-word-requires-2 c κs = search needs
+
+read-word-requires-3 : tie.Need-read-word-requires-3
+read-word-requires-3 c κs = search needs
+
+read-f64-requires : tie.Need-read-f64-requires
+read-f64-requires c κs = search needs
+
+read-f64-requires-2 : tie.Need-read-f64-requires-2
+read-f64-requires-2 c κs = search needs
+
+returns : tie.Need-returns
+unfolding configAt
+returns c = rw (c .read-f642 .ensures, c .before .read-f64 .ensures, c .before .before .read-word3 .ensures, c .before .before .before .read-word2 .ensures, c .before .before .before .before .read-word .ensures)
+
+pub config-at-spec : {M : Type 1} → statement M
+config-at-spec =
+    tie.close
+    (tie.spec
+    read-word-requires
+    read-word-requires-2
+    read-word-requires-3
+    read-f64-requires
+    read-f64-requires-2
+    returns)

@@ -1,0 +1,56 @@
+-- `porous_images::params_at` meets its contract. Assumes nothing.
+use Rattle.porous_images.specs.Images.{paramsAt}
+use borrow.Author.Needs.{needs}
+use Rattle.porous_images.proofs.params_at.Statement.{statement}
+use Rattle.porous_images.proofs.params_at.Tie as tie
+use Rattle.porous_images.proofs.params_at.Reads as reads
+use Rattle.porous_images.proofs.params_at.Lts as lts
+use Rattle.codec.proofs.read_places.Reads as read-places-reads
+use Rattle.codec.proofs.read_word.Reads as read-word-reads
+use Rattle.porous_images.proofs.params_of.Reads as params-of-reads
+
+slice-aggregate-read-places : tie.Need-slice-aggregate-read-places
+slice-aggregate-read-places c = search needs
+
+read-places-requires : tie.Need-read-places-requires
+read-places-requires c κs = search needs
+
+slice-aggregate-read-places-2 : tie.Need-slice-aggregate-read-places-2
+slice-aggregate-read-places-2 c = search needs
+
+read-places-requires-2 : tie.Need-read-places-requires-2
+read-places-requires-2 c κs = search needs
+
+slice-aggregate-read-places-3 : tie.Need-slice-aggregate-read-places-3
+slice-aggregate-read-places-3 c = search needs
+
+read-places-requires-3 : tie.Need-read-places-requires-3
+read-places-requires-3 c κs = search needs
+
+read-word-requires : tie.Need-read-word-requires
+read-word-requires c κs = search needs
+
+read-word-requires-2 : tie.Need-read-word-requires-2
+read-word-requires-2 c κs = search needs
+
+params-of-requires : tie.Need-params-of-requires
+params-of-requires c κs = search needs
+
+returns : tie.Need-returns
+unfolding paramsAt
+returns c = rw (c .params-of .ensures, c .before .read-word2 .ensures, c .before .before .read-word .ensures, c .before .before .before .before .read-places3 .ensures, c .before .before .before .before .before .before .before .read-places2 .ensures, c .before .before .before .before .before .before .before .before .before .before .read-places .ensures)
+
+pub params-at-spec : {M : Type 1} → statement M
+params-at-spec =
+    tie.close
+    (tie.spec
+    slice-aggregate-read-places
+    read-places-requires
+    slice-aggregate-read-places-2
+    read-places-requires-2
+    slice-aggregate-read-places-3
+    read-places-requires-3
+    read-word-requires
+    read-word-requires-2
+    params-of-requires
+    returns)

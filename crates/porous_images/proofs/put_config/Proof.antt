@@ -1,0 +1,43 @@
+-- `porous_images::put_config` meets its contract. Assumes nothing.
+use Rattle.porous_images.specs.Images.{putConfig}
+use borrow.Author.Needs.{needs}
+use Rattle.porous_images.proofs.put_config.Statement.{statement}
+use Rattle.porous_images.proofs.put_config.Tie as tie
+use Rattle.porous_images.proofs.put_config.Reads as reads
+use Rattle.porous_images.proofs.put_config.Lts as lts
+use Rattle.codec.proofs.write_f64.Reads as write-f64-reads
+use Rattle.codec.proofs.write_word.Reads as write-word-reads
+
+write-word-requires : tie.Need-write-word-requires
+write-word-requires c κs = search needs
+
+write-word-requires-2 : tie.Need-write-word-requires-2
+write-word-requires-2 c κs = search needs
+
+write-word-requires-3 : tie.Need-write-word-requires-3
+write-word-requires-3 c κs = search needs
+
+write-f64-requires : tie.Need-write-f64-requires
+write-f64-requires c κs = search needs
+
+write-f64-requires-2 : tie.Need-write-f64-requires-2
+write-f64-requires-2 c κs = search needs
+
+same-length : tie.Need-same-length
+same-length c = search needs depth 24
+
+returns : tie.Need-returns
+unfolding putConfig
+returns c = rw (c .before .before .write-f642 .ensures, c .before .before .before .before .before .before .write-f64 .ensures, c .before .before .before .before .before .before .before .before .before .before .write-word3 .ensures, c .before .before .before .before .before .before .before .before .before .before .before .before .before .before .write-word2 .ensures, c .before .before .before .before .before .before .before .before .before .before .before .before .before .before .before .before .before .before .write-word .ensures)
+
+pub put-config-spec : {M : Type 1} → statement M
+put-config-spec =
+    tie.close
+    (tie.spec
+    write-word-requires
+    write-word-requires-2
+    write-word-requires-3
+    write-f64-requires
+    write-f64-requires-2
+    same-length
+    returns)

@@ -1,0 +1,53 @@
+-- `porous_images::put_electrolyte` meets its contract. Assumes nothing.
+use Rattle.porous_images.specs.Images.{putElectrolyte}
+use borrow.Author.Needs.{needs}
+use Rattle.porous_images.proofs.put_electrolyte.Statement.{statement}
+use Rattle.porous_images.proofs.put_electrolyte.Tie as tie
+use Rattle.porous_images.proofs.put_electrolyte.Reads as reads
+use Rattle.porous_images.proofs.put_electrolyte.Lts as lts
+use Rattle.codec.proofs.put_96.Reads as put-96-reads
+use Rattle.codec.proofs.write_places.Reads as write-places-reads
+use Rattle.codec.proofs.write_word.Reads as write-word-reads
+use Rattle.porous_images.proofs.put_salt.Reads as put-salt-reads
+
+put-salt-requires : tie.Need-put-salt-requires
+put-salt-requires c κs = search needs
+
+slice-aggregate-write-places : tie.Need-slice-aggregate-write-places
+slice-aggregate-write-places c = search needs
+
+write-places-requires : tie.Need-write-places-requires
+write-places-requires c κs = search needs
+
+write-word-requires : tie.Need-write-word-requires
+write-word-requires c κs = search needs
+
+write-word-requires-2 : tie.Need-write-word-requires-2
+write-word-requires-2 c κs = search needs
+
+write-word-requires-3 : tie.Need-write-word-requires-3
+write-word-requires-3 c κs = search needs
+
+put-96-requires : tie.Need-put-96-requires
+put-96-requires c κs = search needs
+
+same-length : tie.Need-same-length
+same-length c = search needs depth 24
+
+returns : tie.Need-returns
+unfolding putElectrolyte
+returns c = rw (c .before .before .put-96 .ensures, c .before .before .before .before .before .before .write-word3 .ensures, c .before .before .before .before .before .before .before .before .before .before .write-word2 .ensures, c .before .before .before .before .before .before .before .before .before .before .before .before .before .before .write-word .ensures, c .before .before .before .before .before .before .before .before .before .before .before .before .before .before .before .before .before .before .write-places .ensures, c .before .before .before .before .before .before .before .before .before .before .before .before .before .before .before .before .before .before .before .before .before .before .before .put-salt .ensures)
+
+pub put-electrolyte-spec : {M : Type 1} → statement M
+put-electrolyte-spec =
+    tie.close
+    (tie.spec
+    put-salt-requires
+    slice-aggregate-write-places
+    write-places-requires
+    write-word-requires
+    write-word-requires-2
+    write-word-requires-3
+    put-96-requires
+    same-length
+    returns)

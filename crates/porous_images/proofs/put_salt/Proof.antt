@@ -1,0 +1,25 @@
+-- `porous_images::put_salt` meets its contract. Assumes nothing.
+use Rattle.porous_images.specs.Images.{putSalt}
+use borrow.Author.Needs.{needs}
+use Rattle.porous_images.proofs.put_salt.Statement.{statement}
+use Rattle.porous_images.proofs.put_salt.Tie as tie
+use Rattle.porous_images.proofs.put_salt.Reads as reads
+use Rattle.porous_images.proofs.put_salt.Lts as lts
+use Rattle.codec.proofs.write_places.Reads as write-places-reads
+
+slice-aggregate-write-places : tie.Need-slice-aggregate-write-places
+slice-aggregate-write-places c = search needs
+
+write-places-requires : tie.Need-write-places-requires
+write-places-requires c κs = search needs
+
+same-length : tie.Need-same-length
+same-length c = search needs depth 24
+
+returns : tie.Need-returns
+unfolding putSalt
+returns c = rw (c .before .before .write-places .ensures)
+
+pub put-salt-spec : {M : Type 1} → statement M
+put-salt-spec =
+    tie.close (tie.spec slice-aggregate-write-places write-places-requires same-length returns)

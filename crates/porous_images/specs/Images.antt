@@ -1,0 +1,154 @@
+-- The images of an electrolyte's parameters (7 words), an electrolyte (112), a Doyle-Fuller-Newman cell's parameters (59) and grid (5), and such a
+-- cell (1126); and what a step adds to its cell's.
+use Prim.Native.Nat.{ℕ, _+_}
+use mathlib.Core.Bool.{cond}
+use mathlib.Core.List.{List, [], _∷_}
+use lib.ListN.{length, getD, replicate}
+use lib.Ieee.{Float, nan}
+use Rattle.codec.specs.Words.{wordAt, putWord, floatAt, putFloat, placesAt, putRow, putPlaces}
+use Rattle.electrolyte_parameters.specs.declared.ElectrolyteParams.{ElectrolyteParams}
+use Rattle.electrolyte.specs.declared.ElectrolyteState.{ElectrolyteState}
+use Rattle.dfn_parameters.specs.declared.DfnParams.{DfnParams}
+use Rattle.dfn_parameters.specs.declared.DfnConfig.{DfnConfig}
+use Rattle.dfn.specs.declared.DfnSolver.{DfnSolver}
+use Rattle.dfn.specs.declared.DfnStep.{DfnStep}
+
+-- ---- the electrolyte's seven parameters
+
+unfoldable pub saltAt : List ℕ → ElectrolyteParams
+saltAt s = record {
+    «d_e_ref» = floatAt s 0;
+    «kappa_ref» = floatAt s 1;
+    «t_plus» = floatAt s 2;
+    bruggeman = floatAt s 3;
+    «c_e_init» = floatAt s 4;
+    «e_a_de» = floatAt s 5;
+    «e_a_kappa» = floatAt s 6 }
+
+unfoldable pub putSalt : List ℕ → ElectrolyteParams → List ℕ
+putSalt s p =
+    putRow s 0 (p .«d_e_ref» ∷ p .«kappa_ref» ∷ p .«t_plus» ∷ p .bruggeman ∷ p .«c_e_init» ∷ p .«e_a_de» ∷ p .«e_a_kappa» ∷ [])
+
+-- ---- an electrolyte: parameters, lengths, porosities, counts of nodes, 96 places
+
+unfoldable pub electrolyteAt : List ℕ → ElectrolyteState
+electrolyteAt s = record {
+    params = saltAt s;
+    «l_neg» = floatAt s 7;
+    «l_sep» = floatAt s 8;
+    «l_pos» = floatAt s 9;
+    «eps_neg» = floatAt s 10;
+    «eps_sep» = floatAt s 11;
+    «eps_pos» = floatAt s 12;
+    «n_neg» = wordAt s 13;
+    «n_sep» = wordAt s 14;
+    «n_pos» = wordAt s 15;
+    «c_e» = placesAt 96 s 16 }
+
+abbrev pub regionNumbers : ElectrolyteState → List Float
+regionNumbers e = e .«l_neg» ∷ e .«l_sep» ∷ e .«l_pos» ∷ e .«eps_neg» ∷ e .«eps_sep» ∷ e .«eps_pos» ∷ []
+
+unfoldable pub putElectrolyte : List ℕ → ElectrolyteState → List ℕ
+putElectrolyte s e =
+    putRow
+    (putWord (putWord (putWord (putRow (putSalt s (e .params)) 7 (regionNumbers e)) 13 (e .«n_neg»)) 14 (e .«n_sep»)) 15 (e .«n_pos»))
+    16
+    (e .«c_e»)
+
+-- ---- a Doyle-Fuller-Newman cell's parameters: 25 numbers, then for the anode and for the cathode a count and 16 coefficients
+
+-- from the numbers in the record's order
+unfoldable pub paramsOf : List Float → ℕ → List Float → ℕ → List Float → DfnParams
+paramsOf x negCount neg posCount pos = record {
+    «l_neg» = getD x 0 nan;
+    «l_sep» = getD x 1 nan;
+    «l_pos» = getD x 2 nan;
+    area = getD x 3 nan;
+    «r_neg» = getD x 4 nan;
+    «d_s_neg_ref» = getD x 5 nan;
+    «c_s_neg_max» = getD x 6 nan;
+    «eps_neg» = getD x 7 nan;
+    «theta_neg_0» = getD x 8 nan;
+    «k_neg» = getD x 9 nan;
+    «r_pos» = getD x 10 nan;
+    «d_s_pos_ref» = getD x 11 nan;
+    «c_s_pos_max» = getD x 12 nan;
+    «eps_pos» = getD x 13 nan;
+    «theta_pos_0» = getD x 14 nan;
+    «k_pos» = getD x 15 nan;
+    «c_e0» = getD x 16 nan;
+    «d_e0» = getD x 17 nan;
+    «gamma_e» = getD x 18 nan;
+    «t_plus» = getD x 19 nan;
+    kappa0 = getD x 20 nan;
+    «eps_e_elec» = getD x 21 nan;
+    «eps_e_sep» = getD x 22 nan;
+    brugg = getD x 23 nan;
+    «temperature_k» = getD x 24 nan;
+    «ocv_neg_count» = negCount;
+    «ocv_neg_coeffs» = neg;
+    «ocv_pos_count» = posCount;
+    «ocv_pos_coeffs» = pos }
+
+unfoldable pub paramsAt : List ℕ → DfnParams
+paramsAt s = paramsOf (placesAt 25 s 0) (wordAt s 25) (placesAt 16 s 26) (wordAt s 42) (placesAt 16 s 43)
+
+abbrev pub paramsNumbers : DfnParams → List Float
+paramsNumbers p =
+    p .«l_neg» ∷ p .«l_sep» ∷ p .«l_pos» ∷ p .area ∷ p .«r_neg» ∷ p .«d_s_neg_ref» ∷ p .«c_s_neg_max» ∷ p .«eps_neg» ∷ p .«theta_neg_0» ∷ p .«k_neg»
+    ∷ p .«r_pos» ∷ p .«d_s_pos_ref» ∷ p .«c_s_pos_max» ∷ p .«eps_pos» ∷ p .«theta_pos_0» ∷ p .«k_pos» ∷ p .«c_e0» ∷ p .«d_e0» ∷ p .«gamma_e»
+    ∷ p .«t_plus» ∷ p .kappa0 ∷ p .«eps_e_elec» ∷ p .«eps_e_sep» ∷ p .brugg ∷ p .«temperature_k» ∷ []
+
+unfoldable pub putParams : List ℕ → DfnParams → List ℕ
+putParams s p =
+    putRow
+    (putWord (putRow (putWord (putRow s 0 (paramsNumbers p)) 25 (p .«ocv_neg_count»)) 26 (p .«ocv_neg_coeffs»)) 42 (p .«ocv_pos_count»))
+    43
+    (p .«ocv_pos_coeffs»)
+
+-- ---- its grid and voltage limits
+
+unfoldable pub configAt : List ℕ → DfnConfig
+configAt s = record {
+    «n_x_neg» = wordAt s 59;
+    «n_x_pos» = wordAt s 60;
+    «n_r» = wordAt s 61;
+    «v_min» = floatAt s 62;
+    «v_max» = floatAt s 63 }
+
+unfoldable pub putConfig : List ℕ → DfnConfig → List ℕ
+putConfig s c =
+    putFloat (putFloat (putWord (putWord (putWord s 59 (c .«n_x_neg»)) 60 (c .«n_x_pos»)) 61 (c .«n_r»)) 62 (c .«v_min»)) 63 (c .«v_max»)
+
+-- ---- the cell: parameters, grid, the particles of anode and cathode, the salt, the clock, what the last step reported
+
+unfoldable pub cellAt : List ℕ → DfnSolver
+cellAt s = record {
+    params = paramsAt s;
+    config = configAt s;
+    «c_s_neg» = placesAt 512 s 64;
+    «c_s_pos» = placesAt 512 s 576;
+    «c_e» = placesAt 33 s 1088;
+    «time_s» = floatAt s 1121;
+    voltage = floatAt s 1122;
+    current = floatAt s 1123;
+    «theta_neg_surf» = floatAt s 1124;
+    «theta_pos_surf» = floatAt s 1125 }
+
+abbrev pub lastNumbers : DfnSolver → List Float
+lastNumbers d = d .«time_s» ∷ d .voltage ∷ d .current ∷ d .«theta_neg_surf» ∷ d .«theta_pos_surf» ∷ []
+
+unfoldable pub putCell : List ℕ → DfnSolver → List ℕ
+putCell s d =
+    putRow
+    (putRow (putRow (putRow (putConfig (putParams s (d .params)) (d .config)) 64 (d .«c_s_neg»)) 576 (d .«c_s_pos»)) 1088 (d .«c_e»))
+    1121
+    (lastNumbers d)
+
+-- ---- after the cell: the report of a step
+
+abbrev pub reportNumbers : DfnStep → List Float
+reportNumbers r = r .voltage ∷ r .current ∷ r .«time_s» ∷ r .«theta_neg» ∷ r .«theta_pos» ∷ r .«delta_c_e_max» ∷ []
+
+unfoldable pub putReport : List ℕ → DfnStep → List ℕ
+putReport s r = putWord (putWord (putRow s 1126 (reportNumbers r)) 1132 (cond (r .cutoff) 1 0)) 1133 (r .«newton_iter»)

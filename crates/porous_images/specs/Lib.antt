@@ -1,0 +1,2 @@
+-- Electrolytes and Doyle-Fuller-Newman cells as images.
+pub mod Images

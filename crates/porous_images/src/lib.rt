@@ -1,0 +1,249 @@
+// Electrolytes and Doyle-Fuller-Newman cells as images: words in a string of bytes, in the order of the records' fields.
+use codec::flag;
+use codec::read_places;
+use codec::read_word;
+use codec::write_places;
+use codec::write_word;
+use dfn::DfnSolver;
+use dfn::DfnStep;
+use dfn_parameters::DfnConfig;
+use dfn_parameters::DfnParams;
+use electrolyte_parameters::ElectrolyteParams;
+use electrolyte::ElectrolyteState;
+ghost use mathlib.Core.Path.{_≡_};
+ghost use Rattle.porous_images.specs.Images.{saltAt, putSalt, electrolyteAt, putElectrolyte, paramsOf, paramsAt, putParams, configAt, putConfig, cellAt, putCell, putReport};
+
+// The electrolyte's parameters in the first seven words.
+pub fn salt_at(s: &[u8]) -> ElectrolyteParams
+    ensures { λ r. ⌜ r ≡ saltAt (now (s .entry)) ⌝ }
+{
+    let mut x = [0.0; 7];
+    read_places(s, 0, &mut x);
+    ElectrolyteParams {
+        d_e_ref: x[0],
+        kappa_ref: x[1],
+        t_plus: x[2],
+        bruggeman: x[3],
+        c_e_init: x[4],
+        e_a_de: x[5],
+        e_a_kappa: x[6],
+    }
+}
+
+pub fn put_salt(s: &mut [u8], p: ElectrolyteParams)
+    ensures { λ _. ⌜ now (s .exit) ≡ putSalt (now (s .entry)) p ⌝ }
+{
+    let x = [
+        p.d_e_ref,
+        p.kappa_ref,
+        p.t_plus,
+        p.bruggeman,
+        p.c_e_init,
+        p.e_a_de,
+        p.e_a_kappa,
+    ];
+    write_places(s, 0, &x);
+}
+
+// The electrolyte in the first 112 words.
+pub fn electrolyte_at(s: &[u8]) -> ElectrolyteState
+    ensures { λ r. ⌜ r ≡ electrolyteAt (now (s .entry)) ⌝ }
+{
+    let params = salt_at(s);
+    let mut x = [0.0; 6];
+    read_places(s, 7, &mut x);
+    let mut c_e = [0.0; 96];
+    read_places(s, 16, &mut c_e);
+    ElectrolyteState {
+        params,
+        l_neg: x[0],
+        l_sep: x[1],
+        l_pos: x[2],
+        eps_neg: x[3],
+        eps_sep: x[4],
+        eps_pos: x[5],
+        n_neg: read_word(s, 13) as usize,
+        n_sep: read_word(s, 14) as usize,
+        n_pos: read_word(s, 15) as usize,
+        c_e,
+    }
+}
+
+pub fn put_electrolyte(s: &mut [u8], e: ElectrolyteState)
+    ensures { λ _. ⌜ now (s .exit) ≡ putElectrolyte (now (s .entry)) e ⌝ }
+{
+    let params = e.params;
+    let c_e = e.c_e;
+    let x = [e.l_neg, e.l_sep, e.l_pos, e.eps_neg, e.eps_sep, e.eps_pos];
+    put_salt(s, params);
+    write_places(s, 7, &x);
+    write_word(s, 13, e.n_neg as u64);
+    write_word(s, 14, e.n_sep as u64);
+    write_word(s, 15, e.n_pos as u64);
+    codec::put_96(s, 16, c_e);
+}
+
+// The parameters from their 25 numbers in the record's order, and each electrode's coefficients with their count.
+fn params_of(x: [f64; 25], neg_count: usize, neg: [f64; 16], pos_count: usize, pos: [f64; 16]) -> DfnParams
+    ensures { λ r. ⌜ r ≡ paramsOf x «neg_count» neg «pos_count» pos ⌝ }
+{
+    DfnParams {
+        l_neg: x[0],
+        l_sep: x[1],
+        l_pos: x[2],
+        area: x[3],
+        r_neg: x[4],
+        d_s_neg_ref: x[5],
+        c_s_neg_max: x[6],
+        eps_neg: x[7],
+        theta_neg_0: x[8],
+        k_neg: x[9],
+        r_pos: x[10],
+        d_s_pos_ref: x[11],
+        c_s_pos_max: x[12],
+        eps_pos: x[13],
+        theta_pos_0: x[14],
+        k_pos: x[15],
+        c_e0: x[16],
+        d_e0: x[17],
+        gamma_e: x[18],
+        t_plus: x[19],
+        kappa0: x[20],
+        eps_e_elec: x[21],
+        eps_e_sep: x[22],
+        brugg: x[23],
+        temperature_k: x[24],
+        ocv_neg_count: neg_count,
+        ocv_neg_coeffs: neg,
+        ocv_pos_count: pos_count,
+        ocv_pos_coeffs: pos,
+    }
+}
+
+// The parameters in the first 59 words.
+pub fn params_at(s: &[u8]) -> DfnParams
+    ensures { λ r. ⌜ r ≡ paramsAt (now (s .entry)) ⌝ }
+{
+    let mut x = [0.0; 25];
+    read_places(s, 0, &mut x);
+    let mut neg = [0.0; 16];
+    read_places(s, 26, &mut neg);
+    let mut pos = [0.0; 16];
+    read_places(s, 43, &mut pos);
+    params_of(x, read_word(s, 25) as usize, neg, read_word(s, 42) as usize, pos)
+}
+
+pub fn put_params(s: &mut [u8], p: DfnParams)
+    ensures { λ _. ⌜ now (s .exit) ≡ putParams (now (s .entry)) p ⌝ }
+{
+    let neg = p.ocv_neg_coeffs;
+    let pos = p.ocv_pos_coeffs;
+    let x = [
+        p.l_neg,
+        p.l_sep,
+        p.l_pos,
+        p.area,
+        p.r_neg,
+        p.d_s_neg_ref,
+        p.c_s_neg_max,
+        p.eps_neg,
+        p.theta_neg_0,
+        p.k_neg,
+        p.r_pos,
+        p.d_s_pos_ref,
+        p.c_s_pos_max,
+        p.eps_pos,
+        p.theta_pos_0,
+        p.k_pos,
+        p.c_e0,
+        p.d_e0,
+        p.gamma_e,
+        p.t_plus,
+        p.kappa0,
+        p.eps_e_elec,
+        p.eps_e_sep,
+        p.brugg,
+        p.temperature_k,
+    ];
+    write_places(s, 0, &x);
+    write_word(s, 25, p.ocv_neg_count as u64);
+    codec::put_16(s, 26, neg);
+    write_word(s, 42, p.ocv_pos_count as u64);
+    codec::put_16(s, 43, pos);
+}
+
+// The grid and the voltage limits in words 59 to 63.
+pub fn config_at(s: &[u8]) -> DfnConfig
+    ensures { λ r. ⌜ r ≡ configAt (now (s .entry)) ⌝ }
+{
+    DfnConfig {
+        n_x_neg: read_word(s, 59) as usize,
+        n_x_pos: read_word(s, 60) as usize,
+        n_r: read_word(s, 61) as usize,
+        v_min: codec::read_f64(s, 62),
+        v_max: codec::read_f64(s, 63),
+    }
+}
+
+pub fn put_config(s: &mut [u8], c: DfnConfig)
+    ensures { λ _. ⌜ now (s .exit) ≡ putConfig (now (s .entry)) c ⌝ }
+{
+    write_word(s, 59, c.n_x_neg as u64);
+    write_word(s, 60, c.n_x_pos as u64);
+    write_word(s, 61, c.n_r as u64);
+    codec::write_f64(s, 62, c.v_min);
+    codec::write_f64(s, 63, c.v_max);
+}
+
+// The cell in the first 1126 words.
+pub fn cell_at(s: &[u8]) -> DfnSolver
+    ensures { λ r. ⌜ r ≡ cellAt (now (s .entry)) ⌝ }
+{
+    let params = params_at(s);
+    let config = config_at(s);
+    let mut c_s_neg = [0.0; 512];
+    read_places(s, 64, &mut c_s_neg);
+    let mut c_s_pos = [0.0; 512];
+    read_places(s, 576, &mut c_s_pos);
+    let mut c_e = [0.0; 33];
+    read_places(s, 1088, &mut c_e);
+    DfnSolver {
+        params,
+        config,
+        c_s_neg,
+        c_s_pos,
+        c_e,
+        time_s: codec::read_f64(s, 1121),
+        voltage: codec::read_f64(s, 1122),
+        current: codec::read_f64(s, 1123),
+        theta_neg_surf: codec::read_f64(s, 1124),
+        theta_pos_surf: codec::read_f64(s, 1125),
+    }
+}
+
+pub fn put_cell(s: &mut [u8], d: DfnSolver)
+    ensures { λ _. ⌜ now (s .exit) ≡ putCell (now (s .entry)) d ⌝ }
+{
+    let params = d.params;
+    let config = d.config;
+    let c_s_neg = d.c_s_neg;
+    let c_s_pos = d.c_s_pos;
+    let c_e = d.c_e;
+    let x = [d.time_s, d.voltage, d.current, d.theta_neg_surf, d.theta_pos_surf];
+    put_params(s, params);
+    put_config(s, config);
+    codec::put_512(s, 64, c_s_neg);
+    codec::put_512(s, 576, c_s_pos);
+    codec::put_33(s, 1088, c_e);
+    write_places(s, 1121, &x);
+}
+
+// Writes a step's report after the cell.
+pub fn put_report(s: &mut [u8], r: DfnStep)
+    ensures { λ _. ⌜ now (s .exit) ≡ putReport (now (s .entry)) r ⌝ }
+{
+    let x = [r.voltage, r.current, r.time_s, r.theta_neg, r.theta_pos, r.delta_c_e_max];
+    write_places(s, 1126, &x);
+    write_word(s, 1132, flag(r.cutoff));
+    write_word(s, 1133, r.newton_iter as u64);
+}
