@@ -101,14 +101,14 @@ pub(crate) fn without_sheets(v: [f64; 30]) -> [f64; 30] {
     w
 }
 
-// Writes the names of the numbers that are not given, and says whether there are none.
+// Writes the name of the first number that is not given, and says whether there is none.
 pub(crate) fn all_given(v: &[f64; 30]) -> bool {
     let none = [0u8; 4096];
     let mut given = true;
     for i in 10..30 {
-        if v[i] != v[i] {
+        if given & (v[i] != v[i]) {
             place_of(&none, 1, 0, i);
-            say(b" is not given\n");
+            say(b": expected in the cell file, which gives both sheets whole\n");
             given = false;
         }
     }
