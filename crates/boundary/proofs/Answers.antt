@@ -48,11 +48,11 @@ refusal-told k s a e = rw (← e) (refl, refl)
 -- a run: its number k and its count of rows as the definition's d says, the image of its answer
 module _ {D : Type 0} (number rows : D → ℕ) (r d : D) (e : r ≡ d) (b fits : Bool) (f : b ≡ fits) (t : b ≡ true) (image : D → List ℕ) (old : List ℕ) where
   pub run-told : (last : List ℕ) → told (number r) (rows r) ≡ true → last ≡ image r
-    → (number r ≡ met fits (number d)) × (last ≡ cond (fits && told (number d) (rows d)) (image d) old)
+      → (number r ≡ met fits (number d)) × (last ≡ cond (fits && told (number d) (rows d)) (image d) old)
   unfolding met
   run-told last z l = rw (← f, t, ← e, z) (refl, l)
 
   pub run-kept : told (number r) (rows r) ≡ false
-    → (number r ≡ met fits (number d)) × (old ≡ cond (fits && told (number d) (rows d)) (image d) old)
+      → (number r ≡ met fits (number d)) × (old ≡ cond (fits && told (number d) (rows d)) (image d) old)
   unfolding met
   run-kept z = rw (← f, t, ← e, z) (refl, refl)

@@ -119,7 +119,12 @@ pub extern "C" fn pj_build(call: u64, image: &[u8], answer: &mut [u8]) -> u64
     if !is_listed(call, 12) {
         return refusal::SHEET;
     }
-    if !lengths_fit(image.len(), build_length(call), answer.len(), built_length(call)) {
+    if !lengths_fit(
+        image.len(),
+        build_length(call),
+        answer.len(),
+        built_length(call),
+    ) {
         return refusal::LENGTH;
     }
     if call <= 6 {
@@ -131,7 +136,13 @@ pub extern "C" fn pj_build(call: u64, image: &[u8], answer: &mut [u8]) -> u64
 
 // A step of a particle.
 #[no_mangle]
-pub extern "C" fn pj_particle_step(particle: &[u8], j_n: f64, dt: f64, temp_k: f64, answer: &mut [u8]) -> u64
+pub extern "C" fn pj_particle_step(
+    particle: &[u8],
+    j_n: f64,
+    dt: f64,
+    temp_k: f64,
+    answer: &mut [u8],
+) -> u64
     ensures number { λ r. ⌜ r ≡ particleNumber (now (particle .entry)) «j_n» dt «temp_k» (length (now (answer .entry))) ⌝ }
     ensures written { λ _. ⌜ now (answer .exit) ≡ particleAfter (now (particle .entry)) «j_n» dt «temp_k» (now (answer .entry)) ⌝ }
 {
@@ -149,7 +160,13 @@ pub extern "C" fn pj_particle_step(particle: &[u8], j_n: f64, dt: f64, temp_k: f
 
 // A step of a single-particle cell.
 #[no_mangle]
-pub extern "C" fn pj_cell_step(cell: &[u8], current_a: f64, dt: f64, temp_k: f64, answer: &mut [u8]) -> u64
+pub extern "C" fn pj_cell_step(
+    cell: &[u8],
+    current_a: f64,
+    dt: f64,
+    temp_k: f64,
+    answer: &mut [u8],
+) -> u64
     ensures number { λ r. ⌜ r ≡ cellNumber (now (cell .entry)) «current_a» dt «temp_k» (length (now (answer .entry))) ⌝ }
     ensures written { λ _. ⌜ now (answer .exit) ≡ cellAfter (now (cell .entry)) «current_a» dt «temp_k» (now (answer .entry)) ⌝ }
 {
@@ -169,14 +186,26 @@ pub extern "C" fn pj_cell_step(cell: &[u8], current_a: f64, dt: f64, temp_k: f64
 
 // A step of an electrolyte.
 #[no_mangle]
-pub extern "C" fn pj_electrolyte_step(electrolyte: &[u8], j_n_neg: f64, j_n_pos: f64, dt: f64, temp_k: f64, answer: &mut [u8]) -> u64
+pub extern "C" fn pj_electrolyte_step(
+    electrolyte: &[u8],
+    j_n_neg: f64,
+    j_n_pos: f64,
+    dt: f64,
+    temp_k: f64,
+    answer: &mut [u8],
+) -> u64
     ensures number { λ r. ⌜ r ≡ electrolyteNumber (now (electrolyte .entry)) «j_n_neg» «j_n_pos» dt «temp_k» (length (now (answer .entry))) ⌝ }
     ensures written { λ _. ⌜ now (answer .exit) ≡ electrolyteAfter (now (electrolyte .entry)) «j_n_neg» «j_n_pos» dt «temp_k» (now (answer .entry)) ⌝ }
 {
     if !lengths_fit(electrolyte.len(), 896, answer.len(), 896) {
         return refusal::LENGTH;
     }
-    let out = porous_images::electrolyte_at(electrolyte).step_concentration(j_n_neg, j_n_pos, dt, temp_k);
+    let out = porous_images::electrolyte_at(electrolyte).step_concentration(
+        j_n_neg,
+        j_n_pos,
+        dt,
+        temp_k,
+    );
     let refusal = out.refusal;
     if refusal == 0 {
         let new = out.state;
@@ -231,7 +260,15 @@ fn ending_refusal(e: Ending) -> u64
 
 // A run of a single-particle cell. The answer is written unless the run is refused before its first row.
 #[no_mangle]
-pub extern "C" fn pj_simulate_discharge(cell: &[u8], current_a: f64, dt: f64, temp_k: f64, max_time_s: f64, rows: &mut [f64], answer: &mut [u8]) -> u64
+pub extern "C" fn pj_simulate_discharge(
+    cell: &[u8],
+    current_a: f64,
+    dt: f64,
+    temp_k: f64,
+    max_time_s: f64,
+    rows: &mut [f64],
+    answer: &mut [u8],
+) -> u64
     ensures number { λ r. ⌜ r ≡ dischargeNumber (now (cell .entry)) «current_a» dt «temp_k» «max_time_s» (length (now (rows .entry))) (length (now (answer .entry))) ⌝ }
     ensures rows { λ _. ⌜ now (rows .exit) ≡ dischargeRows (now (cell .entry)) «current_a» dt «temp_k» «max_time_s» (now (rows .entry)) (length (now (answer .entry))) ⌝ }
     ensures written { λ _. ⌜ now (answer .exit) ≡ dischargeAfter (now (cell .entry)) «current_a» dt «temp_k» «max_time_s» (length (now (rows .entry))) (now (answer .entry)) ⌝ }
@@ -239,7 +276,14 @@ pub extern "C" fn pj_simulate_discharge(cell: &[u8], current_a: f64, dt: f64, te
     if !lengths_fit(cell.len(), 1256, answer.len(), 1272) {
         return refusal::LENGTH;
     }
-    let run = discharge_run::simulate_discharge(cell_images::cell_at(cell), current_a, dt, temp_k, max_time_s, rows);
+    let run = discharge_run::simulate_discharge(
+        cell_images::cell_at(cell),
+        current_a,
+        dt,
+        temp_k,
+        max_time_s,
+        rows,
+    );
     let ending = run.ending;
     let refusal = ending_refusal(ending);
     let made = run.rows;
@@ -253,7 +297,14 @@ pub extern "C" fn pj_simulate_discharge(cell: &[u8], current_a: f64, dt: f64, te
 
 // A run of a Doyle-Fuller-Newman cell; its answer as in a run of a single-particle cell.
 #[no_mangle]
-pub extern "C" fn pj_run_galvanostatic(cell: &[u8], current_a: f64, dt_s: f64, max_time_s: f64, rows: &mut [f64], answer: &mut [u8]) -> u64
+pub extern "C" fn pj_run_galvanostatic(
+    cell: &[u8],
+    current_a: f64,
+    dt_s: f64,
+    max_time_s: f64,
+    rows: &mut [f64],
+    answer: &mut [u8],
+) -> u64
     ensures number { λ r. ⌜ r ≡ galvanostaticNumber (now (cell .entry)) «current_a» «dt_s» «max_time_s» (length (now (rows .entry))) (length (now (answer .entry))) ⌝ }
     ensures rows { λ _. ⌜ now (rows .exit) ≡ galvanostaticRows (now (cell .entry)) «current_a» «dt_s» «max_time_s» (now (rows .entry)) (length (now (answer .entry))) ⌝ }
     ensures written { λ _. ⌜ now (answer .exit) ≡ galvanostaticAfter (now (cell .entry)) «current_a» «dt_s» «max_time_s» (length (now (rows .entry))) (now (answer .entry)) ⌝ }
@@ -261,7 +312,13 @@ pub extern "C" fn pj_run_galvanostatic(cell: &[u8], current_a: f64, dt_s: f64, m
     if !lengths_fit(cell.len(), 9008, answer.len(), 9024) {
         return refusal::LENGTH;
     }
-    let run = galvanostatic_run::run_galvanostatic(porous_images::cell_at(cell), current_a, dt_s, max_time_s, rows);
+    let run = galvanostatic_run::run_galvanostatic(
+        porous_images::cell_at(cell),
+        current_a,
+        dt_s,
+        max_time_s,
+        rows,
+    );
     let ending = run.ending;
     let refusal = ending_refusal(ending);
     let made = run.rows;

@@ -15,16 +15,17 @@ use Rattle.solver.specs.declared.SpmState.{SpmState}
 
 unfoldable pub sheetAt : List ℕ → ℕ → ElectrodeParams
 sheetAt s at = record {
-    «electrode_type» = wordAt s at;
-    «r_particle» = floatAt s (at + 1);
-    «d_s_ref» = floatAt s (at + 2);
-    «c_s_max» = floatAt s (at + 3);
-    «theta_init» = floatAt s (at + 4);
-    thickness = floatAt s (at + 5);
-    «epsilon_s» = floatAt s (at + 6);
-    area = floatAt s (at + 7);
-    «e_a_ds» = floatAt s (at + 8);
-    «k_bv» = floatAt s (at + 9) }
+  «electrode_type» = wordAt s at;
+  «r_particle» = floatAt s (at + 1);
+  «d_s_ref» = floatAt s (at + 2);
+  «c_s_max» = floatAt s (at + 3);
+  «theta_init» = floatAt s (at + 4);
+  thickness = floatAt s (at + 5);
+  «epsilon_s» = floatAt s (at + 6);
+  area = floatAt s (at + 7);
+  «e_a_ds» = floatAt s (at + 8);
+  «k_bv» = floatAt s (at + 9);
+}
 
 abbrev pub sheetNumbers : ElectrodeParams → List Float
 sheetNumbers p =
@@ -37,9 +38,10 @@ putSheet s at p = putRow (putWord s at (p .«electrode_type»)) (at + 1) (sheetN
 
 unfoldable pub particleAt : List ℕ → ℕ → ParticleDiffusion
 particleAt s at = record {
-    params = sheetAt s at;
-    «n_nodes» = wordAt s (at + 10);
-    «c_s» = placesAt 64 s (at + 11) }
+  params = sheetAt s at;
+  «n_nodes» = wordAt s (at + 10);
+  «c_s» = placesAt 64 s (at + 11);
+}
 
 unfoldable pub putParticle : List ℕ → ℕ → ParticleDiffusion → List ℕ
 putParticle s at p = putRow (putWord (putSheet s at (p .params)) (at + 10) (p .«n_nodes»)) (at + 11) (p .«c_s»)
@@ -48,12 +50,13 @@ putParticle s at p = putRow (putWord (putSheet s at (p .params)) (at + 10) (p .�
 
 unfoldable pub configAt : List ℕ → SpmConfig
 configAt s = record {
-    «n_nodes» = wordAt s 0;
-    «v_min» = floatAt s 1;
-    «v_max» = floatAt s 2;
-    faraday = floatAt s 3;
-    «r_gas» = floatAt s 4;
-    «r_electrolyte_ohm_m2» = floatAt s 5 }
+  «n_nodes» = wordAt s 0;
+  «v_min» = floatAt s 1;
+  «v_max» = floatAt s 2;
+  faraday = floatAt s 3;
+  «r_gas» = floatAt s 4;
+  «r_electrolyte_ohm_m2» = floatAt s 5;
+}
 
 unfoldable pub putConfig : List ℕ → SpmConfig → List ℕ
 putConfig s c =
@@ -63,10 +66,11 @@ putConfig s c =
 
 unfoldable pub cellAt : List ℕ → SpmSolver
 cellAt s = record {
-    config = configAt s;
-    anode = particleAt s 6;
-    cathode = particleAt s 81;
-    «time_s» = floatAt s 156 }
+  config = configAt s;
+  anode = particleAt s 6;
+  cathode = particleAt s 81;
+  «time_s» = floatAt s 156;
+}
 
 unfoldable pub putCell : List ℕ → SpmSolver → List ℕ
 putCell s cell =

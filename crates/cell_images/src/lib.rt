@@ -62,7 +62,11 @@ pub fn particle_at(s: &[u8], at: usize) -> ParticleDiffusion
     let n_nodes = read_word(s, at + 10) as usize;
     let mut c_s = [0.0; 64];
     read_places(s, at + 11, &mut c_s);
-    ParticleDiffusion { params, n_nodes, c_s }
+    ParticleDiffusion {
+        params,
+        n_nodes,
+        c_s,
+    }
 }
 
 pub fn put_particle(s: &mut [u8], at: usize, p: ParticleDiffusion)

@@ -17,13 +17,14 @@ use Rattle.dfn.specs.declared.DfnStep.{DfnStep}
 
 unfoldable pub saltAt : List ℕ → ElectrolyteParams
 saltAt s = record {
-    «d_e_ref» = floatAt s 0;
-    «kappa_ref» = floatAt s 1;
-    «t_plus» = floatAt s 2;
-    bruggeman = floatAt s 3;
-    «c_e_init» = floatAt s 4;
-    «e_a_de» = floatAt s 5;
-    «e_a_kappa» = floatAt s 6 }
+  «d_e_ref» = floatAt s 0;
+  «kappa_ref» = floatAt s 1;
+  «t_plus» = floatAt s 2;
+  bruggeman = floatAt s 3;
+  «c_e_init» = floatAt s 4;
+  «e_a_de» = floatAt s 5;
+  «e_a_kappa» = floatAt s 6;
+}
 
 unfoldable pub putSalt : List ℕ → ElectrolyteParams → List ℕ
 putSalt s p =
@@ -33,17 +34,18 @@ putSalt s p =
 
 unfoldable pub electrolyteAt : List ℕ → ElectrolyteState
 electrolyteAt s = record {
-    params = saltAt s;
-    «l_neg» = floatAt s 7;
-    «l_sep» = floatAt s 8;
-    «l_pos» = floatAt s 9;
-    «eps_neg» = floatAt s 10;
-    «eps_sep» = floatAt s 11;
-    «eps_pos» = floatAt s 12;
-    «n_neg» = wordAt s 13;
-    «n_sep» = wordAt s 14;
-    «n_pos» = wordAt s 15;
-    «c_e» = placesAt 96 s 16 }
+  params = saltAt s;
+  «l_neg» = floatAt s 7;
+  «l_sep» = floatAt s 8;
+  «l_pos» = floatAt s 9;
+  «eps_neg» = floatAt s 10;
+  «eps_sep» = floatAt s 11;
+  «eps_pos» = floatAt s 12;
+  «n_neg» = wordAt s 13;
+  «n_sep» = wordAt s 14;
+  «n_pos» = wordAt s 15;
+  «c_e» = placesAt 96 s 16;
+}
 
 abbrev pub regionNumbers : ElectrolyteState → List Float
 regionNumbers e = e .«l_neg» ∷ e .«l_sep» ∷ e .«l_pos» ∷ e .«eps_neg» ∷ e .«eps_sep» ∷ e .«eps_pos» ∷ []
@@ -60,35 +62,36 @@ putElectrolyte s e =
 -- from the numbers in the record's order
 unfoldable pub paramsOf : List Float → ℕ → List Float → ℕ → List Float → DfnParams
 paramsOf x negCount neg posCount pos = record {
-    «l_neg» = getD x 0 nan;
-    «l_sep» = getD x 1 nan;
-    «l_pos» = getD x 2 nan;
-    area = getD x 3 nan;
-    «r_neg» = getD x 4 nan;
-    «d_s_neg_ref» = getD x 5 nan;
-    «c_s_neg_max» = getD x 6 nan;
-    «eps_neg» = getD x 7 nan;
-    «theta_neg_0» = getD x 8 nan;
-    «k_neg» = getD x 9 nan;
-    «r_pos» = getD x 10 nan;
-    «d_s_pos_ref» = getD x 11 nan;
-    «c_s_pos_max» = getD x 12 nan;
-    «eps_pos» = getD x 13 nan;
-    «theta_pos_0» = getD x 14 nan;
-    «k_pos» = getD x 15 nan;
-    «c_e0» = getD x 16 nan;
-    «d_e0» = getD x 17 nan;
-    «gamma_e» = getD x 18 nan;
-    «t_plus» = getD x 19 nan;
-    kappa0 = getD x 20 nan;
-    «eps_e_elec» = getD x 21 nan;
-    «eps_e_sep» = getD x 22 nan;
-    brugg = getD x 23 nan;
-    «temperature_k» = getD x 24 nan;
-    «ocv_neg_count» = negCount;
-    «ocv_neg_coeffs» = neg;
-    «ocv_pos_count» = posCount;
-    «ocv_pos_coeffs» = pos }
+  «l_neg» = getD x 0 nan;
+  «l_sep» = getD x 1 nan;
+  «l_pos» = getD x 2 nan;
+  area = getD x 3 nan;
+  «r_neg» = getD x 4 nan;
+  «d_s_neg_ref» = getD x 5 nan;
+  «c_s_neg_max» = getD x 6 nan;
+  «eps_neg» = getD x 7 nan;
+  «theta_neg_0» = getD x 8 nan;
+  «k_neg» = getD x 9 nan;
+  «r_pos» = getD x 10 nan;
+  «d_s_pos_ref» = getD x 11 nan;
+  «c_s_pos_max» = getD x 12 nan;
+  «eps_pos» = getD x 13 nan;
+  «theta_pos_0» = getD x 14 nan;
+  «k_pos» = getD x 15 nan;
+  «c_e0» = getD x 16 nan;
+  «d_e0» = getD x 17 nan;
+  «gamma_e» = getD x 18 nan;
+  «t_plus» = getD x 19 nan;
+  kappa0 = getD x 20 nan;
+  «eps_e_elec» = getD x 21 nan;
+  «eps_e_sep» = getD x 22 nan;
+  brugg = getD x 23 nan;
+  «temperature_k» = getD x 24 nan;
+  «ocv_neg_count» = negCount;
+  «ocv_neg_coeffs» = neg;
+  «ocv_pos_count» = posCount;
+  «ocv_pos_coeffs» = pos;
+}
 
 unfoldable pub paramsAt : List ℕ → DfnParams
 paramsAt s = paramsOf (placesAt 25 s 0) (wordAt s 25) (placesAt 16 s 26) (wordAt s 42) (placesAt 16 s 43)
@@ -110,11 +113,12 @@ putParams s p =
 
 unfoldable pub configAt : List ℕ → DfnConfig
 configAt s = record {
-    «n_x_neg» = wordAt s 59;
-    «n_x_pos» = wordAt s 60;
-    «n_r» = wordAt s 61;
-    «v_min» = floatAt s 62;
-    «v_max» = floatAt s 63 }
+  «n_x_neg» = wordAt s 59;
+  «n_x_pos» = wordAt s 60;
+  «n_r» = wordAt s 61;
+  «v_min» = floatAt s 62;
+  «v_max» = floatAt s 63;
+}
 
 unfoldable pub putConfig : List ℕ → DfnConfig → List ℕ
 putConfig s c =
@@ -124,16 +128,17 @@ putConfig s c =
 
 unfoldable pub cellAt : List ℕ → DfnSolver
 cellAt s = record {
-    params = paramsAt s;
-    config = configAt s;
-    «c_s_neg» = placesAt 512 s 64;
-    «c_s_pos» = placesAt 512 s 576;
-    «c_e» = placesAt 33 s 1088;
-    «time_s» = floatAt s 1121;
-    voltage = floatAt s 1122;
-    current = floatAt s 1123;
-    «theta_neg_surf» = floatAt s 1124;
-    «theta_pos_surf» = floatAt s 1125 }
+  params = paramsAt s;
+  config = configAt s;
+  «c_s_neg» = placesAt 512 s 64;
+  «c_s_pos» = placesAt 512 s 576;
+  «c_e» = placesAt 33 s 1088;
+  «time_s» = floatAt s 1121;
+  voltage = floatAt s 1122;
+  current = floatAt s 1123;
+  «theta_neg_surf» = floatAt s 1124;
+  «theta_pos_surf» = floatAt s 1125;
+}
 
 abbrev pub lastNumbers : DfnSolver → List Float
 lastNumbers d = d .«time_s» ∷ d .voltage ∷ d .current ∷ d .«theta_neg_surf» ∷ d .«theta_pos_surf» ∷ []

@@ -8,8 +8,8 @@ use dfn::DfnSolver;
 use dfn::DfnStep;
 use dfn_parameters::DfnConfig;
 use dfn_parameters::DfnParams;
-use electrolyte_parameters::ElectrolyteParams;
 use electrolyte::ElectrolyteState;
+use electrolyte_parameters::ElectrolyteParams;
 ghost use mathlib.Core.Path.{_≡_};
 ghost use Rattle.porous_images.specs.Images.{saltAt, putSalt, electrolyteAt, putElectrolyte, paramsOf, paramsAt, putParams, configAt, putConfig, cellAt, putCell, putReport};
 
@@ -84,7 +84,13 @@ pub fn put_electrolyte(s: &mut [u8], e: ElectrolyteState)
 }
 
 // The parameters from their 25 numbers in the record's order, and each electrode's coefficients with their count.
-fn params_of(x: [f64; 25], neg_count: usize, neg: [f64; 16], pos_count: usize, pos: [f64; 16]) -> DfnParams
+fn params_of(
+    x: [f64; 25],
+    neg_count: usize,
+    neg: [f64; 16],
+    pos_count: usize,
+    pos: [f64; 16],
+) -> DfnParams
     ensures { λ r. ⌜ r ≡ paramsOf x «neg_count» neg «pos_count» pos ⌝ }
 {
     DfnParams {
@@ -130,7 +136,13 @@ pub fn params_at(s: &[u8]) -> DfnParams
     read_places(s, 26, &mut neg);
     let mut pos = [0.0; 16];
     read_places(s, 43, &mut pos);
-    params_of(x, read_word(s, 25) as usize, neg, read_word(s, 42) as usize, pos)
+    params_of(
+        x,
+        read_word(s, 25) as usize,
+        neg,
+        read_word(s, 42) as usize,
+        pos,
+    )
 }
 
 pub fn put_params(s: &mut [u8], p: DfnParams)
@@ -229,7 +241,13 @@ pub fn put_cell(s: &mut [u8], d: DfnSolver)
     let c_s_neg = d.c_s_neg;
     let c_s_pos = d.c_s_pos;
     let c_e = d.c_e;
-    let x = [d.time_s, d.voltage, d.current, d.theta_neg_surf, d.theta_pos_surf];
+    let x = [
+        d.time_s,
+        d.voltage,
+        d.current,
+        d.theta_neg_surf,
+        d.theta_pos_surf,
+    ];
     put_params(s, params);
     put_config(s, config);
     codec::put_512(s, 64, c_s_neg);
@@ -242,7 +260,14 @@ pub fn put_cell(s: &mut [u8], d: DfnSolver)
 pub fn put_report(s: &mut [u8], r: DfnStep)
     ensures { λ _. ⌜ now (s .exit) ≡ putReport (now (s .entry)) r ⌝ }
 {
-    let x = [r.voltage, r.current, r.time_s, r.theta_neg, r.theta_pos, r.delta_c_e_max];
+    let x = [
+        r.voltage,
+        r.current,
+        r.time_s,
+        r.theta_neg,
+        r.theta_pos,
+        r.delta_c_e_max,
+    ];
     write_places(s, 1126, &x);
     write_word(s, 1132, flag(r.cutoff));
     write_word(s, 1133, r.newton_iter as u64);

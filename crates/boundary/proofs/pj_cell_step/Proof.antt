@@ -31,12 +31,12 @@ same-length c = search needs depth 24
 
 returns-2 : tie.Need-returns-2
 unfolding cellNumber cellAfter
-returns-2 c = 
+returns-2 c =
     taken (λ (t : SpmStep). t .refusal) (λ (t : SpmStep). putReport (putCell (c .before .before .before .before .before .before .before .before .before .before .before .before .before .before .before .before .before .args .answer .now) (t .solver)) (t .state) (t .«sub_steps»)) _ _ _ (rw (c .before .before .before .before .before .before .before .before .before .before .before .before .cell-at .ensures) at (c .before .before .before .before .before .before .before .before .before .before .before .step .ensures)) _ _ (c .before .before .before .before .before .before .before .before .before .before .before .before .before .before .lengths-fit .ensures) (on _ (c .before .before .before .before .before .before .before .before .before .before .before .before .before .if1 .left)) _ (c .before .before .before .before .before .before .before .before .before .before .if2 .taken) (rw (c .before .before .before .before .before .before .put-cell .ensures) at (c .before .before .put-report .ensures))
 
 returns-3 : tie.Need-returns-3
 unfolding cellNumber cellAfter
-returns-3 c = 
+returns-3 c =
     left (λ (t : SpmStep). t .refusal) (λ (t : SpmStep). putReport (putCell (c .before .before .before .before .before .before .before .args .answer .now) (t .solver)) (t .state) (t .«sub_steps»)) _ _ _ (rw (c .before .before .cell-at .ensures) at (c .before .step .ensures)) _ _ (c .before .before .before .before .lengths-fit .ensures) (on _ (c .before .before .before .if1 .left)) (c .if2 .left)
 
 pub pj-cell-step-spec : {M : Type 1} → statement M

@@ -28,12 +28,12 @@ same-length c = search needs depth 24
 
 returns-2 : tie.Need-returns-2
 unfolding electrolyteNumber electrolyteAfter
-returns-2 c = 
+returns-2 c =
     taken (λ (t : StateAnswer). t .refusal) (λ (t : StateAnswer). putElectrolyte (c .before .before .before .before .before .before .before .before .before .before .before .before .args .answer .now) (t .state)) _ _ _ (rw (c .before .before .before .before .before .before .before .electrolyte-at .ensures) at (c .before .before .before .before .before .before .step-concentration .ensures)) _ _ (c .before .before .before .before .before .before .before .before .before .lengths-fit .ensures) (on _ (c .before .before .before .before .before .before .before .before .if1 .left)) _ (c .before .before .before .before .before .if2 .taken) (c .before .before .put-electrolyte .ensures)
 
 returns-3 : tie.Need-returns-3
 unfolding electrolyteNumber electrolyteAfter
-returns-3 c = 
+returns-3 c =
     left (λ (t : StateAnswer). t .refusal) (λ (t : StateAnswer). putElectrolyte (c .before .before .before .before .before .before .before .args .answer .now) (t .state)) _ _ _ (rw (c .before .before .electrolyte-at .ensures) at (c .before .step-concentration .ensures)) _ _ (c .before .before .before .before .lengths-fit .ensures) (on _ (c .before .before .before .if1 .left)) (c .if2 .left)
 
 pub pj-electrolyte-step-spec : {M : Type 1} → statement M

@@ -28,12 +28,12 @@ same-length c = search needs depth 24
 
 returns-2 : tie.Need-returns-2
 unfolding particleNumber particleAfter
-returns-2 c = 
+returns-2 c =
     taken (λ (t : ParticleAnswer). t .refusal) (λ (t : ParticleAnswer). putParticle (c .before .before .before .before .before .before .before .before .before .before .before .before .args .answer .now) 0 (t .particle)) _ _ _ (rw (c .before .before .before .before .before .before .before .particle-at .ensures) at (c .before .before .before .before .before .before .step .ensures)) _ _ (c .before .before .before .before .before .before .before .before .before .lengths-fit .ensures) (on _ (c .before .before .before .before .before .before .before .before .if1 .left)) _ (c .before .before .before .before .before .if2 .taken) (c .before .before .put-particle .ensures)
 
 returns-3 : tie.Need-returns-3
 unfolding particleNumber particleAfter
-returns-3 c = 
+returns-3 c =
     left (λ (t : ParticleAnswer). t .refusal) (λ (t : ParticleAnswer). putParticle (c .before .before .before .before .before .before .before .args .answer .now) 0 (t .particle)) _ _ _ (rw (c .before .before .particle-at .ensures) at (c .before .step .ensures)) _ _ (c .before .before .before .before .lengths-fit .ensures) (on _ (c .before .before .before .if1 .left)) (c .if2 .left)
 
 pub pj-particle-step-spec : {M : Type 1} → statement M

@@ -43,7 +43,7 @@ same-length-2 c = search needs depth 24
 
 returns-2 : tie.Need-returns-2
 unfolding galvanostaticNumber galvanostaticRows galvanostaticAfter
-returns-2 c = 
+returns-2 c =
     let p = run-told (λ (t : RunSaid). t .ended .refusal) (λ (t : RunSaid). t .rows) _ _ (rw (c .before .before .before .before .before .before .before .before .before .before .before .before .before .before .before .before .cell-at .ensures) at (c .before .before .before .before .before .before .before .before .before .before .before .before .before .before .run-galvanostatic .ensures .0)) _ _ (c .before .before .before .before .before .before .before .before .before .before .before .before .before .before .before .before .before .before .lengths-fit .ensures) (on _ (c .before .before .before .before .before .before .before .before .before .before .before .before .before .before .before .before .before .if1 .left)) (λ (t : RunSaid). putEnding (putCell (c .before .before .before .before .before .before .before .before .before .before .before .before .before .before .before .before .before .before .before .before .before .before .args .answer .now) (t .cell)) 1126 (t .ended .ending) (t .rows)) _ _ (rw (c .before .before .before .before .before .before .before .before .before .before .before .ending-refusal .ensures) at (c .before .before .before .before .before .before .before .before .before .before .if2 .taken)) (rw (c .before .before .before .before .before .before .before .put-cell .ensures, c .before .before .before .ending-number .ensures) at (c .before .before .put-ending .ensures)) in
     (c .before .before .before .before .before .before .before .before .before .before .before .ending-refusal .ensures ∙ p .0, (rw (← c .before .before .before .before .before .before .before .before .before .before .before .before .before .before .before .before .before .before .lengths-fit .ensures, on (c .before .before .before .before .before .before .before .before .before .before .before .before .before .before .before .before .before .before .lengths-fit .result) (c .before .before .before .before .before .before .before .before .before .before .before .before .before .before .before .before .before .if1 .left)) (rw (c .before .before .before .before .before .before .before .before .before .before .before .before .before .before .before .before .cell-at .ensures) at (c .before .before .before .before .before .before .before .before .before .before .before .before .before .before .run-galvanostatic .ensures .1)), p .1))
 
@@ -52,7 +52,7 @@ same-length-3 c = search needs depth 24
 
 returns-3 : tie.Need-returns-3
 unfolding galvanostaticNumber galvanostaticRows galvanostaticAfter
-returns-3 c = 
+returns-3 c =
     let p = run-kept (λ (t : RunSaid). t .ended .refusal) (λ (t : RunSaid). t .rows) _ _ (rw (c .before .before .before .before .before .before .cell-at .ensures) at (c .before .before .before .before .run-galvanostatic .ensures .0)) _ _ (c .before .before .before .before .before .before .before .before .lengths-fit .ensures) (on _ (c .before .before .before .before .before .before .before .if1 .left)) (λ (t : RunSaid). putEnding (putCell (c .before .before .before .before .before .before .before .before .before .before .before .before .args .answer .now) (t .cell)) 1126 (t .ended .ending) (t .rows)) _ (rw (c .before .ending-refusal .ensures) at (c .if2 .left)) in
     (c .before .ending-refusal .ensures ∙ p .0, (rw (← c .before .before .before .before .before .before .before .before .lengths-fit .ensures, on (c .before .before .before .before .before .before .before .before .lengths-fit .result) (c .before .before .before .before .before .before .before .if1 .left)) (rw (c .before .before .before .before .before .before .cell-at .ensures) at (c .before .before .before .before .run-galvanostatic .ensures .1)), p .1))
 

@@ -27,12 +27,12 @@ same-length c = search needs depth 24
 
 returns-2 : tie.Need-returns-2
 unfolding denseNumber denseAfter
-returns-2 c = 
+returns-2 c =
     taken (λ (t : Solved). t .refusal) (λ (t : Solved). putRow (c .before .before .before .before .before .before .before .before .before .before .before .before .args .answer .now) 0 (t .x)) _ _ _ (c .before .before .before .before .before .before .solve-dense .ensures) _ _ (c .before .before .before .before .before .before .before .before .lengths-fit .ensures) (on _ (c .before .before .before .before .before .before .before .if1 .left)) _ (c .before .before .before .before .before .if2 .taken) (c .before .before .put-32 .ensures)
 
 returns-3 : tie.Need-returns-3
 unfolding denseNumber denseAfter
-returns-3 c = 
+returns-3 c =
     left (λ (t : Solved). t .refusal) (λ (t : Solved). putRow (c .before .before .before .before .before .before .before .args .answer .now) 0 (t .x)) _ _ _ (c .before .solve-dense .ensures) _ _ (c .before .before .before .lengths-fit .ensures) (on _ (c .before .before .if1 .left)) (c .if2 .left)
 
 pub pj-solve-dense-spec : {M : Type 1} → statement M

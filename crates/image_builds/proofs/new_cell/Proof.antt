@@ -16,7 +16,6 @@ put-cell-requires c κs = search needs
 same-length : tie.Need-same-length
 same-length c = search needs depth 24
 
-
 returns : tie.Need-returns
 returns c =
     accepted (λ (t : SpmAnswer). t .refusal) (λ (t : SpmAnswer). putCell (c .before .before .before .before .before .before .before .before .before .args .answer .now) (t .solver)) _ _ _ (c .before .before .before .before .before .before .built-cell .ensures) _ (c .before .before .before .before .before .if1 .taken) (c .before .before .put-cell .ensures)

@@ -23,7 +23,6 @@ put-cell-requires c κs = search needs
 same-length : tie.Need-same-length
 same-length c = search needs depth 24
 
-
 returns : tie.Need-returns
 unfolding dfnMade
 returns c =

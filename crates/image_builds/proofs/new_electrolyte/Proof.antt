@@ -16,7 +16,6 @@ put-electrolyte-requires c κs = search needs
 same-length : tie.Need-same-length
 same-length c = search needs depth 24
 
-
 returns : tie.Need-returns
 returns c =
     accepted (λ (t : StateAnswer). t .refusal) (λ (t : StateAnswer). putElectrolyte (c .before .before .before .before .before .before .before .before .before .args .answer .now) (t .state)) _ _ _ (c .before .before .before .before .before .before .built-electrolyte .ensures) _ (c .before .before .before .before .before .if1 .taken) (c .before .before .put-electrolyte .ensures)

@@ -23,7 +23,6 @@ put-particle-requires c κs = search needs
 same-length : tie.Need-same-length
 same-length c = search needs depth 24
 
-
 returns : tie.Need-returns
 unfolding particleMade
 returns c =
