@@ -3,17 +3,22 @@
  * Records cross as images: words of eight bytes, the lowest byte first. A word is a whole number or the bit pattern of a
  * binary64; every pattern of a NaN is read as the NaN, and the NaN is written as 7FF8000000000000. A slice is a pointer
  * and then its length, in bytes for an image and in doubles for rows and matrices. A pointer must not be null, not
- * even that of an empty slice, and what one call is lent must not overlap.
+ * even that of an empty slice, and what one call is lent must not overlap. Images may lie at any address; doubles are aligned.
  *
  * Each call returns 0, or the number of a refusal (document 01's table). A wrong length of an image or of an answer is
- * refused with 10 before all else; a number of a call that is not listed here with 2. A refusal changes nothing that was lent; but a run
- * that is refused after its first row keeps its finished rows and gives the answer: the cell after them, 4, the count of rows.
+ * refused with 10 before all else; a number of a call that is not listed here with 2, whatever the lengths. A refusal changes nothing
+ * that was lent; but a run that is refused after its first row keeps its finished rows and gives the answer: the cell after
+ * them, 4, the count of rows. A run that is refused before its first row writes no answer.
  */
 #ifndef PERSIMMONJIB_H
 #define PERSIMMONJIB_H
 
 #include <stddef.h>
 #include <stdint.h>
+
+#ifdef __cplusplus
+extern "C" {
+#endif
 
 /* Images, with their lengths in bytes. */
 enum {
@@ -50,7 +55,8 @@ enum {
     PJ_ENDING = 16
 };
 
-/* pj_number: a number from an image and at most two arguments. The answer is one binary64 (8 bytes).
+/* pj_number: a number from an image and at most two arguments. The answer is one binary64 (8 bytes), a count of nodes
+ * too. An argument marked - is not looked at.
  *                              image           x           y */
 enum {
     PJ_D_S = 1,              /* sheet           temp_k      -      */
@@ -127,5 +133,9 @@ uint64_t pj_run_galvanostatic(const uint8_t *cell, size_t cell_len, double curre
 /* n equations: a is row after row. answer: solution */
 uint64_t pj_solve_dense(const double *a, size_t a_len, const double *b, size_t b_len, size_t n,
                         uint8_t *answer, size_t answer_len);
+
+#ifdef __cplusplus
+}
+#endif
 
 #endif
