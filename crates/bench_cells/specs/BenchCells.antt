@@ -23,8 +23,7 @@ use Rattle.dense_elimination.specs.Elimination.{candidate, larger, pivotOf, swa
 use Rattle.dense.specs.Substitution.{takenOut, columnSolved, substituted}
 use Rattle.dense.specs.Solve.{placeLoaded, rowLoaded, matrixLoaded, loaded, reduced, solution, inputRefusal, solutionRefusal, answer, solved}
 use Rattle.dfn_solid.specs.declared.Grain.{Grain}
-use Rattle.dfn_solid.specs.declared.Solid.{Solid}
-use Rattle.dfn_solid.specs.Solid.{dSolids, innerWith, surfaceWith, centreWith, nodeWith, particleWith, particlesWith, surfacesWith, solidAfter}
+use Rattle.dfn_solid.specs.Solid.{Solid, dSolids, innerWith, surfaceWith, centreWith, nodeWith, particleWith, particlesWith, surfacesWith, solidAfter}
 
 infix 66 _over_
 -- ---- how the list writes its numbers

@@ -1,9 +1,16 @@
 // The stepper for C: each call takes images and numbers, writes its answer's image and returns 0 or the number of a refusal. The layouts stand in
 // harness/c/persimmonjib.h.
+use cell_images::put_config;
 use cell_images::put_ending;
+use cell_images::put_parts;
 use image_builds::put_new;
 use image_builds::put_ready;
 use image_numbers::number_of;
+use image_rows::fill_33;
+use image_rows::fill_64;
+use image_rows::fill_512;
+use porous_images::put_last;
+use porous_images::put_places;
 use refusal::Answer;
 use runs::Ending;
 ghost use mathlib.Core.Path.{_≡_};
@@ -173,12 +180,19 @@ pub extern "C" fn pj_cell_step(
     if !lengths_fit(cell.len(), 1256, answer.len(), 1328) {
         return refusal::LENGTH;
     }
-    let out = cell_images::cell_at(cell).step(current_a, dt, temp_k);
+    let q = cell_images::parts_at(cell);
+    let mut c_neg = [0.0; 64];
+    fill_64(cell, 17, &mut c_neg);
+    let mut c_pos = [0.0; 64];
+    fill_64(cell, 92, &mut c_pos);
+    let out = solver::step_lent(q, &mut c_neg, &mut c_pos, current_a, dt, temp_k);
     let refusal = out.refusal;
     if refusal == 0 {
-        let new = out.solver;
         let state = out.state;
-        cell_images::put_cell(answer, new);
+        put_config(answer, q.config);
+        put_parts(answer, 6, q.neg, q.n_neg, &c_neg);
+        put_parts(answer, 81, q.pos, q.n_pos, &c_pos);
+        codec::write_f64(answer, 156, q.time_s + dt);
         cell_images::put_report(answer, state, out.sub_steps);
     }
     refusal
@@ -214,7 +228,7 @@ pub extern "C" fn pj_electrolyte_step(
     refusal
 }
 
-// A step of a Doyle-Fuller-Newman cell.
+// A step of a Doyle-Fuller-Newman cell, on its parts: the record of the cell is not built.
 #[no_mangle]
 pub extern "C" fn pj_dfn_step(cell: &[u8], current_a: f64, dt_s: f64, answer: &mut [u8]) -> u64
     ensures number { λ r. ⌜ r ≡ dfnNumber (now (cell .entry)) «current_a» «dt_s» (length (now (answer .entry))) ⌝ }
@@ -223,13 +237,29 @@ pub extern "C" fn pj_dfn_step(cell: &[u8], current_a: f64, dt_s: f64, answer: &m
     if !lengths_fit(cell.len(), 9008, answer.len(), 9072) {
         return refusal::LENGTH;
     }
-    let out = porous_images::cell_at(cell).step(current_a, dt_s);
+    let p = porous_images::params_at(cell);
+    let g = porous_images::config_at(cell);
+    let t = codec::read_f64(cell, 1121);
+    let mut neg = [0.0; 512];
+    fill_512(cell, 64, &mut neg);
+    let mut pos = [0.0; 512];
+    fill_512(cell, 576, &mut pos);
+    let mut c_e = [0.0; 33];
+    fill_33(cell, 1088, &mut c_e);
+    let out = dfn::step_lent(p, g, t, &mut neg, &mut pos, &mut c_e, current_a, dt_s);
     let refusal = out.refusal;
     if refusal == 0 {
-        let new = out.cell;
-        let report = out.report;
-        porous_images::put_cell(answer, new);
-        porous_images::put_report(answer, report);
+        let r = out.report;
+        put_places(answer, p, g, &neg, &pos, &c_e);
+        put_last(
+            answer,
+            r.time_s,
+            r.voltage,
+            r.current,
+            r.theta_neg,
+            r.theta_pos,
+        );
+        porous_images::put_report(answer, r);
     }
     refusal
 }
@@ -343,7 +373,7 @@ pub extern "C" fn pj_solve_dense(a: &[f64], b: &[f64], n: usize, answer: &mut [u
     let refusal = out.refusal;
     if refusal == 0 {
         let x = out.x;
-        codec::put_32(answer, 0, x);
+        image_rows::put_32(answer, 0, x);
     }
     refusal
 }

@@ -1,16 +1,20 @@
 // Sheets, particles and single-particle cells as images: words in a string of bytes, in the order of the records' fields.
 use codec::flag;
-use codec::read_places;
 use codec::read_word;
-use codec::write_places;
 use codec::write_word;
 use electrode::ElectrodeParams;
+use image_rows::fill_64;
+use image_rows::read_places;
+use image_rows::write_places;
 use kinetics::SpmConfig;
 use particle::ParticleDiffusion;
+use solver::SpmParts;
 use solver::SpmSolver;
 use solver::SpmState;
 ghost use mathlib.Core.Path.{_≡_};
 ghost use Prim.Native.Nat.{_≤_};
+ghost use Rattle.particle.specs.Particle.{particleOf};
+ghost use Rattle.solver.specs.Parts.{partsOf};
 ghost use Rattle.cell_images.specs.Images.{sheetAt, putSheet, particleAt, putParticle, configAt, putConfig, cellAt, putCell, putReport, putEnding};
 
 // The sheet whose first word is word `at`.
@@ -60,24 +64,30 @@ pub fn particle_at(s: &[u8], at: usize) -> ParticleDiffusion
 {
     let params = sheet_at(s, at);
     let n_nodes = read_word(s, at + 10) as usize;
-    let mut c_s = [0.0; 64];
-    read_places(s, at + 11, &mut c_s);
-    ParticleDiffusion {
+    let mut p = ParticleDiffusion {
         params,
         n_nodes,
-        c_s,
-    }
+        c_s: [0.0; 64],
+    };
+    fill_64(s, at + 11, &mut p.c_s);
+    p
+}
+
+// Writes a particle by its parts: sheet, count of nodes, profile.
+pub fn put_parts(s: &mut [u8], at: usize, params: ElectrodeParams, n_nodes: usize, c: &[f64; 64])
+    requires { ⌜ at ≤ 1024 ⌝ }
+    ensures { λ _. ⌜ now (s .exit) ≡ putParticle (now (s .entry)) at (particleOf params «n_nodes» (now (c .entry))) ⌝ }
+{
+    put_sheet(s, at, params);
+    write_word(s, at + 10, n_nodes as u64);
+    write_places(s, at + 11, c);
 }
 
 pub fn put_particle(s: &mut [u8], at: usize, p: ParticleDiffusion)
     requires { ⌜ at ≤ 1024 ⌝ }
     ensures { λ _. ⌜ now (s .exit) ≡ putParticle (now (s .entry)) at p ⌝ }
 {
-    let params = p.params;
-    let c_s = p.c_s;
-    put_sheet(s, at, params);
-    write_word(s, at + 10, p.n_nodes as u64);
-    codec::put_64(s, at + 11, c_s);
+    put_parts(s, at, p.params, p.n_nodes, &p.c_s);
 }
 
 // The configuration in the first six words.
@@ -104,31 +114,58 @@ pub fn put_config(s: &mut [u8], c: SpmConfig)
     write_places(s, 1, &x);
 }
 
+// The cell in the first 157 words, without its profiles.
+pub fn parts_at(s: &[u8]) -> SpmParts
+    ensures { λ r. ⌜ r ≡ partsOf (cellAt (now (s .entry))) ⌝ }
+{
+    let config = config_at(s);
+    let neg = sheet_at(s, 6);
+    let pos = sheet_at(s, 81);
+    SpmParts {
+        config,
+        neg,
+        n_neg: read_word(s, 16) as usize,
+        pos,
+        n_pos: read_word(s, 91) as usize,
+        time_s: codec::read_f64(s, 156),
+    }
+}
+
 // The cell in the first 157 words.
 pub fn cell_at(s: &[u8]) -> SpmSolver
     ensures { λ r. ⌜ r ≡ cellAt (now (s .entry)) ⌝ }
 {
-    let config = config_at(s);
-    let anode = particle_at(s, 6);
-    let cathode = particle_at(s, 81);
-    let time_s = codec::read_f64(s, 156);
-    SpmSolver {
-        config,
-        anode,
-        cathode,
-        time_s,
-    }
+    let mut cell = SpmSolver {
+        config: config_at(s),
+        anode: ParticleDiffusion {
+            params: sheet_at(s, 6),
+            n_nodes: read_word(s, 16) as usize,
+            c_s: [0.0; 64],
+        },
+        cathode: ParticleDiffusion {
+            params: sheet_at(s, 81),
+            n_nodes: read_word(s, 91) as usize,
+            c_s: [0.0; 64],
+        },
+        time_s: codec::read_f64(s, 156),
+    };
+    fill_64(s, 17, &mut cell.anode.c_s);
+    fill_64(s, 92, &mut cell.cathode.c_s);
+    cell
 }
 
 pub fn put_cell(s: &mut [u8], cell: SpmSolver)
     ensures { λ _. ⌜ now (s .exit) ≡ putCell (now (s .entry)) cell ⌝ }
 {
-    let config = cell.config;
-    let anode = cell.anode;
-    let cathode = cell.cathode;
-    put_config(s, config);
-    put_particle(s, 6, anode);
-    put_particle(s, 81, cathode);
+    put_config(s, cell.config);
+    put_parts(s, 6, cell.anode.params, cell.anode.n_nodes, &cell.anode.c_s);
+    put_parts(
+        s,
+        81,
+        cell.cathode.params,
+        cell.cathode.n_nodes,
+        &cell.cathode.c_s,
+    );
     codec::write_f64(s, 156, cell.time_s);
 }
 

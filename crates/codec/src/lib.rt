@@ -1,12 +1,11 @@
-// Words, numbers and rows of numbers in a string of bytes: word k is bytes 8k to 8k + 7, the lowest first. A word that
+// Words and numbers in a string of bytes: word k is bytes 8k to 8k + 7, the lowest first. A word that
 // is not whole is read as 0 and never written.
 
 ghost use mathlib.Core.Path.{_≡_};
 ghost use mathlib.Core.Bool.{cond};
 ghost use Prim.Native.Nat.{_+_, _*_, _%_, _≤_};
 ghost use lib.ListN.{length};
-ghost use Rattle.turns.specs.Turns.{firstBy};
-ghost use Rattle.codec.specs.Words.{wordAt, putBytes, putWord, floatAt, putFloat, putPlaces, putRow};
+ghost use Rattle.codec.specs.Words.{bytesAt, wordAt, putBytes, putWord, floatAt, putFloat};
 
 // The number of eight bytes, the lowest first.
 fn joined(b0: u8, b1: u8, b2: u8, b3: u8, b4: u8, b5: u8, b6: u8, b7: u8) -> u64
@@ -22,14 +21,11 @@ fn joined(b0: u8, b1: u8, b2: u8, b3: u8, b4: u8, b5: u8, b6: u8, b7: u8) -> u64
         + (b7 as u64) * 0x100000000000000
 }
 
-// Word k.
-pub fn read_word(s: &[u8], k: usize) -> u64
-    ensures { λ r. ⌜ r ≡ wordAt (now (s .entry)) k ⌝ }
+// The eight bytes from place a on as a number.
+pub fn word_from(s: &[u8], a: usize) -> u64
+    requires { ⌜ a + 8 ≤ length (now s) ⌝ }
+    ensures { λ r. ⌜ r ≡ bytesAt 7 (now (s .entry)) a ⌝ }
 {
-    if s.len() / 8 <= k {
-        return 0;
-    }
-    let a = k * 8;
     let a1 = a + 1;
     let a2 = a1 + 1;
     let a3 = a2 + 1;
@@ -40,6 +36,16 @@ pub fn read_word(s: &[u8], k: usize) -> u64
     joined(s[a], s[a1], s[a2], s[a3], s[a4], s[a5], s[a6], s[a7])
 }
 
+// Word k.
+pub fn read_word(s: &[u8], k: usize) -> u64
+    ensures { λ r. ⌜ r ≡ wordAt (now (s .entry)) k ⌝ }
+{
+    if s.len() / 8 <= k {
+        return 0;
+    }
+    word_from(s, k * 8)
+}
+
 // The lowest byte of n.
 fn low_byte(n: u64) -> u8
     ensures { λ r. ⌜ r ≡ n % 256 ⌝ }
@@ -48,7 +54,7 @@ fn low_byte(n: u64) -> u8
 }
 
 // Writes the eight bytes of n from place a on.
-fn write_bytes(s: &mut [u8], a: usize, n: u64)
+pub fn write_bytes(s: &mut [u8], a: usize, n: u64)
     requires { ⌜ a + 8 ≤ length (now s) ⌝ }
     ensures { λ _. ⌜ now (s .exit) ≡ putBytes 7 (now (s .entry)) a n ⌝ }
 {
@@ -97,70 +103,6 @@ pub fn write_f64(s: &mut [u8], k: usize, x: f64)
     ensures { λ _. ⌜ now (s .exit) ≡ putFloat (now (s .entry)) k x ⌝ }
 {
     write_word(s, k, words::to_bits(x));
-}
-
-// Fills `out` with the numbers from word `at` on.
-pub fn read_places(s: &[u8], at: usize, out: &mut [f64])
-    requires { ⌜ at ≤ 4096 ⌝ }
-    ensures { λ _. ⌜ now (out .exit) ≡ firstBy (length (now (out .entry))) (λ k. floatAt (now (s .entry)) (at + k)) (now (out .entry)) ⌝ }
-{
-    for i in 0..out.len() {
-        out[i] = read_f64(s, at + i);
-    }
-}
-
-// Writes the places of c as the words from `at` on.
-pub fn write_places(s: &mut [u8], at: usize, c: &[f64])
-    requires { ⌜ at ≤ 4096 ⌝ }
-    ensures { λ _. ⌜ now (s .exit) ≡ putPlaces (length (now (c .entry))) (now (s .entry)) at (now (c .entry)) ⌝ }
-{
-    for i in 0..c.len() {
-        write_f64(s, at + i, c[i]);
-    }
-}
-
-// The same for whole arrays, by value.
-
-pub fn put_16(s: &mut [u8], at: usize, c: [f64; 16])
-    requires { ⌜ at ≤ 4096 ⌝ }
-    ensures { λ _. ⌜ now (s .exit) ≡ putRow (now (s .entry)) at c ⌝ }
-{
-    write_places(s, at, &c);
-}
-
-pub fn put_32(s: &mut [u8], at: usize, c: [f64; 32])
-    requires { ⌜ at ≤ 4096 ⌝ }
-    ensures { λ _. ⌜ now (s .exit) ≡ putRow (now (s .entry)) at c ⌝ }
-{
-    write_places(s, at, &c);
-}
-
-pub fn put_33(s: &mut [u8], at: usize, c: [f64; 33])
-    requires { ⌜ at ≤ 4096 ⌝ }
-    ensures { λ _. ⌜ now (s .exit) ≡ putRow (now (s .entry)) at c ⌝ }
-{
-    write_places(s, at, &c);
-}
-
-pub fn put_64(s: &mut [u8], at: usize, c: [f64; 64])
-    requires { ⌜ at ≤ 4096 ⌝ }
-    ensures { λ _. ⌜ now (s .exit) ≡ putRow (now (s .entry)) at c ⌝ }
-{
-    write_places(s, at, &c);
-}
-
-pub fn put_96(s: &mut [u8], at: usize, c: [f64; 96])
-    requires { ⌜ at ≤ 4096 ⌝ }
-    ensures { λ _. ⌜ now (s .exit) ≡ putRow (now (s .entry)) at c ⌝ }
-{
-    write_places(s, at, &c);
-}
-
-pub fn put_512(s: &mut [u8], at: usize, c: [f64; 512])
-    requires { ⌜ at ≤ 4096 ⌝ }
-    ensures { λ _. ⌜ now (s .exit) ≡ putRow (now (s .entry)) at c ⌝ }
-{
-    write_places(s, at, &c);
 }
 
 // 1 for yes, 0 for no.

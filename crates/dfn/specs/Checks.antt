@@ -29,23 +29,32 @@ usedPos g = g .«n_x_pos» * g .«n_r»
 abbrev pub usedSalt : DfnConfig → ℕ
 usedSalt g = g .«n_x_neg» + 1 + g .«n_x_pos»
 
--- the whole cell but its counts of nodes, and but what a step only overwrites
+-- parameters, grid but for its counts, the particles of both electrodes, the salt and the clock: all but what a step only overwrites
+abbrev pub partsFit : DfnParams → DfnConfig → List Float → List Float → List Float → Float → Bool
+partsFit p g neg pos salt t =
+    parametersFit p
+    && limitsFit g
+    && solidFits neg (usedNeg g) (p .«c_s_neg_max»)
+    && solidFits pos (usedPos g) (p .«c_s_pos_max»)
+    && electrolyteFits salt (usedSalt g)
+    && clockFits t
+
 abbrev pub fieldsFit : DfnSolver → Bool
-fieldsFit d =
-    parametersFit (d .params)
-    && limitsFit (d .config)
-    && solidFits (d .«c_s_neg») (usedNeg (d .config)) (d .params .«c_s_neg_max»)
-    && solidFits (d .«c_s_pos») (usedPos (d .config)) (d .params .«c_s_pos_max»)
-    && electrolyteFits (d .«c_e») (usedSalt (d .config))
-    && clockFits (d .«time_s»)
+fieldsFit d = partsFit (d .params) (d .config) (d .«c_s_neg») (d .«c_s_pos») (d .«c_e») (d .«time_s»)
+
+abbrev pub partsRefusal : DfnParams → DfnConfig → List Float → List Float → List Float → Float → ℕ
+partsRefusal p g neg pos salt t = firstMet (refusalUnless (gridFits g) grid) (refusalUnless (partsFit p g neg pos salt t) sheet)
 
 unfoldable pub cellRefusal : DfnSolver → ℕ
-cellRefusal d = firstMet (refusalUnless (gridFits (d .config)) grid) (refusalUnless (fieldsFit d) sheet)
+cellRefusal d = partsRefusal (d .params) (d .config) (d .«c_s_neg») (d .«c_s_pos») (d .«c_e») (d .«time_s»)
 
 -- a current of at most 1e6 A
+abbrev pub loadRefusal : Float → Float → ℕ
+loadRefusal current dt =
+    firstMet (refusalUnless (loadFits current (f64 0x412e_8480_0000_0000)) load) (refusalUnless (intervalFits dt) interval)
+
 unfoldable pub stepRefusal : DfnSolver → Float → Float → ℕ
-stepRefusal d current dt =
-    firstMet (cellRefusal d) (firstMet (refusalUnless (loadFits current (f64 0x412e_8480_0000_0000)) load) (refusalUnless (intervalFits dt) interval))
+stepRefusal d current dt = firstMet (cellRefusal d) (loadRefusal current dt)
 
 -- ---- what a cell that nothing refuses has met
 pub record Grid (g : DfnConfig) : Type 0 where

@@ -1,6 +1,7 @@
 -- A step: what moves, the report, the cell that it leaves, and what it answers. Definitions only.
 use Prim.Native.Nat.{ℕ, _+_, _-_, _/_}
 use mathlib.Core.Bool.{Bool, false, cond, _&&_, _||_}
+use mathlib.Core.List.{List}
 use lib.Dec.{eqb}
 use lib.ListN.{getD}
 use lib.Ieee.{Float, nan, lt, neg}
@@ -9,17 +10,17 @@ use Rattle.refusal.specs.Numbers.{notFinite}
 use Rattle.refusal.specs.Ranges.{finite}
 use Rattle.dfn_parameters.specs.Sides.{anodeOf, cathodeOf, poreFlux}
 use Rattle.dfn_parameters.specs.declared.DfnParams.{DfnParams}
+use Rattle.dfn_parameters.specs.declared.DfnConfig.{DfnConfig}
 use Rattle.dfn_parameters.specs.declared.Side.{Side}
 use Rattle.dfn_places.specs.Places.{allFinite, changeAfter}
 use Rattle.dfn_electrolyte.specs.Electrolyte.{electrolyteAfter}
-use Rattle.dfn_solid.specs.Solid.{solidAfter}
+use Rattle.dfn_solid.specs.Solid.{Solid, solidAfter}
 use Rattle.dfn_solid.specs.declared.Grain.{Grain}
 use Rattle.dfn_voltage.specs.Voltage.{voltageOf}
 use Rattle.dfn.specs.Checks.{usedNeg, usedPos, usedSalt, stepRefusal}
 use Rattle.dfn.specs.declared.DfnSolver.{DfnSolver}
 use Rattle.dfn.specs.declared.DfnStep.{DfnStep}
 use Rattle.dfn.specs.declared.DfnAnswer.{DfnAnswer}
-use Rattle.dfn.specs.declared.Moved.{Moved}
 
 -- n nodes in each particle: dr = r / (n - 1)
 abbrev pub grainOf : DfnParams → Side → ℕ → Float → Float → Grain
@@ -32,6 +33,12 @@ grainOf p side n current dt = record {
   dt = dt;
 }
 
+-- what a step moves
+pub record Moved : Type 0 where
+  pub «c_e» : List Float
+  pub neg : Solid
+  pub pos : Solid
+
 -- the electrolyte and the particles of both electrodes, all from the old cell; -I at the anode, I at the cathode
 unfoldable pub movedBy : DfnSolver → Float → Float → Moved
 movedBy d current dt = record {
@@ -40,23 +47,26 @@ movedBy d current dt = record {
   pos = solidAfter (grainOf (d .params) (cathodeOf (d .params)) (d .config .«n_r») current dt) (d .«c_s_pos») (d .config .«n_x_pos»);
 }
 
-abbrev reportAt : DfnSolver → Moved → Float → Float → Float → DfnStep
-reportAt d m current dt v = record {
+abbrev reportAt : DfnConfig → List Float → List Float → Float → Float → Float → Float → Float → DfnStep
+reportAt g old new thetaNeg thetaPos t current v = record {
   voltage = v;
   current = current;
-  «time_s» = d .«time_s» ⊕ dt;
-  «theta_neg» = m .neg .theta;
-  «theta_pos» = m .pos .theta;
-  «delta_c_e_max» = changeAfter (m .«c_e») (d .«c_e») (usedSalt (d .config));
+  «time_s» = t;
+  «theta_neg» = thetaNeg;
+  «theta_pos» = thetaPos;
+  «delta_c_e_max» = changeAfter new old (usedSalt g);
   «newton_iter» = 1;
-  cutoff = lt v (d .config .«v_min») || lt (d .config .«v_max») v;
+  cutoff = lt v (g .«v_min») || lt (g .«v_max») v;
 }
 
--- the voltage from the new stoichiometries and the new salt at node n_x_neg / 2
+-- by the salt before and after; the voltage from the new stoichiometries and the new salt at node n_x_neg / 2
+abbrev pub reportBy : DfnParams → DfnConfig → List Float → List Float → Float → Float → Float → Float → DfnStep
+reportBy p g old new thetaNeg thetaPos t current =
+    reportAt g old new thetaNeg thetaPos t current (voltageOf p thetaNeg thetaPos (getD new (g .«n_x_neg» / 2) nan) current)
+
 unfoldable pub reportOf : DfnSolver → Moved → Float → Float → DfnStep
 reportOf d m current dt =
-    reportAt d m current dt
-    (voltageOf (d .params) (m .neg .theta) (m .pos .theta) (getD (m .«c_e») (d .config .«n_x_neg» / 2) nan) current)
+    reportBy (d .params) (d .config) (d .«c_e») (m .«c_e») (m .neg .theta) (m .pos .theta) (d .«time_s» ⊕ dt) current
 
 unfoldable pub cellWith : DfnSolver → Moved → DfnStep → DfnSolver
 cellWith d m r = record {
@@ -72,18 +82,21 @@ cellWith d m r = record {
   «theta_pos_surf» = r .«theta_pos»;
 }
 
--- neither the new cell nor the report holds a NaN or an infinity; the report's numbers are the cell's too
-unfoldable pub allNumbers : DfnSolver → DfnStep → Bool
-allNumbers d r =
-    allFinite (d .«c_s_neg») (usedNeg (d .config))
-    && allFinite (d .«c_s_pos») (usedPos (d .config))
-    && allFinite (d .«c_e») (usedSalt (d .config))
+-- neither the arrays of the new cell nor the report hold a NaN or an infinity; the report's numbers are the cell's too
+abbrev pub partsFinite : DfnConfig → List Float → List Float → List Float → DfnStep → Bool
+partsFinite g neg pos salt r =
+    allFinite neg (usedNeg g)
+    && allFinite pos (usedPos g)
+    && allFinite salt (usedSalt g)
     && finite (r .voltage)
     && finite (r .current)
     && finite (r .«time_s»)
     && finite (r .«theta_neg»)
     && finite (r .«theta_pos»)
     && finite (r .«delta_c_e_max»)
+
+unfoldable pub allNumbers : DfnSolver → DfnStep → Bool
+allNumbers d r = partsFinite (d .config) (d .«c_s_neg») (d .«c_s_pos») (d .«c_e») r
 
 unfoldable pub noReport : DfnStep
 noReport = record {

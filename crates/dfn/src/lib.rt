@@ -12,13 +12,13 @@ use dfn_places::solid_fits;
 use dfn_places::uniform_electrolyte;
 use dfn_places::uniform_solid;
 use dfn_solid::Grain;
-use dfn_solid::Solid;
 use dfn_solid::update_solid;
 use dfn_voltage::compute_voltage;
 ghost use mathlib.Core.Path.{_≡_};
 ghost use Prim.Native.Nat.{_≤_, _*_};
-ghost use Rattle.dfn.specs.Checks.{Met, cellRefusal, stepRefusal};
-ghost use Rattle.dfn.specs.Step.{grainOf, movedBy, reportOf, cellWith, allNumbers, noReport, stepped};
+ghost use Rattle.dfn.specs.Checks.{Grid, partsRefusal, loadRefusal, stepRefusal};
+ghost use Rattle.dfn.specs.Step.{grainOf, reportBy, partsFinite, noReport, stepped};
+ghost use Rattle.dfn.specs.Parts.{StepOf};
 ghost use Rattle.dfn.specs.Build.{noCell, made};
 
 pub struct DfnSolver {
@@ -58,18 +58,17 @@ pub struct DfnBuild {
     pub cell: DfnSolver,
 }
 
+// 0 and the report; or the number of the refusal and a report of zeros.
+pub struct DfnReported {
+    pub refusal: u64,
+    pub report: DfnStep,
+}
+
 // 0, the report and the new cell; or the number of the refusal, a report of zeros and the cell as it was.
 pub struct DfnAnswer {
     pub refusal: u64,
     pub report: DfnStep,
     pub cell: DfnSolver,
-}
-
-// What a step moves.
-pub struct Moved {
-    pub c_e: [f64; 33],
-    pub neg: Solid,
-    pub pos: Solid,
 }
 
 // What the particles of one electrode work with.
@@ -159,125 +158,148 @@ fn no_cell() -> DfnSolver
     }
 }
 
-impl DfnSolver {
-    // The number of the table that the cell meets, 0 for none. What a step only overwrites is not checked.
-    pub fn refusal(self) -> u64
-        ensures { λ r. ⌜ r ≡ cellRefusal self ⌝ }
-    {
-        let p = self.params;
-        let g = self.config;
-        if !g.grid_fits() {
-            return refusal::GRID;
-        }
-        let neg = self.c_s_neg;
-        let pos = self.c_s_pos;
-        let c_e = self.c_e;
-        let fits = p.fit()
-            & g.limits_fit()
-            & solid_fits(&neg, g.n_x_neg * g.n_r, p.c_s_neg_max)
-            & solid_fits(&pos, g.n_x_pos * g.n_r, p.c_s_pos_max)
-            & electrolyte_fits(&c_e, g.n_x_neg + 1 + g.n_x_pos)
-            & refusal::clock_fits(self.time_s);
-        refusal::refusal_unless(fits, refusal::SHEET)
+// The number of the table that a cell of these parts meets, 0 for none. What a step only overwrites is not checked.
+fn cell_refusal<'a>(
+    p: DfnParams,
+    g: DfnConfig,
+    neg: &'a [f64; 512],
+    pos: &'a [f64; 512],
+    c_e: &'a [f64; 33],
+    time_s: f64,
+) -> u64
+    ensures { λ r. ⌜ r ≡ partsRefusal p g (now (neg .entry)) (now (pos .entry)) (now («c_e» .entry)) «time_s» ⌝ }
+{
+    if !g.grid_fits() {
+        return refusal::GRID;
     }
+    let fits = p.fit()
+        & g.limits_fit()
+        & solid_fits(neg, g.n_x_neg * g.n_r, p.c_s_neg_max)
+        & solid_fits(pos, g.n_x_pos * g.n_r, p.c_s_pos_max)
+        & electrolyte_fits(c_e, g.n_x_neg + 1 + g.n_x_pos)
+        & refusal::clock_fits(time_s);
+    refusal::refusal_unless(fits, refusal::SHEET)
+}
 
+// The number of the table that a current for an interval meets.
+fn load_refusal(current: f64, dt: f64) -> u64
+    ensures { λ r. ⌜ r ≡ loadRefusal current dt ⌝ }
+{
+    let load = refusal::refusal_unless(refusal::load_fits(current, 1e6), refusal::LOAD);
+    let interval = refusal::refusal_unless(refusal::interval_fits(dt), refusal::INTERVAL);
+    refusal::first_met(load, interval)
+}
+
+// The report of a step, by the salt before and after it, the new stoichiometries of the surfaces, the new clock and the current.
+fn report_of(
+    p: DfnParams,
+    g: DfnConfig,
+    old: &[f64; 33],
+    new: &[f64; 33],
+    theta_neg: f64,
+    theta_pos: f64,
+    time_s: f64,
+    current: f64,
+) -> DfnStep
+    requires { ⌜ Grid g × ((p .«ocv_neg_count» ≤ 16) × (p .«ocv_pos_count» ≤ 16)) ⌝ }
+    ensures { λ r. ⌜ r ≡ reportBy p g (now (old .entry)) (now (new .entry)) «theta_neg» «theta_pos» «time_s» current ⌝ }
+{
+    let mid = g.n_x_neg / 2;
+    let voltage = compute_voltage(p, theta_neg, theta_pos, new[mid], current);
+    DfnStep {
+        voltage,
+        current,
+        time_s,
+        theta_neg,
+        theta_pos,
+        delta_c_e_max: largest_change(new, old, g.n_x_neg + 1 + g.n_x_pos),
+        newton_iter: 1,
+        cutoff: (voltage < g.v_min) | (voltage > g.v_max),
+    }
+}
+
+// Whether the parts that a step moved and its report hold numbers alone.
+fn all_numbers<'a>(
+    g: DfnConfig,
+    neg: &'a [f64; 512],
+    pos: &'a [f64; 512],
+    c_e: &'a [f64; 33],
+    r: DfnStep,
+) -> bool
+    requires { ⌜ Grid g ⌝ }
+    ensures { λ b. ⌜ b ≡ partsFinite g (now (neg .entry)) (now (pos .entry)) (now («c_e» .entry)) r ⌝ }
+{
+    solid_finite(neg, g.n_x_neg * g.n_r)
+        & solid_finite(pos, g.n_x_pos * g.n_r)
+        & electrolyte_finite(c_e, g.n_x_neg + 1 + g.n_x_pos)
+        & refusal::is_finite(r.voltage)
+        & refusal::is_finite(r.current)
+        & refusal::is_finite(r.time_s)
+        & refusal::is_finite(r.theta_neg)
+        & refusal::is_finite(r.theta_pos)
+        & refusal::is_finite(r.delta_c_e_max)
+}
+
+// One step on the parts of a cell, their arrays moved in place; where it is refused they stay as they were.
+pub fn step_lent(
+    p: DfnParams,
+    g: DfnConfig,
+    time_s: f64,
+    neg: &mut [f64; 512],
+    pos: &mut [f64; 512],
+    c_e: &mut [f64; 33],
+    current: f64,
+    dt: f64,
+) -> DfnReported
+    ensures { λ r. ⌜ StepOf p g «time_s» (now (neg .entry)) (now (pos .entry)) (now («c_e» .entry)) current dt r (now (neg .exit)) (now (pos .exit)) (now («c_e» .exit)) ⌝ }
+{
+    let old_neg = *neg;
+    let old_pos = *pos;
+    let old_c_e = *c_e;
+    let unfit = cell_refusal(p, g, &old_neg, &old_pos, &old_c_e, time_s);
+    let number = refusal::first_met(unfit, load_refusal(current, dt));
+    if number != 0 {
+        return DfnReported {
+            refusal: number,
+            report: no_report(),
+        };
+    }
+    let anode = grain_of(p, p.anode(), g.n_r, -current, dt);
+    let cathode = grain_of(p, p.cathode(), g.n_r, current, dt);
+    let theta_neg = update_solid(anode, &old_neg, g.n_x_neg, neg);
+    let theta_pos = update_solid(cathode, &old_pos, g.n_x_pos, pos);
+    let new = update_electrolyte(p, g.n_x_neg, g.n_x_pos, &old_c_e, current, dt);
+    let report = report_of(
+        p,
+        g,
+        &old_c_e,
+        &new,
+        theta_neg,
+        theta_pos,
+        time_s + dt,
+        current,
+    );
+    if all_numbers(g, neg, pos, &new, report) {
+        *c_e = new;
+        return DfnReported { refusal: 0, report };
+    }
+    *neg = old_neg;
+    *pos = old_pos;
+    DfnReported {
+        refusal: refusal::NOT_FINITE,
+        report: no_report(),
+    }
+}
+
+impl DfnSolver {
     // The number of the table that a step meets before it is made.
     pub fn step_refusal(self, current: f64, dt: f64) -> u64
         ensures { λ r. ⌜ r ≡ stepRefusal self current dt ⌝ }
     {
-        let load = refusal::refusal_unless(refusal::load_fits(current, 1e6), refusal::LOAD);
-        let interval = refusal::refusal_unless(refusal::interval_fits(dt), refusal::INTERVAL);
-        refusal::first_met(self.refusal(), refusal::first_met(load, interval))
-    }
-
-    // What a step moves, all from the old cell.
-    fn moved(self, current: f64, dt: f64) -> Moved
-        requires { ⌜ Met self ⌝ }
-        ensures { λ r. ⌜ r ≡ movedBy self current dt ⌝ }
-    {
         let p = self.params;
         let g = self.config;
-        let c_e = self.c_e;
-        let neg = self.c_s_neg;
-        let pos = self.c_s_pos;
-        let salt = update_electrolyte(p, g.n_x_neg, g.n_x_pos, c_e, current, dt);
-        let anode = update_solid(grain_of(p, p.anode(), g.n_r, -current, dt), neg, g.n_x_neg);
-        let cathode = update_solid(grain_of(p, p.cathode(), g.n_r, current, dt), pos, g.n_x_pos);
-        Moved {
-            c_e: salt,
-            neg: anode,
-            pos: cathode,
-        }
-    }
-
-    // The report of a step.
-    fn report(self, m: Moved, current: f64, dt: f64) -> DfnStep
-        requires { ⌜ Met self ⌝ }
-        ensures { λ r. ⌜ r ≡ reportOf self m current dt ⌝ }
-    {
-        let p = self.params;
-        let g = self.config;
-        let old = self.c_e;
-        let new = m.c_e;
-        let neg = m.neg;
-        let pos = m.pos;
-        let mid = g.n_x_neg / 2;
-        let voltage = compute_voltage(p, neg.theta, pos.theta, new[mid], current);
-        DfnStep {
-            voltage,
-            current,
-            time_s: self.time_s + dt,
-            theta_neg: neg.theta,
-            theta_pos: pos.theta,
-            delta_c_e_max: largest_change(&new, &old, g.n_x_neg + 1 + g.n_x_pos),
-            newton_iter: 1,
-            cutoff: (voltage < g.v_min) | (voltage > g.v_max),
-        }
-    }
-
-    // The cell that a step leaves.
-    fn with(self, m: Moved, r: DfnStep) -> DfnSolver
-        ensures { λ q. ⌜ q ≡ cellWith self m r ⌝ }
-    {
-        let params = self.params;
-        let config = self.config;
-        let neg = m.neg;
-        let pos = m.pos;
-        let c_s_neg = neg.c;
-        let c_s_pos = pos.c;
-        let c_e = m.c_e;
-        DfnSolver {
-            params,
-            config,
-            c_s_neg,
-            c_s_pos,
-            c_e,
-            time_s: r.time_s,
-            voltage: r.voltage,
-            current: r.current,
-            theta_neg_surf: r.theta_neg,
-            theta_pos_surf: r.theta_pos,
-        }
-    }
-
-    // Whether the cell and the report of the step that left it hold numbers alone.
-    fn all_numbers(self, r: DfnStep) -> bool
-        requires { ⌜ Met self ⌝ }
-        ensures { λ b. ⌜ b ≡ allNumbers self r ⌝ }
-    {
-        let g = self.config;
-        let neg = self.c_s_neg;
-        let pos = self.c_s_pos;
-        let c_e = self.c_e;
-        solid_finite(&neg, g.n_x_neg * g.n_r)
-            & solid_finite(&pos, g.n_x_pos * g.n_r)
-            & electrolyte_finite(&c_e, g.n_x_neg + 1 + g.n_x_pos)
-            & refusal::is_finite(r.voltage)
-            & refusal::is_finite(r.current)
-            & refusal::is_finite(r.time_s)
-            & refusal::is_finite(r.theta_neg)
-            & refusal::is_finite(r.theta_pos)
-            & refusal::is_finite(r.delta_c_e_max)
+        let unfit = cell_refusal(p, g, &self.c_s_neg, &self.c_s_pos, &self.c_e, self.time_s);
+        refusal::first_met(unfit, load_refusal(current, dt))
     }
 
     // ---- calls
@@ -326,28 +348,36 @@ impl DfnSolver {
     pub fn step(self, current: f64, dt: f64) -> DfnAnswer
         ensures { λ r. ⌜ r ≡ stepped self current dt ⌝ }
     {
-        let number = self.step_refusal(current, dt);
-        if number != 0 {
+        let p = self.params;
+        let g = self.config;
+        let mut neg = self.c_s_neg;
+        let mut pos = self.c_s_pos;
+        let mut c_e = self.c_e;
+        let out = step_lent(p, g, self.time_s, &mut neg, &mut pos, &mut c_e, current, dt);
+        let report = out.report;
+        if out.refusal != 0 {
             return DfnAnswer {
-                refusal: number,
-                report: no_report(),
+                refusal: out.refusal,
+                report,
                 cell: self,
             };
         }
-        let m = self.moved(current, dt);
-        let report = self.report(m, current, dt);
-        let cell = self.with(m, report);
-        if cell.all_numbers(report) {
-            return DfnAnswer {
-                refusal: 0,
-                report,
-                cell,
-            };
-        }
+        let cell = DfnSolver {
+            params: p,
+            config: g,
+            c_s_neg: neg,
+            c_s_pos: pos,
+            c_e,
+            time_s: report.time_s,
+            voltage: report.voltage,
+            current: report.current,
+            theta_neg_surf: report.theta_neg,
+            theta_pos_surf: report.theta_pos,
+        };
         DfnAnswer {
-            refusal: refusal::NOT_FINITE,
-            report: no_report(),
-            cell: self,
+            refusal: out.refusal,
+            report,
+            cell,
         }
     }
 }

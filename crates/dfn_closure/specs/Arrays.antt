@@ -17,7 +17,7 @@ use Rattle.elementary.specs.Choice.{clampOf}
 use Rattle.refusal.specs.Ranges.{inRange, plusZero}
 use Rattle.turns.specs.Turns.{firstBy, allBelow, all-at, all-of, first-below, first-above}
 use Rattle.places.specs.Places.{placesBy, places-length, places-inside, places-before, places-after}
-use Rattle.dfn_places.specs.Places.{at, placeFits, solidFits, electrolyteFits, allFinite}
+use Rattle.dfn_places.specs.Places.{at, placeFits, solidFitsTo, solidFits, electrolyteFits, allFinite}
 use Rattle.dfn_solid.specs.declared.Grain.{Grain}
 use Rattle.dfn_solid.specs.Solid.{nodeWith, heldNode, particleWith, particlesWith}
 use Rattle.dfn_electrolyte.specs.declared.Region.{Region}
@@ -96,7 +96,7 @@ module _ (v : Grain) (c d : List Float) where
 
   pub solid-closed : (m : ℕ) → m * v .n ≤ 512 → T (finite (f64 0)) → T (finite (v .«c_max»)) → T (le (f64 0) (v .«c_max»))
       → T (solidFits c (m * v .n) (v .«c_max»)) → T (allFinite (particlesWith v c d m) (m * v .n)) → T (solidFits (particlesWith v c d m) (m * v .n) (v .«c_max»))
-  unfolding solidFits
+  unfolding solidFits solidFitsTo
   solid-closed m r z p q t f =
       let u = m * v .n in
       let out = particlesWith v c d m in

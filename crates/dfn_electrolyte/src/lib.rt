@@ -98,14 +98,14 @@ fn node(neg: Region, pos: Region, c: &[f64; 33], d: &[f64; 33], i: usize) -> f64
 }
 
 // Each node anew, held to 100 to 3,000.
-fn nodes(neg: Region, pos: Region, c: [f64; 33], d: &[f64; 33]) -> [f64; 33]
+fn nodes(neg: Region, pos: Region, c: &[f64; 33], d: &[f64; 33]) -> [f64; 33]
     requires { ⌜ (neg .n ≤ 16) × (pos .n ≤ 16) ⌝ }
-    ensures { λ r. ⌜ r ≡ nodesWith neg pos c (now (d .entry)) ⌝ }
+    ensures { λ r. ⌜ r ≡ nodesWith neg pos (now (c .entry)) (now (d .entry)) ⌝ }
 {
     let n = neg.n + 1 + pos.n;
-    let mut out = c;
+    let mut out = *c;
     for i in 0..n {
-        out[i] = elementary::clamp(node(neg, pos, &c, d, i), 100.0, 3000.0);
+        out[i] = elementary::clamp(node(neg, pos, c, d, i), 100.0, 3000.0);
     }
     out
 }
@@ -115,17 +115,17 @@ pub fn update_electrolyte(
     p: DfnParams,
     n_neg: usize,
     n_pos: usize,
-    c: [f64; 33],
+    c: &[f64; 33],
     current: f64,
     dt: f64,
 ) -> [f64; 33]
     requires { ⌜ («n_neg» ≤ 16) × («n_pos» ≤ 16) ⌝ }
-    ensures { λ r. ⌜ r ≡ electrolyteAfter p «n_neg» «n_pos» c current dt ⌝ }
+    ensures { λ r. ⌜ r ≡ electrolyteAfter p «n_neg» «n_pos» (now (c .entry)) current dt ⌝ }
 {
     let anode = p.anode();
     let cathode = p.cathode();
     let neg = region_of(p, anode, n_neg, anode.pore_flux(p.area, -current), dt);
     let pos = region_of(p, cathode, n_pos, cathode.pore_flux(p.area, current), dt);
-    let d = diffusivities(salt_of(p), &c, n_neg + 1 + n_pos);
+    let d = diffusivities(salt_of(p), c, n_neg + 1 + n_pos);
     nodes(neg, pos, c, &d)
 }

@@ -17,9 +17,13 @@ at c i = getD c i nan
 unfoldable pub placeFits : Float → Bool → Float → Float → Bool
 placeFits x used low high = cond used (inRange x low high) (plusZero x)
 
--- of 512 places the first n used, in 0 to the electrode's largest concentration
+-- the first k places, of which the first n are used, in 0 to the electrode's largest concentration
+unfoldable pub solidFitsTo : ℕ → List Float → ℕ → Float → Bool
+solidFitsTo k c n cmax = allBelow k (λ i. placeFits (at c i) (ltb i n) (f64 0) cmax)
+
+-- all 512 places
 unfoldable pub solidFits : List Float → ℕ → Float → Bool
-solidFits c n cmax = allBelow 512 (λ i. placeFits (at c i) (ltb i n) (f64 0) cmax)
+solidFits c n cmax = solidFitsTo 512 c n cmax
 
 -- of 33 places the first n used, in 1 to 1e5
 unfoldable pub electrolyteFits : List Float → ℕ → Bool

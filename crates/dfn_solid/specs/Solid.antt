@@ -11,7 +11,6 @@ use Rattle.elementary.specs.Choice.{clampOf, maxOf}
 use Rattle.turns.specs.Turns.{firstBy}
 use Rattle.places.specs.Places.{placesBy}
 use Rattle.dfn_solid.specs.declared.Grain.{Grain}
-use Rattle.dfn_solid.specs.declared.Solid.{Solid}
 
 abbrev pub at : List Float → ℕ → Float
 at c i = getD c i nan
@@ -84,6 +83,11 @@ module _ (v : Grain) (c d : List Float) where
 
 abbrev pub atLeastOne : ℕ → ℕ
 atLeastOne n = cond (eqb n 0) 1 n
+
+-- the particles, and the mean of their surface stoichiometries
+pub record Solid : Type 0 where
+  pub c : List Float
+  pub theta : Float
 
 -- with the diffusivities of the old places
 unfoldable pub solidAfter : Grain → List Float → ℕ → Solid

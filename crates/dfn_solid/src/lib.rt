@@ -15,12 +15,6 @@ pub struct Grain {
     pub dt: f64,
 }
 
-// The particles, and the mean of their surface stoichiometries.
-pub struct Solid {
-    pub c: [f64; 512],
-    pub theta: f64,
-}
-
 // The diffusivity at a concentration.
 pub fn d_s(v: Grain, c: f64) -> f64
     ensures { λ r. ⌜ r ≡ dSolid v c ⌝ }
@@ -105,21 +99,18 @@ fn at_least_one(n: usize) -> u64
     if n == 0 { 1 } else { n as u64 }
 }
 
-// The particles after the interval, `count` of them, and the mean of their surface stoichiometries.
-pub fn update_solid(v: Grain, c: [f64; 512], count: usize) -> Solid
-    requires { ⌜ (2 ≤ v .n) × ((v .n ≤ 32) × (count ≤ 16)) ⌝ }
-    ensures { λ r. ⌜ r ≡ solidAfter v c count ⌝ }
+// Puts `count` particles anew, from their old nodes, which stand in `out` too. Gives the mean of their surface stoichiometries.
+pub fn update_solid(v: Grain, c: &[f64; 512], count: usize, out: &mut [f64; 512]) -> f64
+    requires { ⌜ (2 ≤ v .n) × ((v .n ≤ 32) × ((count ≤ 16) × (now out ≡ now c))) ⌝ }
+    ensures { λ r. ⌜ r ≡ solidAfter v (now (c .entry)) count .theta ⌝ }
+    ensures { λ _. ⌜ now (out .exit) ≡ solidAfter v (now (c .entry)) count .c ⌝ }
 {
     let n = v.n;
-    let d = diffusivities(v, &c, count * n);
-    let mut out = c;
+    let d = diffusivities(v, c, count * n);
     let mut sum = 0.0;
     for i in 0..count {
-        move_particle(v, &c, &d, i * n, &mut out);
+        move_particle(v, c, &d, i * n, out);
         sum = sum + out[i * n + (n - 1)] / v.c_max;
     }
-    Solid {
-        c: out,
-        theta: sum / std::num::nearest_u64_to_f64(at_least_one(count)),
-    }
+    sum / std::num::nearest_u64_to_f64(at_least_one(count))
 }

@@ -145,7 +145,7 @@ fn run_refusal(w: Feed, s: SpmSolver, places: usize) -> u64
 {
     let grid = refusal::refusal_unless(s.grid_fits(), refusal::GRID);
     let length = refusal::refusal_unless(8 <= places, refusal::LENGTH);
-    let fields = refusal::refusal_unless(s.fields_fit(), refusal::SHEET);
+    let cell = s.refusal();
     let load = refusal::refusal_unless(refusal::load_fits(w.current_a, 1e6), refusal::LOAD);
     let times = refusal::interval_fits(w.dt) & refusal::is_finite(w.max_time_s);
     let interval = refusal::refusal_unless(times, refusal::INTERVAL);
@@ -156,7 +156,7 @@ fn run_refusal(w: Feed, s: SpmSolver, places: usize) -> u64
     let late = refusal::first_met(load, refusal::first_met(interval, temperature));
     refusal::first_met(
         grid,
-        refusal::first_met(length, refusal::first_met(fields, late)),
+        refusal::first_met(length, refusal::first_met(cell, late)),
     )
 }
 

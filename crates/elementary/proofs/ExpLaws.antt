@@ -1,10 +1,13 @@
 -- What `exp` and its loops meet their contracts by. Assumes nothing.
-use mathlib.Core.Path.{_≡_, refl, ap, _∙_}
-use mathlib.Core.Bool.{Bool, true, false, cond}
-use Prim.Native.Nat.{ℕ, zero, suc, _-_, _<_}
-use native.Mathlib.Nat.{lt-irrefl}
+use mathlib.Core.Path.{_≡_, refl, sym, ap, _∙_, subst}
+use mathlib.Core.Bool.{Bool, true, false, _||_, Bool·beq, cond, true≢false}
+use Prim.Native.Nat.{ℕ, zero, suc, _-_, _*_, _^_, _<_}
+use native.Mathlib.Nat.{lt-irrefl, mul-pos, zero-lt-suc, zero-mul, pow-succ'}
 use native.Mathlib.Omega.{arith}
-use lib.Ieee.{Float, inf, neg, lt, add, mul, div, round, ofInt, ofBits}
+use lib.Dec.{T, eqb, eqb→eq, lit<}
+use lib.IntN.{ℤ, pos, negsuc}
+use lib.Ieee.{Float, nan, inf, fin, binary64, up, down, neg, lt, eq, add, mul, div, round, ofInt, ofBits, fits}
+use lib.Ieee.Fits.{and-l, up-pos}
 use Rattle.binary64.specs.Operators.{_⊕_, _⊗_, _⊘_, f64, count}
 use Rattle.elementary.specs.Exp.{one, series, squarings, powered, expOf, highest, lowest, scale}
 
@@ -48,3 +51,33 @@ powered-is t = refl
 pub exp-0 : expOf (f64 0) ≡ one
 unfolding expOf powered series squarings neg lt add mul div round ofInt ofBits
 exp-0 = refl
+
+-- ---- of each zero
+exp-of-zero : (s : Bool) → expOf (fin s 0 (pos 0)) ≡ one
+unfolding expOf powered series squarings neg lt add mul div round ofInt ofBits
+exp-of-zero true = refl
+exp-of-zero false = refl
+
+zero-exponent : (s : Bool) (e : ℤ) → T (fits binary64 (fin s 0 e)) → e ≡ pos 0
+unfolding fits
+zero-exponent s (pos zero) f = refl
+zero-exponent s (pos (suc k)) f = absurd (not-one (2 ^ suc k) (2 ^ k) (pow-succ' 2 k) (eqb→eq (2 ^ suc k * 1) 1 f))
+  where
+    not-one : (x y : ℕ) → x ≡ 2 * y → x * 1 ≡ 1 → ⊥
+    not-one x y e h = omega arith
+zero-exponent s (negsuc k) f = absurd (not-one (2 ^ suc k) (2 ^ k) (pow-succ' 2 k) (eqb→eq (1 * 2 ^ suc k) 1 f))
+  where
+    not-one : (x y : ℕ) → x ≡ 2 * y → 1 * x ≡ 1 → ⊥
+    not-one x y e h = omega arith
+
+pub exp-zero : (t : Float) → T (fits binary64 t) → eq t (f64 0) ≡ true → expOf t ≡ one
+unfolding eq ofBits
+exp-zero nan f h = absurd (true≢false (sym h))
+exp-zero (inf s) f h = absurd (true≢false (sym h))
+exp-zero (fin s zero e) f h = ap (λ (d : ℤ). expOf (fin s 0 d)) (zero-exponent s e f) ∙ exp-of-zero s
+exp-zero (fin s (suc m) e) f h = absurd (lt-irrefl 0 (subst (λ (n : ℕ). 0 < n) nothing (mul-pos (mul-pos (zero-lt-suc m) (up-pos e)) (lit< tt))))
+  where
+    nothing : suc m * up e * 1 ≡ 0
+    nothing =
+        let z = 0 * 1 * down e in
+        eqb→eq (suc m * up e * 1) z (and-l (eqb (suc m * up e * 1) z) (Bool·beq s false || eqb (suc m * up e * 1) 0) (subst T (sym h) tt)) ∙ zero-mul (down e)

@@ -42,6 +42,10 @@ fn exp_squarings(a: f64) -> f64
 pub fn exp(t: f64) -> f64
     ensures { λ r. ⌜ r ≡ expOf t ⌝ }
 {
+    // The Arrhenius factor at the reference temperature, without the series' divisions.
+    if t == 0.0 {
+        return 1.0;
+    }
     if t > 709.0 {
         return f64::from_bits(0x7ff0_0000_0000_0000);
     }

@@ -1,9 +1,10 @@
 // The kinetics of a single-particle cell: its configuration, the flux at the particles' walls, the overpotential and the
 // terminal voltage. A changed translation of src/battery/p2d/solver.rs.
 use electrode::ElectrodeParams;
-use particle::ParticleDiffusion;
+use particle::surface_theta;
 ghost use mathlib.Core.Path.{_≡_};
 ghost use Prim.Native.Nat.{_≤_};
+ghost use Rattle.particle.specs.Particle.{particleOf};
 ghost use Rattle.kinetics.specs.Kinetics.{configFits, wallCurrent, exchange, overpotential, terminalVoltage};
 
 pub struct SpmConfig {
@@ -46,21 +47,28 @@ pub fn wall_current(p: ElectrodeParams, faraday: f64) -> f64
 }
 
 // The exchange current density at a particle's surface, mol/(m^2 s), with the electrolyte at 1,000 mol/m^3.
-fn exchange_current(p: ParticleDiffusion) -> f64
-    requires { ⌜ (3 ≤ p .«n_nodes») × (p .«n_nodes» ≤ 64) ⌝ }
-    ensures { λ r. ⌜ r ≡ exchange p ⌝ }
+fn exchange_current(params: ElectrodeParams, n: usize, c: &[f64; 64]) -> f64
+    requires { ⌜ (3 ≤ n) × (n ≤ 64) ⌝ }
+    ensures { λ r. ⌜ r ≡ exchange (particleOf params n (now (c .entry))) ⌝ }
 {
-    let theta_s = elementary::clamp(p.surface_theta(), 0.01, 0.99);
-    let c_ss = theta_s * p.params.c_s_max;
-    p.params.k_bv * square_root::sqrt(c_ss * (p.params.c_s_max - c_ss) * 1000.0)
+    let theta_s = elementary::clamp(surface_theta(params, n, c), 0.01, 0.99);
+    let c_ss = theta_s * params.c_s_max;
+    params.k_bv * square_root::sqrt(c_ss * (params.c_s_max - c_ss) * 1000.0)
 }
 
 // The Butler-Volmer overpotential at a flux, symmetric, V.
-pub fn bv_overpotential(config: SpmConfig, j_n: f64, p: ParticleDiffusion, temp_k: f64) -> f64
-    requires { ⌜ (3 ≤ p .«n_nodes») × (p .«n_nodes» ≤ 64) ⌝ }
-    ensures { λ r. ⌜ r ≡ overpotential config «j_n» p «temp_k» ⌝ }
+pub fn bv_overpotential(
+    config: SpmConfig,
+    j_n: f64,
+    params: ElectrodeParams,
+    n: usize,
+    c: &[f64; 64],
+    temp_k: f64,
+) -> f64
+    requires { ⌜ (3 ≤ n) × (n ≤ 64) ⌝ }
+    ensures { λ r. ⌜ r ≡ overpotential config «j_n» (particleOf params n (now (c .entry))) «temp_k» ⌝ }
 {
-    let i_0_mol = exchange_current(p);
+    let i_0_mol = exchange_current(params, n, c);
     if i_0_mol < 1e-30 {
         return 0.0;
     }

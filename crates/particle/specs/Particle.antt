@@ -10,18 +10,26 @@ use Rattle.profile.specs.Weights.{shares, content}
 use Rattle.profile.specs.Sums.{sumsAfter, sums-are}
 use Rattle.profile.specs.declared.Sums.{Sums}
 use Rattle.diffusion.specs.SubStep.{Drive}
+use Rattle.electrode.specs.declared.ElectrodeParams.{ElectrodeParams}
 use Rattle.electrode.specs.Curves.{openCircuit}
 use Rattle.particle.specs.declared.ParticleDiffusion.{ParticleDiffusion}
+
+abbrev pub particleOf : ElectrodeParams → ℕ → List Float → ParticleDiffusion
+particleOf e n c = record { params = e; «n_nodes» = n; «c_s» = c }
 
 -- r_particle / (n - 1)
 unfoldable pub spacing : ParticleDiffusion → Float
 spacing p = p .params .«r_particle» ⊘ count (p .«n_nodes» - 1)
 
+-- r is the spacing, whatever the profile
+abbrev pub SpacingOf : ElectrodeParams → ℕ → Float → Type 0
+SpacingOf e n r = (c : List Float) → r ≡ spacing (particleOf e n c)
+
 abbrev pub placeOf : ParticleDiffusion → ℕ → Float
 placeOf p i = getD (p .«c_s») i nan
 
 abbrev pub withProfile : ParticleDiffusion → List Float → ParticleDiffusion
-withProfile p c = record { params = p .params; «n_nodes» = p .«n_nodes»; «c_s» = c }
+withProfile p c = particleOf (p .params) (p .«n_nodes») c
 
 -- what a sub-step of the length dt works with, by a diffusivity and a flux
 abbrev pub driveWith : ParticleDiffusion → Float → Float → Float → Drive
@@ -38,6 +46,10 @@ surfacePotential p = openCircuit (p .params) (surfaceTheta p)
 -- 0.5 * dr * dr / d_s
 unfoldable pub stableStep : ParticleDiffusion → Float → Float
 stableStep p ds = f64 0x3fe0_0000_0000_0000 ⊗ spacing p ⊗ spacing p ⊘ ds
+
+-- r is that interval, whatever the profile
+abbrev pub StableStepOf : ElectrodeParams → ℕ → Float → Float → Type 0
+StableStepOf e n ds r = (c : List Float) → r ≡ stableStep (particleOf e n c) ds
 
 -- ---- the average over the volume
 -- 3 * sum / (R * R * R) * dr / 3; the centre's value where the shares add up to less than 1e-30

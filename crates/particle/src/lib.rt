@@ -9,6 +9,7 @@ use refusal::Answer;
 use sub_step::count_f64;
 use sub_step::inverse_radii;
 use sub_step::prepare;
+use sub_step::sub_step;
 use sub_step::sub_steps;
 ghost use mathlib.Core.Path.{_≡_};
 ghost use Prim.Native.Nat.{_≤_};
@@ -16,7 +17,7 @@ ghost use Rattle.refusal.specs.Answers.{said};
 ghost use Rattle.turns.specs.Turns.{times};
 ghost use Rattle.diffusion.specs.SubStep.{subStep};
 ghost use Rattle.particle.specs.Checks.{fieldsFit, particleRefusal};
-ghost use Rattle.particle.specs.Particle.{spacing, driveWith, surfaceTheta, surfacePotential, stableStep, average, averageTheta};
+ghost use Rattle.particle.specs.Particle.{particleOf, SpacingOf, driveWith, surfaceTheta, surfacePotential, StableStepOf, average, averageTheta};
 ghost use Rattle.particle.specs.Calls.{fresh, noParticle, made, stepRefusal, accepted, stepped, dtStable, thetaSurface, thetaAvg, cAvg, ocpSurface};
 
 pub struct ParticleDiffusion {
@@ -33,18 +34,103 @@ pub struct ParticleAnswer {
     pub particle: ParticleDiffusion,
 }
 
-impl ParticleDiffusion {
-    // ---- parts of a particle that fits
+// ---- parts of a particle that fits: its sheet, its count of nodes and its profile, which is lent
 
-    // Whether the sheet and the profile are as they must be.
-    pub fn fields_fit(self) -> bool
-        ensures { λ r. ⌜ r ≡ fieldsFit self ⌝ }
-    {
-        let params = self.params;
-        let c_s = self.c_s;
-        params.fits() & profile_fits(c_s, self.n_nodes, params.c_s_max)
+// Whether the sheet and the profile are as they must be.
+pub fn fields_fit(params: ElectrodeParams, n: usize, c: &[f64; 64]) -> bool
+    requires { ⌜ n ≤ 64 ⌝ }
+    ensures { λ r. ⌜ r ≡ fieldsFit (particleOf params n (now (c .entry))) ⌝ }
+{
+    params.fits() & profile_fits(c, n, params.c_s_max)
+}
+
+// The distance between two nodes.
+fn spacing(params: ElectrodeParams, n: usize) -> f64
+    requires { ⌜ (3 ≤ n) × (n ≤ 64) ⌝ }
+    ensures { λ r. ⌜ SpacingOf params n r ⌝ }
+{
+    params.r_particle / count_f64(n - 1)
+}
+
+// The stoichiometry at the surface.
+pub fn surface_theta(params: ElectrodeParams, n: usize, c: &[f64; 64]) -> f64
+    requires { ⌜ (3 ≤ n) × (n ≤ 64) ⌝ }
+    ensures { λ r. ⌜ r ≡ surfaceTheta (particleOf params n (now (c .entry))) ⌝ }
+{
+    let last = n - 1;
+    c[last] / params.c_s_max
+}
+
+// The open-circuit potential at the surface.
+pub fn surface_potential(params: ElectrodeParams, n: usize, c: &[f64; 64]) -> f64
+    requires { ⌜ (3 ≤ n) × (n ≤ 64) ⌝ }
+    ensures { λ r. ⌜ r ≡ surfacePotential (particleOf params n (now (c .entry))) ⌝ }
+{
+    params.open_circuit(surface_theta(params, n, c))
+}
+
+// The longest stable interval at a diffusivity.
+pub fn stable_step(params: ElectrodeParams, n: usize, d_s: f64) -> f64
+    requires { ⌜ (3 ≤ n) × (n ≤ 64) ⌝ }
+    ensures { λ r. ⌜ StableStepOf params n «d_s» r ⌝ }
+{
+    let dr = spacing(params, n);
+    0.5 * dr * dr / d_s
+}
+
+// The average concentration.
+pub fn average(params: ElectrodeParams, n: usize, c: &[f64; 64]) -> f64
+    requires { ⌜ (3 ≤ n) × (n ≤ 64) ⌝ }
+    ensures { λ r. ⌜ r ≡ average (particleOf params n (now (c .entry))) ⌝ }
+{
+    let r_max = params.r_particle;
+    let dr = spacing(params, n);
+    let s = sums_of(c, n, dr);
+    if s.shares < 1e-30 {
+        return c[0];
     }
+    3.0 * s.content / (r_max * r_max * r_max) * dr / 3.0
+}
 
+// The average stoichiometry.
+pub fn average_theta(params: ElectrodeParams, n: usize, c: &[f64; 64]) -> f64
+    requires { ⌜ (3 ≤ n) × (n ≤ 64) ⌝ }
+    ensures { λ r. ⌜ r ≡ averageTheta (particleOf params n (now (c .entry))) ⌝ }
+{
+    average(params, n, c) / params.c_s_max
+}
+
+// The profile after one sub-step of the length dt.
+fn after(params: ElectrodeParams, n: usize, c: [f64; 64], d_s: f64, j_n: f64, dt: f64) -> [f64; 64]
+    requires { ⌜ (3 ≤ n) × (n ≤ 64) ⌝ }
+    ensures { λ r. ⌜ r ≡ subStep (driveWith (particleOf params n c) «d_s» «j_n» dt) c ⌝ }
+{
+    let dr = spacing(params, n);
+    let v = prepare(n, dr, d_s, params.c_s_max, j_n, dt);
+    let w = inverse_radii(n, dr);
+    sub_step(v, &w, c)
+}
+
+// So many sub-steps of the length dt, in place.
+pub fn advance(
+    params: ElectrodeParams,
+    n: usize,
+    c: &mut [f64; 64],
+    d_s: f64,
+    j_n: f64,
+    dt: f64,
+    turns: usize,
+)
+    requires { ⌜ (3 ≤ n) × (n ≤ 64) ⌝ }
+    ensures { λ _. ⌜ now (c .exit) ≡ times turns (subStep (driveWith (particleOf params n (now (c .entry))) «d_s» «j_n» dt)) (now (c .entry)) ⌝ }
+{
+    let dr = spacing(params, n);
+    let v = prepare(n, dr, d_s, params.c_s_max, j_n, dt);
+    let w = inverse_radii(n, dr);
+    sub_steps(v, &w, c, turns);
+}
+
+impl ParticleDiffusion {
     // The number of the table that the particle meets, 0 for none.
     pub fn refusal(self) -> u64
         ensures { λ r. ⌜ r ≡ particleRefusal self ⌝ }
@@ -53,81 +139,11 @@ impl ParticleDiffusion {
             refusal::count_within(self.n_nodes as u64, 3, 64),
             refusal::GRID,
         );
-        refusal::first_met(
-            few,
-            refusal::refusal_unless(self.fields_fit(), refusal::SHEET),
-        )
-    }
-
-    // The distance between two nodes.
-    pub fn spacing(self) -> f64
-        requires { ⌜ (3 ≤ self .«n_nodes») × (self .«n_nodes» ≤ 64) ⌝ }
-        ensures { λ r. ⌜ r ≡ spacing self ⌝ }
-    {
-        self.params.r_particle / count_f64(self.n_nodes - 1)
-    }
-
-    // The stoichiometry at the surface.
-    pub fn surface_theta(self) -> f64
-        requires { ⌜ (3 ≤ self .«n_nodes») × (self .«n_nodes» ≤ 64) ⌝ }
-        ensures { λ r. ⌜ r ≡ surfaceTheta self ⌝ }
-    {
-        let last = self.n_nodes - 1;
-        self.c_s[last] / self.params.c_s_max
-    }
-
-    // The open-circuit potential at the surface.
-    pub fn surface_potential(self) -> f64
-        requires { ⌜ (3 ≤ self .«n_nodes») × (self .«n_nodes» ≤ 64) ⌝ }
-        ensures { λ r. ⌜ r ≡ surfacePotential self ⌝ }
-    {
-        let params = self.params;
-        params.open_circuit(self.surface_theta())
-    }
-
-    // The longest stable interval at a diffusivity.
-    pub fn stable_step(self, d_s: f64) -> f64
-        requires { ⌜ (3 ≤ self .«n_nodes») × (self .«n_nodes» ≤ 64) ⌝ }
-        ensures { λ r. ⌜ r ≡ stableStep self «d_s» ⌝ }
-    {
-        let dr = self.spacing();
-        0.5 * dr * dr / d_s
-    }
-
-    // The average concentration.
-    pub fn average(self) -> f64
-        requires { ⌜ (3 ≤ self .«n_nodes») × (self .«n_nodes» ≤ 64) ⌝ }
-        ensures { λ r. ⌜ r ≡ average self ⌝ }
-    {
-        let r_max = self.params.r_particle;
-        let dr = self.spacing();
-        let c_s = self.c_s;
-        let s = sums_of(c_s, self.n_nodes, dr);
-        if s.shares < 1e-30 {
-            return c_s[0];
+        if few != 0 {
+            return few;
         }
-        3.0 * s.content / (r_max * r_max * r_max) * dr / 3.0
-    }
-
-    // The average stoichiometry.
-    pub fn average_theta(self) -> f64
-        requires { ⌜ (3 ≤ self .«n_nodes») × (self .«n_nodes» ≤ 64) ⌝ }
-        ensures { λ r. ⌜ r ≡ averageTheta self ⌝ }
-    {
-        self.average() / self.params.c_s_max
-    }
-
-    // The profile after so many sub-steps of the length dt.
-    pub fn after(self, d_s: f64, j_n: f64, dt: f64, turns: usize) -> [f64; 64]
-        requires { ⌜ (3 ≤ self .«n_nodes») × (self .«n_nodes» ≤ 64) ⌝ }
-        ensures { λ r. ⌜ r ≡ times turns (subStep (driveWith self «d_s» «j_n» dt)) (self .«c_s») ⌝ }
-    {
-        let n = self.n_nodes;
-        let dr = self.spacing();
-        let v = prepare(n, dr, d_s, self.params.c_s_max, j_n, dt);
-        let w = inverse_radii(n, dr);
-        let c_s = self.c_s;
-        sub_steps(v, &w, c_s, turns)
+        let fits = fields_fit(self.params, self.n_nodes, &self.c_s);
+        refusal::refusal_unless(fits, refusal::SHEET)
     }
 
     // ---- calls
@@ -181,7 +197,7 @@ impl ParticleDiffusion {
     fn accepted(self, c_s: [f64; 64]) -> ParticleAnswer
         ensures { λ r. ⌜ r ≡ accepted self «c_s» ⌝ }
     {
-        if profile_finite(c_s) {
+        if profile_finite(&c_s) {
             let params = self.params;
             return ParticleAnswer {
                 refusal: 0,
@@ -210,7 +226,9 @@ impl ParticleDiffusion {
             };
         }
         let params = self.params;
-        let c_s = self.after(params.diffusivity_at(temp_k), j_n, dt, 1);
+        let d_s = params.diffusivity_at(temp_k);
+        let old = self.c_s;
+        let c_s = after(params, self.n_nodes, old, d_s, j_n, dt);
         self.accepted(c_s)
     }
 
@@ -227,7 +245,8 @@ impl ParticleDiffusion {
             return refusal::answered(number, 0.0);
         }
         let params = self.params;
-        refusal::answered(number, self.stable_step(params.diffusivity_at(temp_k)))
+        let d_s = params.diffusivity_at(temp_k);
+        refusal::answered(number, stable_step(params, self.n_nodes, d_s))
     }
 
     // Stoichiometry at the surface.
@@ -238,7 +257,7 @@ impl ParticleDiffusion {
         if number != 0 {
             return refusal::answered(number, 0.0);
         }
-        refusal::answered(number, self.surface_theta())
+        refusal::answered(number, surface_theta(self.params, self.n_nodes, &self.c_s))
     }
 
     // Average stoichiometry.
@@ -249,7 +268,7 @@ impl ParticleDiffusion {
         if number != 0 {
             return refusal::answered(number, 0.0);
         }
-        refusal::answered(number, self.average_theta())
+        refusal::answered(number, average_theta(self.params, self.n_nodes, &self.c_s))
     }
 
     // Average concentration, mol/m^3.
@@ -260,7 +279,7 @@ impl ParticleDiffusion {
         if number != 0 {
             return refusal::answered(number, 0.0);
         }
-        refusal::answered(number, self.average())
+        refusal::answered(number, average(self.params, self.n_nodes, &self.c_s))
     }
 
     // Open-circuit potential at the surface, V.
@@ -271,7 +290,10 @@ impl ParticleDiffusion {
         if number != 0 {
             return refusal::answered(number, 0.0);
         }
-        refusal::answered(number, self.surface_potential())
+        refusal::answered(
+            number,
+            surface_potential(self.params, self.n_nodes, &self.c_s),
+        )
     }
 }
 

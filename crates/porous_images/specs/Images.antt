@@ -140,15 +140,18 @@ cellAt s = record {
   «theta_pos_surf» = floatAt s 1125;
 }
 
-abbrev pub lastNumbers : DfnSolver → List Float
-lastNumbers d = d .«time_s» ∷ d .voltage ∷ d .current ∷ d .«theta_neg_surf» ∷ d .«theta_pos_surf» ∷ []
+-- parameters, configuration, both electrodes, the electrolyte
+abbrev pub putCellPlaces : List ℕ → DfnParams → DfnConfig → List Float → List Float → List Float → List ℕ
+putCellPlaces s p g neg pos e = putRow (putRow (putRow (putConfig (putParams s p) g) 64 neg) 576 pos) 1088 e
+
+-- clock, voltage, current, stoichiometries of the surfaces
+abbrev pub putLast : List ℕ → Float → Float → Float → Float → Float → List ℕ
+putLast s time v i neg pos = putRow s 1121 (time ∷ v ∷ i ∷ neg ∷ pos ∷ [])
 
 unfoldable pub putCell : List ℕ → DfnSolver → List ℕ
 putCell s d =
-    putRow
-    (putRow (putRow (putRow (putConfig (putParams s (d .params)) (d .config)) 64 (d .«c_s_neg»)) 576 (d .«c_s_pos»)) 1088 (d .«c_e»))
-    1121
-    (lastNumbers d)
+    putLast (putCellPlaces s (d .params) (d .config) (d .«c_s_neg») (d .«c_s_pos») (d .«c_e»))
+    (d .«time_s») (d .voltage) (d .current) (d .«theta_neg_surf») (d .«theta_pos_surf»)
 
 -- ---- after the cell: the report of a step
 

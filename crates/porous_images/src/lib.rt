@@ -1,8 +1,6 @@
 // Electrolytes and Doyle-Fuller-Newman cells as images: words in a string of bytes, in the order of the records' fields.
 use codec::flag;
-use codec::read_places;
 use codec::read_word;
-use codec::write_places;
 use codec::write_word;
 use dfn::DfnSolver;
 use dfn::DfnStep;
@@ -10,8 +8,12 @@ use dfn_parameters::DfnConfig;
 use dfn_parameters::DfnParams;
 use electrolyte::ElectrolyteState;
 use electrolyte_parameters::ElectrolyteParams;
+use image_rows::fill_33;
+use image_rows::fill_512;
+use image_rows::read_places;
+use image_rows::write_places;
 ghost use mathlib.Core.Path.{_≡_};
-ghost use Rattle.porous_images.specs.Images.{saltAt, putSalt, electrolyteAt, putElectrolyte, paramsOf, paramsAt, putParams, configAt, putConfig, cellAt, putCell, putReport};
+ghost use Rattle.porous_images.specs.Images.{saltAt, putSalt, electrolyteAt, putElectrolyte, paramsOf, paramsAt, putParams, configAt, putConfig, cellAt, putCellPlaces, putLast, putCell, putReport};
 
 // The electrolyte's parameters in the first seven words.
 pub fn salt_at(s: &[u8]) -> ElectrolyteParams
@@ -72,15 +74,13 @@ pub fn electrolyte_at(s: &[u8]) -> ElectrolyteState
 pub fn put_electrolyte(s: &mut [u8], e: ElectrolyteState)
     ensures { λ _. ⌜ now (s .exit) ≡ putElectrolyte (now (s .entry)) e ⌝ }
 {
-    let params = e.params;
-    let c_e = e.c_e;
     let x = [e.l_neg, e.l_sep, e.l_pos, e.eps_neg, e.eps_sep, e.eps_pos];
-    put_salt(s, params);
+    put_salt(s, e.params);
     write_places(s, 7, &x);
     write_word(s, 13, e.n_neg as u64);
     write_word(s, 14, e.n_sep as u64);
     write_word(s, 15, e.n_pos as u64);
-    codec::put_96(s, 16, c_e);
+    write_places(s, 16, &e.c_e);
 }
 
 // The parameters from their 25 numbers in the record's order, and each electrode's coefficients with their count.
@@ -148,8 +148,6 @@ pub fn params_at(s: &[u8]) -> DfnParams
 pub fn put_params(s: &mut [u8], p: DfnParams)
     ensures { λ _. ⌜ now (s .exit) ≡ putParams (now (s .entry)) p ⌝ }
 {
-    let neg = p.ocv_neg_coeffs;
-    let pos = p.ocv_pos_coeffs;
     let x = [
         p.l_neg,
         p.l_sep,
@@ -179,9 +177,9 @@ pub fn put_params(s: &mut [u8], p: DfnParams)
     ];
     write_places(s, 0, &x);
     write_word(s, 25, p.ocv_neg_count as u64);
-    codec::put_16(s, 26, neg);
+    write_places(s, 26, &p.ocv_neg_coeffs);
     write_word(s, 42, p.ocv_pos_count as u64);
-    codec::put_16(s, 43, pos);
+    write_places(s, 43, &p.ocv_pos_coeffs);
 }
 
 // The grid and the voltage limits in words 59 to 63.
@@ -213,47 +211,69 @@ pub fn cell_at(s: &[u8]) -> DfnSolver
 {
     let params = params_at(s);
     let config = config_at(s);
-    let mut c_s_neg = [0.0; 512];
-    read_places(s, 64, &mut c_s_neg);
-    let mut c_s_pos = [0.0; 512];
-    read_places(s, 576, &mut c_s_pos);
-    let mut c_e = [0.0; 33];
-    read_places(s, 1088, &mut c_e);
-    DfnSolver {
+    let mut cell = DfnSolver {
         params,
         config,
-        c_s_neg,
-        c_s_pos,
-        c_e,
+        c_s_neg: [0.0; 512],
+        c_s_pos: [0.0; 512],
+        c_e: [0.0; 33],
         time_s: codec::read_f64(s, 1121),
         voltage: codec::read_f64(s, 1122),
         current: codec::read_f64(s, 1123),
         theta_neg_surf: codec::read_f64(s, 1124),
         theta_pos_surf: codec::read_f64(s, 1125),
-    }
+    };
+    fill_512(s, 64, &mut cell.c_s_neg);
+    fill_512(s, 576, &mut cell.c_s_pos);
+    fill_33(s, 1088, &mut cell.c_e);
+    cell
+}
+
+// Writes a cell but for its last five words; the arrays are lent.
+pub fn put_places<'a>(
+    s: &mut [u8],
+    p: DfnParams,
+    g: DfnConfig,
+    neg: &'a [f64; 512],
+    pos: &'a [f64; 512],
+    c_e: &'a [f64; 33],
+)
+    ensures { λ _. ⌜ now (s .exit) ≡ putCellPlaces (now (s .entry)) p g (now (neg .entry)) (now (pos .entry)) (now («c_e» .entry)) ⌝ }
+{
+    put_params(s, p);
+    put_config(s, g);
+    write_places(s, 64, neg);
+    write_places(s, 576, pos);
+    write_places(s, 1088, c_e);
+}
+
+// Writes a cell's last five words: clock, voltage, current, stoichiometries of the surfaces.
+pub fn put_last(
+    s: &mut [u8],
+    time_s: f64,
+    voltage: f64,
+    current: f64,
+    theta_neg: f64,
+    theta_pos: f64,
+)
+    ensures { λ _. ⌜ now (s .exit) ≡ putLast (now (s .entry)) «time_s» voltage current «theta_neg» «theta_pos» ⌝ }
+{
+    let x = [time_s, voltage, current, theta_neg, theta_pos];
+    write_places(s, 1121, &x);
 }
 
 pub fn put_cell(s: &mut [u8], d: DfnSolver)
     ensures { λ _. ⌜ now (s .exit) ≡ putCell (now (s .entry)) d ⌝ }
 {
-    let params = d.params;
-    let config = d.config;
-    let c_s_neg = d.c_s_neg;
-    let c_s_pos = d.c_s_pos;
-    let c_e = d.c_e;
-    let x = [
+    put_places(s, d.params, d.config, &d.c_s_neg, &d.c_s_pos, &d.c_e);
+    put_last(
+        s,
         d.time_s,
         d.voltage,
         d.current,
         d.theta_neg_surf,
         d.theta_pos_surf,
-    ];
-    put_params(s, params);
-    put_config(s, config);
-    codec::put_512(s, 64, c_s_neg);
-    codec::put_512(s, 576, c_s_pos);
-    codec::put_33(s, 1088, c_e);
-    write_places(s, 1121, &x);
+    );
 }
 
 // Writes a step's report after the cell.

@@ -13,8 +13,12 @@ use Rattle.turns.specs.Turns.{firstBy, allBelow}
 unfoldable pub placeFits : Float → Bool → Float → Bool
 placeFits x used cmax = cond used (inRange x (f64 0) cmax) (plusZero x)
 
+-- the first k places, of which those below n are used
+abbrev pub placesFit : ℕ → List Float → ℕ → Float → Bool
+placesFit k c n cmax = allBelow k (λ i. placeFits (getD c i nan) (ltb i n) cmax)
+
 unfoldable pub profileFits : List Float → ℕ → Float → Bool
-profileFits c n cmax = allBelow 64 (λ i. placeFits (getD c i nan) (ltb i n) cmax)
+profileFits c n cmax = placesFit 64 c n cmax
 
 -- every place a number
 unfoldable pub finiteProfile : List Float → Bool

@@ -5,14 +5,18 @@ use mathlib.Core.List.{List}
 use lib.ListN.{getD}
 use lib.Ieee.{Float, nan}
 use Rattle.binary64.specs.Operators.{_⊕_, _⊗_, f64}
-use Rattle.profile.specs.Weights.{share, shares, content}
+use Rattle.profile.specs.Weights.{weight, shareBy, shares, content}
 use Rattle.profile.specs.declared.Sums.{Sums}
 
 abbrev pub bothSums : Float → Float → Sums
 bothSums s c = record { shares = s; content = c }
 
+-- with a place of the weight w
+abbrev pub addedBy : Sums → Float → Float → ℕ → Float → Sums
+addedBy s w dr i c = bothSums (s .shares ⊕ shareBy w dr i) (s .content ⊕ shareBy w dr i ⊗ c)
+
 abbrev pub addedTo : Sums → ℕ → Float → ℕ → Float → Sums
-addedTo s n dr i c = bothSums (s .shares ⊕ share n dr i) (s .content ⊕ share n dr i ⊗ c)
+addedTo s n dr i c = addedBy s (weight n i) dr i c
 
 unfoldable pub sumsAfter : List Float → ℕ → Float → ℕ → Sums
 sumsAfter c n dr zero = bothSums (f64 0) (f64 0)

@@ -1,21 +1,31 @@
 -- The weights of the average over a particle's volume, and its two sums: for odd n Simpson's rule, for even n not. Definitions only.
-use Prim.Native.Nat.{ℕ, zero, suc, _-_, _%_}
+use Prim.Native.Nat.{ℕ, zero, suc, _-_, _%_, _<_}
+use mathlib.Core.Path.{_≡_}
+use mathlib.Core.List.{List}
 use mathlib.Core.Bool.{cond, _||_}
 use lib.Dec.{eqb}
-use lib.Ieee.{Float}
+use lib.ListN.{getD}
+use lib.Ieee.{Float, nan}
 use Rattle.binary64.specs.Operators.{_⊕_, _⊗_, f64, count}
 
 -- the weight of an inner place: 2 at an even one, 4 at an odd one
 unfoldable pub innerWeight : ℕ → Float
 innerWeight i = f64 (cond (eqb (i % 2) 0) 0x4000_0000_0000_0000 0x4010_0000_0000_0000)
 
+-- a table of the weights of all inner places
+abbrev pub AreInnerWeights : List Float → Type 0
+AreInnerWeights l = (i : ℕ) → i < 64 → getD l i nan ≡ innerWeight i
+
 -- 1 at both ends
 unfoldable pub weight : ℕ → ℕ → Float
 weight n i = cond (eqb i 0 || eqb i (n - 1)) (f64 0x3ff0_0000_0000_0000) (innerWeight i)
 
 -- w * r * r, r = i * dr
+abbrev pub shareBy : Float → Float → ℕ → Float
+shareBy w dr i = w ⊗ (count i ⊗ dr) ⊗ (count i ⊗ dr)
+
 abbrev pub share : ℕ → Float → ℕ → Float
-share n dr i = weight n i ⊗ (count i ⊗ dr) ⊗ (count i ⊗ dr)
+share n dr i = shareBy (weight n i) dr i
 
 -- the sums after k places: of the shares, and of the shares with the concentrations
 unfoldable pub shares : ℕ → Float → ℕ → Float

@@ -3,9 +3,9 @@
 use sub_step::count_f64;
 ghost use mathlib.Core.Path.{_≡_};
 ghost use Prim.Native.Nat.{_≤_, _<_};
-ghost use Rattle.profile.specs.Places.{placeFits, profileFits, finiteProfile, filled};
-ghost use Rattle.profile.specs.Weights.{innerWeight, weight};
-ghost use Rattle.profile.specs.Sums.{addedTo, sumsAfter};
+ghost use Rattle.profile.specs.Places.{placeFits, placesFit, profileFits, finiteProfile, filled};
+ghost use Rattle.profile.specs.Weights.{weight, AreInnerWeights};
+ghost use Rattle.profile.specs.Sums.{addedBy, sumsAfter};
 
 // Whether a place of a profile is as it must be: a used one in 0 to c_max, an unused one +0.
 fn place_fits(x: f64, used: bool, c_max: f64) -> bool
@@ -17,24 +17,37 @@ fn place_fits(x: f64, used: bool, c_max: f64) -> bool
     refusal::plus_zero(x)
 }
 
-// Whether every place of a profile of n nodes is as it must be.
-pub fn profile_fits(c_s: [f64; 64], n: usize, c_max: f64) -> bool
-    ensures { λ r. ⌜ r ≡ profileFits «c_s» n «c_max» ⌝ }
+// Whether the first n places, all used, are as they must be.
+fn used_fit(c: &[f64; 64], n: usize, c_max: f64) -> bool
+    requires { ⌜ n ≤ 64 ⌝ }
+    ensures { λ r. ⌜ r ≡ placesFit n (now (c .entry)) n «c_max» ⌝ }
 {
     let mut ok = true;
-    for i in 0..64 {
-        ok = ok & place_fits(c_s[i], i < n, c_max);
+    for i in 0..n {
+        ok = ok & place_fits(c[i], true, c_max);
+    }
+    ok
+}
+
+// Whether every place of a profile of n nodes is as it must be.
+pub fn profile_fits(c: &[f64; 64], n: usize, c_max: f64) -> bool
+    requires { ⌜ n ≤ 64 ⌝ }
+    ensures { λ r. ⌜ r ≡ profileFits (now (c .entry)) n «c_max» ⌝ }
+{
+    let mut ok = used_fit(c, n, c_max);
+    for i in n..64 {
+        ok = ok & place_fits(c[i], false, c_max);
     }
     ok
 }
 
 // Whether every place is finite.
-pub fn profile_finite(c_s: [f64; 64]) -> bool
-    ensures { λ r. ⌜ r ≡ finiteProfile «c_s» ⌝ }
+pub fn profile_finite(c: &[f64; 64]) -> bool
+    ensures { λ r. ⌜ r ≡ finiteProfile (now (c .entry)) ⌝ }
 {
     let mut ok = true;
     for i in 0..64 {
-        ok = ok & refusal::is_finite(c_s[i]);
+        ok = ok & refusal::is_finite(c[i]);
     }
     ok
 }
@@ -125,16 +138,16 @@ pub struct Sums {
     pub content: f64,
 }
 
-fn inner_weight(i: usize) -> f64
-    requires { ⌜ i < 64 ⌝ }
-    ensures { λ r. ⌜ r ≡ innerWeight i ⌝ }
+// The table, made once for all places.
+fn inner_weights() -> [f64; 64]
+    ensures { λ r. ⌜ AreInnerWeights r ⌝ }
 {
-    WEIGHTS[i]
+    WEIGHTS
 }
 
 // The weight of the place i of n: 1 at both ends.
-fn weight(n: usize, i: usize) -> f64
-    requires { ⌜ (1 ≤ n) × (i < 64) ⌝ }
+fn weight(table: &[f64; 64], n: usize, i: usize) -> f64
+    requires { ⌜ (1 ≤ n) × ((i < 64) × AreInnerWeights (now table)) ⌝ }
     ensures { λ r. ⌜ r ≡ weight n i ⌝ }
 {
     if i == 0 {
@@ -143,16 +156,16 @@ fn weight(n: usize, i: usize) -> f64
     if i == n - 1 {
         return 1.0;
     }
-    inner_weight(i)
+    table[i]
 }
 
-// The sums with the place i added.
-fn added(s: Sums, n: usize, dr: f64, i: usize, c: f64) -> Sums
-    requires { ⌜ (1 ≤ n) × (i < 64) ⌝ }
-    ensures { λ r. ⌜ r ≡ addedTo s n dr i c ⌝ }
+// The sums with the place i of the weight w added.
+fn added(s: Sums, w: f64, dr: f64, i: usize, c: f64) -> Sums
+    requires { ⌜ i < 64 ⌝ }
+    ensures { λ r. ⌜ r ≡ addedBy s w dr i c ⌝ }
 {
     let r = count_f64(i) * dr;
-    let share = weight(n, i) * r * r;
+    let share = w * r * r;
     Sums {
         shares: s.shares + share,
         content: s.content + share * c,
@@ -160,16 +173,17 @@ fn added(s: Sums, n: usize, dr: f64, i: usize, c: f64) -> Sums
 }
 
 // The sums over the first n places.
-pub fn sums_of(c: [f64; 64], n: usize, dr: f64) -> Sums
+pub fn sums_of(c: &[f64; 64], n: usize, dr: f64) -> Sums
     requires { ⌜ (1 ≤ n) × (n ≤ 64) ⌝ }
-    ensures { λ r. ⌜ r ≡ sumsAfter c n dr n ⌝ }
+    ensures { λ r. ⌜ r ≡ sumsAfter (now (c .entry)) n dr n ⌝ }
 {
+    let table = inner_weights();
     let mut s = Sums {
         shares: 0.0,
         content: 0.0,
     };
     for i in 0..n {
-        s = added(s, n, dr, i, c[i]);
+        s = added(s, weight(&table, n, i), dr, i, c[i]);
     }
     s
 }

@@ -82,31 +82,41 @@ socCall s = finiteOutcome (cellRefusal s) (stateOfCharge s)
 abbrev pub NodesMet : ParticleDiffusion → Type 0
 NodesMet p = (3 ≤ p .«n_nodes») × (p .«n_nodes» ≤ 64)
 
-module _ (s : SpmSolver) (h : cellRefusal s ≡ 0) where
+module _ (s : SpmSolver) (g : T (gridFits s)) where
   abbrev n : ℕ
   n = s .config .«n_nodes»
-
-  grid-met : T (gridFits s)
-  unfolding cellRefusal
-  grid-met = passed (gridFits s) grid (zero-lt-suc 0) (none-met _ _ h .0)
 
   abbrev front : Bool
   front = leb 3 n && leb n 64 && eqb (s .anode .«n_nodes») n
 
   least : 3 ≤ n
-  least = leb→le 3 n (and-l (leb 3 n) (leb n 64) (and-l (leb 3 n && leb n 64) (eqb (s .anode .«n_nodes») n) (and-l front (eqb (s .cathode .«n_nodes») n) grid-met)))
+  least = leb→le 3 n (and-l (leb 3 n) (leb n 64) (and-l (leb 3 n && leb n 64) (eqb (s .anode .«n_nodes») n) (and-l front (eqb (s .cathode .«n_nodes») n) g)))
 
   most : n ≤ 64
-  most = leb→le n 64 (and-r (leb 3 n) (leb n 64) (and-l (leb 3 n && leb n 64) (eqb (s .anode .«n_nodes») n) (and-l front (eqb (s .cathode .«n_nodes») n) grid-met)))
+  most = leb→le n 64 (and-r (leb 3 n) (leb n 64) (and-l (leb 3 n && leb n 64) (eqb (s .anode .«n_nodes») n) (and-l front (eqb (s .cathode .«n_nodes») n) g)))
 
   met : (m : ℕ) → m ≡ n → (3 ≤ m) × (m ≤ 64)
   met m e = subst (λ (k : ℕ). (3 ≤ k) × (k ≤ 64)) (sym e) (least, most)
 
+  pub grid-anode : NodesMet (s .anode)
+  grid-anode = met (s .anode .«n_nodes») (eqb→eq _ _ (and-r (leb 3 n && leb n 64) (eqb (s .anode .«n_nodes») n) (and-l front (eqb (s .cathode .«n_nodes») n) g)))
+
+  pub grid-cathode : NodesMet (s .cathode)
+  grid-cathode = met (s .cathode .«n_nodes») (eqb→eq _ _ (and-r front (eqb (s .cathode .«n_nodes») n) g))
+
+pub grid-passed : (s : SpmSolver) → refusalUnless (gridFits s) grid ≡ 0 → T (gridFits s)
+grid-passed s h = passed (gridFits s) grid (zero-lt-suc 0) h
+
+module _ (s : SpmSolver) (h : cellRefusal s ≡ 0) where
+  grid-met : T (gridFits s)
+  unfolding cellRefusal
+  grid-met = grid-passed s (none-met _ _ h .0)
+
   pub anode-nodes : NodesMet (s .anode)
-  anode-nodes = met (s .anode .«n_nodes») (eqb→eq _ _ (and-r (leb 3 n && leb n 64) (eqb (s .anode .«n_nodes») n) (and-l front (eqb (s .cathode .«n_nodes») n) grid-met)))
+  anode-nodes = grid-anode s grid-met
 
   pub cathode-nodes : NodesMet (s .cathode)
-  cathode-nodes = met (s .cathode .«n_nodes») (eqb→eq _ _ (and-r front (eqb (s .cathode .«n_nodes») n) grid-met))
+  cathode-nodes = grid-cathode s grid-met
 
   pub cell-met : T (cellFits s)
   unfolding cellRefusal

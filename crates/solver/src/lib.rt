@@ -5,6 +5,11 @@ use kinetics::SpmConfig;
 use kinetics::bv_overpotential;
 use kinetics::terminal_voltage;
 use particle::ParticleDiffusion;
+use particle::advance;
+use particle::average_theta;
+use particle::fields_fit;
+use particle::surface_potential;
+use particle::surface_theta;
 use profile::profile_finite;
 use profile::uniform;
 use refusal::Answer;
@@ -14,8 +19,11 @@ use solver_plan::plan_refusal;
 ghost use mathlib.Core.Path.{_≡_};
 ghost use Prim.Native.Nat.{_≤_};
 ghost use Rattle.refusal.specs.Answers.{said};
-ghost use Rattle.solver.specs.Cell.{gridFits, cellFits, cellRefusal, noSolver, built, ready, ocvCall, socCall, NodesMet};
-ghost use Rattle.solver.specs.Step.{inputRefusal, planOf, advanced, voltageOf, reported, finiteStep, noState, refusedStep, stepped};
+ghost use Rattle.solver.specs.Cell.{gridFits, cellRefusal, noSolver, built, ready, ocvCall, socCall};
+ghost use Rattle.solver.specs.Step.{argumentRefusal, wallOf, reportWith, finiteWith, noState, refusedStep, stepped};
+ghost use Rattle.solver.specs.Parts.{cellOf, partsOf, refusedMove, FollowOf, StepOf};
+ghost use Rattle.solver_plan.specs.Plans.{PlanOf};
+ghost use Rattle.particle.specs.Particle.{particleOf};
 ghost use Rattle.electrode.specs.Sheet.{lfpCathode, nmcCathode};
 
 pub struct SpmSolver {
@@ -47,6 +55,31 @@ pub struct SpmState {
     pub time_s: f64,
     // Whether the voltage left its limits.
     pub cutoff: bool,
+}
+
+// A cell without its profiles.
+pub struct SpmParts {
+    pub config: SpmConfig,
+    pub neg: ElectrodeParams,
+    pub n_neg: usize,
+    pub pos: ElectrodeParams,
+    pub n_pos: usize,
+    pub time_s: f64,
+}
+
+// What a step on lent profiles answers.
+pub struct SpmMoved {
+    pub refusal: u64,
+    pub state: SpmState,
+    pub sub_steps: u64,
+}
+
+// What a particle shows at its wall: see `wall_of`.
+pub struct Wall {
+    pub theta: f64,
+    pub theta_avg: f64,
+    pub potential: f64,
+    pub overpotential: f64,
 }
 
 // What a step gives: the report, how many sub-steps it made, and the cell after it.
@@ -93,6 +126,185 @@ pub fn no_state() -> SpmState
         time_s: 0.0,
         cutoff: false,
     }
+}
+
+// What a particle after the sub-steps shows at its wall: its stoichiometries, there and on average, its open-circuit
+// potential, and the overpotential of its flux.
+fn wall_of(
+    config: SpmConfig,
+    params: ElectrodeParams,
+    n: usize,
+    c: &[f64; 64],
+    j_n: f64,
+    temp_k: f64,
+) -> Wall
+    requires { ⌜ (3 ≤ n) × (n ≤ 64) ⌝ }
+    ensures { λ r. ⌜ r ≡ wallOf config (particleOf params n (now (c .entry))) «j_n» «temp_k» ⌝ }
+{
+    Wall {
+        theta: surface_theta(params, n, c),
+        potential: surface_potential(params, n, c),
+        overpotential: bv_overpotential(config, j_n, params, n, c, temp_k),
+        theta_avg: average_theta(params, n, c),
+    }
+}
+
+// The report of a step, from both walls.
+fn reported(
+    config: SpmConfig,
+    i_app: f64,
+    neg: Wall,
+    pos: Wall,
+    current_a: f64,
+    time_s: f64,
+) -> SpmState
+    ensures { λ r. ⌜ r ≡ reportWith config «i_app» neg pos «current_a» «time_s» ⌝ }
+{
+    let eta_neg = -neg.overpotential;
+    let eta_pos = -pos.overpotential;
+    let v_ohm = i_app * config.r_electrolyte_ohm_m2;
+    let voltage = terminal_voltage(
+        neg.potential,
+        pos.potential,
+        eta_neg,
+        eta_pos,
+        v_ohm,
+        current_a,
+    );
+    SpmState {
+        voltage,
+        current: current_a,
+        theta_neg: neg.theta,
+        theta_pos: pos.theta,
+        theta_neg_avg: neg.theta_avg,
+        theta_pos_avg: pos.theta_avg,
+        time_s,
+        cutoff: (voltage < config.v_min) | (voltage > config.v_max),
+    }
+}
+
+// Whether the profiles after the sub-steps, as tested, and the report hold numbers only; the current is the one that was given.
+fn finite_with(profiles: bool, r: SpmState) -> bool
+    ensures { λ ok. ⌜ ok ≡ finiteWith profiles r ⌝ }
+{
+    profiles
+        & refusal::is_finite(r.voltage)
+        & refusal::is_finite(r.theta_neg)
+        & refusal::is_finite(r.theta_pos)
+        & refusal::is_finite(r.theta_neg_avg)
+        & refusal::is_finite(r.theta_pos_avg)
+        & refusal::is_finite(r.time_s)
+}
+
+// The number of the table that a cell meets, 0 for none: all of 1 before all of 2.
+fn cell_refusal<'a>(q: SpmParts, c_neg: &'a [f64; 64], c_pos: &'a [f64; 64]) -> u64
+    ensures { λ r. ⌜ r ≡ cellRefusal (cellOf q (now («c_neg» .entry)) (now («c_pos» .entry))) ⌝ }
+{
+    let n = q.config.n_nodes;
+    let counts = (3 <= n) & (n <= 64) & (q.n_neg == n) & (q.n_pos == n);
+    let grid = refusal::refusal_unless(counts, refusal::GRID);
+    if grid != 0 {
+        return grid;
+    }
+    let fits = q.config.fits()
+        & fields_fit(q.neg, q.n_neg, c_neg)
+        & fields_fit(q.pos, q.n_pos, c_pos)
+        & refusal::clock_fits(q.time_s);
+    refusal::refusal_unless(fits, refusal::SHEET)
+}
+
+// The number that a step's arguments meet.
+fn argument_refusal(current_a: f64, dt: f64, temp_k: f64) -> u64
+    ensures { λ r. ⌜ r ≡ argumentRefusal «current_a» dt «temp_k» ⌝ }
+{
+    let load = refusal::refusal_unless(refusal::load_fits(current_a, 1e6), refusal::LOAD);
+    let interval = refusal::refusal_unless(refusal::interval_fits(dt), refusal::INTERVAL);
+    let temperature = refusal::refusal_unless(
+        refusal::temperature_fits(temp_k),
+        refusal::TEMPERATURE,
+    );
+    refusal::first_met(load, refusal::first_met(interval, temperature))
+}
+
+// A step on lent profiles that is refused.
+fn refused_move(number: u64) -> SpmMoved
+    ensures { λ r. ⌜ r ≡ refusedMove number ⌝ }
+{
+    let state = no_state();
+    SpmMoved {
+        refusal: number,
+        state,
+        sub_steps: 0,
+    }
+}
+
+// What a step works with.
+fn plan_of(q: SpmParts, i_app: f64, dt: f64, temp_k: f64) -> Plan
+    requires { ⌜ ((3 ≤ q .«n_neg») × (q .«n_neg» ≤ 64)) × ((3 ≤ q .«n_pos») × (q .«n_pos» ≤ 64)) ⌝ }
+    ensures { λ r. ⌜ PlanOf (q .neg) (q .«n_neg») (q .pos) (q .«n_pos») (q .config .faraday) «i_app» dt «temp_k» r ⌝ }
+{
+    let faraday = q.config.faraday;
+    plan_for(q.neg, q.n_neg, q.pos, q.n_pos, faraday, i_app, dt, temp_k)
+}
+
+// The sub-steps of a plan and the report after them; the profiles are put back where a number is not finite.
+fn follow(
+    q: SpmParts,
+    p: Plan,
+    c_neg: &mut [f64; 64],
+    c_pos: &mut [f64; 64],
+    current_a: f64,
+    dt: f64,
+    temp_k: f64,
+) -> SpmMoved
+    requires { ⌜ ((3 ≤ q .«n_neg») × (q .«n_neg» ≤ 64)) × ((3 ≤ q .«n_pos») × (q .«n_pos» ≤ 64)) ⌝ }
+    ensures { λ r. ⌜ FollowOf q p (now («c_neg» .entry)) (now («c_pos» .entry)) «current_a» dt «temp_k» r (now («c_neg» .exit)) (now («c_pos» .exit)) ⌝ }
+{
+    let old_neg = *c_neg;
+    let old_pos = *c_pos;
+    let turns = elementary::ceil_count(p.q);
+    let k = turns as usize;
+    let h = dt / std::num::nearest_u64_to_f64(turns);
+    advance(q.neg, q.n_neg, c_neg, p.d_neg, p.j_neg, h, k);
+    advance(q.pos, q.n_pos, c_pos, p.d_pos, p.j_pos, h, k);
+    let anode = wall_of(q.config, q.neg, q.n_neg, c_neg, p.j_neg, temp_k);
+    let cathode = wall_of(q.config, q.pos, q.n_pos, c_pos, p.j_pos, temp_k);
+    let i_app = current_a / q.neg.area;
+    let state = reported(q.config, i_app, anode, cathode, current_a, q.time_s + dt);
+    if finite_with(profile_finite(c_neg) & profile_finite(c_pos), state) {
+        return SpmMoved {
+            refusal: 0,
+            state,
+            sub_steps: turns,
+        };
+    }
+    *c_neg = old_neg;
+    *c_pos = old_pos;
+    refused_move(refusal::NOT_FINITE)
+}
+
+// One step, the profiles changed in place; refused, they are as they were.
+pub fn step_lent(
+    q: SpmParts,
+    c_neg: &mut [f64; 64],
+    c_pos: &mut [f64; 64],
+    current_a: f64,
+    dt: f64,
+    temp_k: f64,
+) -> SpmMoved
+    ensures { λ r. ⌜ StepOf q (now («c_neg» .entry)) (now («c_pos» .entry)) «current_a» dt «temp_k» r (now («c_neg» .exit)) (now («c_pos» .exit)) ⌝ }
+{
+    let unfit = cell_refusal(q, c_neg, c_pos);
+    let early = refusal::first_met(unfit, argument_refusal(current_a, dt, temp_k));
+    if early != 0 {
+        return refused_move(early);
+    }
+    let p = plan_of(q, current_a / q.neg.area, dt, temp_k);
+    let late = plan_refusal(p);
+    if late != 0 {
+        return refused_move(late);
+    }
+    follow(q, p, c_neg, c_pos, current_a, dt, temp_k)
 }
 
 impl SpmSolver {
@@ -166,147 +378,33 @@ impl SpmSolver {
     pub fn grid_fits(self) -> bool
         ensures { λ r. ⌜ r ≡ gridFits self ⌝ }
     {
-        let neg = self.anode;
-        let pos = self.cathode;
         let n = self.config.n_nodes;
-        (3 <= n) & (n <= 64) & (neg.n_nodes == n) & (pos.n_nodes == n)
+        (3 <= n) & (n <= 64) & (self.anode.n_nodes == n) & (self.cathode.n_nodes == n)
     }
 
-    // Whether config, particles and clock are as they must be.
-    pub fn fields_fit(self) -> bool
-        ensures { λ r. ⌜ r ≡ cellFits self ⌝ }
+    // The cell without its profiles.
+    fn parts(self) -> SpmParts
+        ensures { λ r. ⌜ r ≡ partsOf self ⌝ }
     {
         let config = self.config;
-        let neg = self.anode;
-        let pos = self.cathode;
-        config.fits() & neg.fields_fit() & pos.fields_fit() & refusal::clock_fits(self.time_s)
+        let neg = self.anode.params;
+        let pos = self.cathode.params;
+        SpmParts {
+            config,
+            neg,
+            n_neg: self.anode.n_nodes,
+            pos,
+            n_pos: self.cathode.n_nodes,
+            time_s: self.time_s,
+        }
     }
 
-    // The number of the table that the cell meets, 0 for none: all of 1 before all of 2.
+    // The number of the table that the cell meets, 0 for none.
     pub fn refusal(self) -> u64
         ensures { λ r. ⌜ r ≡ cellRefusal self ⌝ }
     {
-        let grid = refusal::refusal_unless(self.grid_fits(), refusal::GRID);
-        refusal::first_met(
-            grid,
-            refusal::refusal_unless(self.fields_fit(), refusal::SHEET),
-        )
-    }
-
-    // The number that a step meets before anything is worked out.
-    pub fn input_refusal(self, current_a: f64, dt: f64, temp_k: f64) -> u64
-        ensures { λ r. ⌜ r ≡ inputRefusal self «current_a» dt «temp_k» ⌝ }
-    {
-        let load = refusal::refusal_unless(refusal::load_fits(current_a, 1e6), refusal::LOAD);
-        let interval = refusal::refusal_unless(refusal::interval_fits(dt), refusal::INTERVAL);
-        let temperature = refusal::refusal_unless(
-            refusal::temperature_fits(temp_k),
-            refusal::TEMPERATURE,
-        );
-        refusal::first_met(
-            self.refusal(),
-            refusal::first_met(load, refusal::first_met(interval, temperature)),
-        )
-    }
-
-    // ---- parts of a step
-
-    // What the step works with.
-    fn plan(self, current_a: f64, dt: f64, temp_k: f64) -> Plan
-        requires { ⌜ NodesMet (self .anode) × NodesMet (self .cathode) ⌝ }
-        ensures { λ r. ⌜ r ≡ planOf self «current_a» dt «temp_k» ⌝ }
-    {
-        let neg = self.anode;
-        let pos = self.cathode;
-        let faraday = self.config.faraday;
-        let i_app = current_a / neg.params.area;
-        plan_for(neg, pos, faraday, i_app, dt, temp_k)
-    }
-
-    // The cell after the sub-steps.
-    fn advanced(self, p: Plan, dt: f64) -> SpmSolver
-        requires { ⌜ NodesMet (self .anode) × NodesMet (self .cathode) ⌝ }
-        ensures { λ r. ⌜ r ≡ advanced self p dt ⌝ }
-    {
-        let turns = elementary::ceil_count(p.q);
-        let dt_sub = dt / std::num::nearest_u64_to_f64(turns);
-        let config = self.config;
-        let neg = self.anode;
-        let pos = self.cathode;
-        let neg_params = neg.params;
-        let pos_params = pos.params;
-        let c_neg = neg.after(p.d_neg, p.j_neg, dt_sub, turns as usize);
-        let c_pos = pos.after(p.d_pos, p.j_pos, dt_sub, turns as usize);
-        let anode = ParticleDiffusion {
-            params: neg_params,
-            n_nodes: neg.n_nodes,
-            c_s: c_neg,
-        };
-        let cathode = ParticleDiffusion {
-            params: pos_params,
-            n_nodes: pos.n_nodes,
-            c_s: c_pos,
-        };
-        SpmSolver {
-            config,
-            anode,
-            cathode,
-            time_s: self.time_s + dt,
-        }
-    }
-
-    // The terminal voltage of the cell after the sub-steps.
-    fn voltage(self, p: Plan, current_a: f64, temp_k: f64) -> f64
-        requires { ⌜ NodesMet (self .anode) × NodesMet (self .cathode) ⌝ }
-        ensures { λ r. ⌜ r ≡ voltageOf self p «current_a» «temp_k» ⌝ }
-    {
-        let config = self.config;
-        let neg = self.anode;
-        let pos = self.cathode;
-        let u_neg = neg.surface_potential();
-        let u_pos = pos.surface_potential();
-        let eta_neg = -bv_overpotential(config, p.j_neg, neg, temp_k);
-        let eta_pos = -bv_overpotential(config, p.j_pos, pos, temp_k);
-        let v_ohm = current_a / neg.params.area * config.r_electrolyte_ohm_m2;
-        terminal_voltage(u_neg, u_pos, eta_neg, eta_pos, v_ohm, current_a)
-    }
-
-    // The report of the cell after the sub-steps.
-    fn reported(self, p: Plan, current_a: f64, temp_k: f64) -> SpmState
-        requires { ⌜ NodesMet (self .anode) × NodesMet (self .cathode) ⌝ }
-        ensures { λ r. ⌜ r ≡ reported self p «current_a» «temp_k» ⌝ }
-    {
-        let neg = self.anode;
-        let pos = self.cathode;
-        let voltage = self.voltage(p, current_a, temp_k);
-        SpmState {
-            voltage,
-            current: current_a,
-            theta_neg: neg.surface_theta(),
-            theta_pos: pos.surface_theta(),
-            theta_neg_avg: neg.average_theta(),
-            theta_pos_avg: pos.average_theta(),
-            time_s: self.time_s,
-            cutoff: (voltage < self.config.v_min) | (voltage > self.config.v_max),
-        }
-    }
-
-    // Whether the cell after the sub-steps and its report hold numbers only.
-    fn finite_with(self, r: SpmState) -> bool
-        ensures { λ ok. ⌜ ok ≡ finiteStep self r ⌝ }
-    {
-        let neg = self.anode;
-        let pos = self.cathode;
-        let c_neg = neg.c_s;
-        let c_pos = pos.c_s;
-        profile_finite(c_neg)
-            & profile_finite(c_pos)
-            & refusal::is_finite(r.voltage)
-            & refusal::is_finite(r.theta_neg)
-            & refusal::is_finite(r.theta_pos)
-            & refusal::is_finite(r.theta_neg_avg)
-            & refusal::is_finite(r.theta_pos_avg)
-            & refusal::is_finite(r.time_s)
+        let q = self.parts();
+        cell_refusal(q, &self.anode.c_s, &self.cathode.c_s)
     }
 
     // ---- calls
@@ -315,26 +413,39 @@ impl SpmSolver {
     pub fn step(self, current_a: f64, dt: f64, temp_k: f64) -> SpmStep
         ensures { λ r. ⌜ r ≡ stepped self «current_a» dt «temp_k» ⌝ }
     {
-        let early = self.input_refusal(current_a, dt, temp_k);
-        if early != 0 {
-            return refused_step(early, self);
+        let q = self.parts();
+        let mut c_neg = self.anode.c_s;
+        let mut c_pos = self.cathode.c_s;
+        let m = step_lent(q, &mut c_neg, &mut c_pos, current_a, dt, temp_k);
+        if m.refusal != 0 {
+            return refused_step(m.refusal, self);
         }
-        let p = self.plan(current_a, dt, temp_k);
-        let late = plan_refusal(p);
-        if late != 0 {
-            return refused_step(late, self);
+        let config = q.config;
+        let neg = q.neg;
+        let pos = q.pos;
+        let anode = ParticleDiffusion {
+            params: neg,
+            n_nodes: q.n_neg,
+            c_s: c_neg,
+        };
+        let cathode = ParticleDiffusion {
+            params: pos,
+            n_nodes: q.n_pos,
+            c_s: c_pos,
+        };
+        let solver = SpmSolver {
+            config,
+            anode,
+            cathode,
+            time_s: q.time_s + dt,
+        };
+        let state = m.state;
+        SpmStep {
+            refusal: 0,
+            state,
+            sub_steps: m.sub_steps,
+            solver,
         }
-        let after = self.advanced(p, dt);
-        let state = after.reported(p, current_a, temp_k);
-        if after.finite_with(state) {
-            return SpmStep {
-                refusal: 0,
-                state,
-                sub_steps: elementary::ceil_count(p.q),
-                solver: after,
-            };
-        }
-        refused_step(refusal::NOT_FINITE, self)
     }
 
     // Open-circuit voltage, V.
@@ -345,9 +456,9 @@ impl SpmSolver {
         if number != 0 {
             return refusal::answered(number, 0.0);
         }
-        let neg = self.anode;
-        let pos = self.cathode;
-        refusal::answered(number, pos.surface_potential() - neg.surface_potential())
+        let u_neg = surface_potential(self.anode.params, self.anode.n_nodes, &self.anode.c_s);
+        let u_pos = surface_potential(self.cathode.params, self.cathode.n_nodes, &self.cathode.c_s);
+        refusal::answered(number, u_pos - u_neg)
     }
 
     // State of charge by the anode's average stoichiometry, 0 to 1.
@@ -358,8 +469,7 @@ impl SpmSolver {
         if number != 0 {
             return refusal::answered(number, 0.0);
         }
-        let neg = self.anode;
-        let theta = neg.average_theta();
+        let theta = average_theta(self.anode.params, self.anode.n_nodes, &self.anode.c_s);
         refusal::answered(
             number,
             elementary::clamp((theta - 0.20) / (0.80 - 0.20), 0.0, 1.0),

@@ -1,15 +1,18 @@
 -- What a step works with, and what is refused of it. Definitions only.
 use Prim.Native.Nat.{ℕ}
+use mathlib.Core.Path.{_≡_}
 use mathlib.Core.Bool.{not, _&&_}
+use mathlib.Core.List.{List}
 use lib.Ieee.{Float, lt, neg}
 use Rattle.binary64.specs.Operators.{_⊗_, _⊘_, f64}
 use Rattle.elementary.specs.Choice.{minOf}
 use Rattle.elementary.specs.Count.{ceilOf}
 use Rattle.refusal.specs.Numbers.{firstMet, refusalUnless, diffusivity, subSteps}
 use Rattle.refusal.specs.Ranges.{inRange}
+use Rattle.electrode.specs.declared.ElectrodeParams.{ElectrodeParams}
 use Rattle.electrode.specs.Sheet.{diffusivityAt}
 use Rattle.particle.specs.declared.ParticleDiffusion.{ParticleDiffusion}
-use Rattle.particle.specs.Particle.{stableStep}
+use Rattle.particle.specs.Particle.{particleOf, stableStep}
 use Rattle.kinetics.specs.Kinetics.{wallCurrent}
 use Rattle.solver_plan.specs.declared.Plan.{Plan}
 
@@ -33,6 +36,10 @@ planWith a c faraday j dt t =
       «j_pos» = j ⊘ wallCurrent (c .params) faraday;
       q = quotientWith a c dt dNeg dPos;
     }
+
+-- r is the plan of two electrodes by their sheets and counts of nodes, whatever their profiles
+abbrev pub PlanOf : ElectrodeParams → ℕ → ElectrodeParams → ℕ → Float → Float → Float → Float → Plan → Type 0
+PlanOf a n c m faraday j dt t r = (p q : List Float) → r ≡ planWith (particleOf a n p) (particleOf c m q) faraday j dt t
 
 -- corrected D from 1e-20 to 1e-8 in both electrodes; no more than 4,096 sub-steps
 unfoldable pub planRefusal : Plan → ℕ

@@ -1,10 +1,11 @@
 // What a step of the single-particle cell works with, and what is refused of it. A changed translation of
 // src/battery/p2d/solver.rs (`step`).
+use electrode::ElectrodeParams;
 use kinetics::wall_current;
-use particle::ParticleDiffusion;
+use particle::stable_step;
 ghost use mathlib.Core.Path.{_≡_};
 ghost use Prim.Native.Nat.{_≤_};
-ghost use Rattle.solver_plan.specs.Plans.{planWith, planRefusal};
+ghost use Rattle.solver_plan.specs.Plans.{PlanOf, planRefusal};
 
 // What a step works with: diffusivities, fluxes, and the interval in units of the longest sub-step.
 pub struct Plan {
@@ -15,30 +16,31 @@ pub struct Plan {
     pub q: f64,
 }
 
-// The plan for a current density. The anode's flux has the other sign.
+// The plan for a current density, from the sheet and the count of nodes of each electrode. The anode's flux has the other
+// sign.
 pub fn plan_for(
-    neg: ParticleDiffusion,
-    pos: ParticleDiffusion,
+    neg: ElectrodeParams,
+    n_neg: usize,
+    pos: ElectrodeParams,
+    n_pos: usize,
     faraday: f64,
     i_app: f64,
     dt: f64,
     temp_k: f64,
 ) -> Plan
-    requires { ⌜ ((3 ≤ neg .«n_nodes») × (neg .«n_nodes» ≤ 64)) × ((3 ≤ pos .«n_nodes») × (pos .«n_nodes» ≤ 64)) ⌝ }
-    ensures { λ r. ⌜ r ≡ planWith neg pos faraday «i_app» dt «temp_k» ⌝ }
+    requires { ⌜ ((3 ≤ «n_neg») × («n_neg» ≤ 64)) × ((3 ≤ «n_pos») × («n_pos» ≤ 64)) ⌝ }
+    ensures { λ r. ⌜ PlanOf neg «n_neg» pos «n_pos» faraday «i_app» dt «temp_k» r ⌝ }
 {
-    let neg_params = neg.params;
-    let pos_params = pos.params;
-    let d_neg = neg_params.diffusivity_at(temp_k);
-    let d_pos = pos_params.diffusivity_at(temp_k);
-    let dt_neg = neg.stable_step(d_neg) * 0.45;
-    let dt_pos = pos.stable_step(d_pos) * 0.45;
+    let d_neg = neg.diffusivity_at(temp_k);
+    let d_pos = pos.diffusivity_at(temp_k);
+    let dt_neg = stable_step(neg, n_neg, d_neg) * 0.45;
+    let dt_pos = stable_step(pos, n_pos, d_pos) * 0.45;
     let dt_use = elementary::min(elementary::min(dt, dt_neg), dt_pos);
     Plan {
         d_neg,
         d_pos,
-        j_neg: -i_app / wall_current(neg_params, faraday),
-        j_pos: i_app / wall_current(pos_params, faraday),
+        j_neg: -i_app / wall_current(neg, faraday),
+        j_pos: i_app / wall_current(pos, faraday),
         q: dt / dt_use,
     }
 }

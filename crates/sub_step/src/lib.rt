@@ -5,7 +5,7 @@ ghost use mathlib.Core.Path.{_≡_};
 ghost use Prim.Native.Nat.{ℕ, _≤_, _<_, _-_};
 ghost use Rattle.binary64.specs.Operators.{count};
 ghost use Rattle.turns.specs.Turns.{times};
-ghost use Rattle.sub_step.specs.SubSteps.{prepared, inverseRadii, placesOf, centreBy, shellBy, movedBy, centreNode, shellNode, surfaceNode, subStepBy};
+ghost use Rattle.sub_step.specs.SubSteps.{prepared, inverseRadii, centreBy, shellBy, movedBy, subStepBy};
 
 // What does not change within a call.
 pub struct Drive {
@@ -81,54 +81,46 @@ fn moved(v: Drive, here: f64, rate: f64) -> f64
     elementary::clamp(here + v.dt * rate, 0.0, v.c_max)
 }
 
-// The centre after the sub-step.
-fn centre_node(v: Drive, c: &[f64; 64]) -> f64
-    ensures { λ r. ⌜ r ≡ centreNode v (placesOf (now (c .entry))) ⌝ }
+// A node with w = 2 / r after the sub-step, from itself and its neighbours.
+fn shell_node(v: Drive, w: f64, before: f64, here: f64, after: f64) -> f64
+    ensures { λ r. ⌜ r ≡ movedBy v here (shellBy v w before here after) ⌝ }
 {
-    moved(v, c[0], centre_rate(v, c[0], c[1]))
+    moved(v, here, shell_rate(v, w, before, here, after))
 }
 
-// A node between the centre and the surface.
-fn shell_node(v: Drive, w: &[f64; 64], c: &[f64; 64], i: usize) -> f64
-    requires { ⌜ (0 < i) × (i < 63) ⌝ }
-    ensures { λ r. ⌜ r ≡ shellNode v (now (w .entry)) (placesOf (now (c .entry))) i ⌝ }
+// Moves every node of a profile in place, each from its old neighbours, of which the one before is kept aside. The flux gives
+// the surface a neighbour outside.
+fn move_nodes(v: Drive, w: &[f64; 64], c: &mut [f64; 64])
+    requires { ⌜ (3 ≤ v .n) × (v .n ≤ 64) ⌝ }
+    ensures { λ _. ⌜ now (c .exit) ≡ subStepBy v (now (w .entry)) (now (c .entry)) ⌝ }
 {
-    moved(v, c[i], shell_rate(v, w[i], c[i - 1], c[i], c[i + 1]))
+    let last = v.n - 1;
+    let mut before = c[0];
+    c[0] = moved(v, before, centre_rate(v, before, c[1]));
+    for i in 1..last {
+        let here = c[i];
+        c[i] = shell_node(v, w[i], before, here, c[i + 1]);
+        before = here;
+    }
+    c[last] = shell_node(v, w[last], before, c[last], before + v.push);
 }
 
-// The surface, which is node i: the flux gives it a neighbour outside.
-fn surface_node(v: Drive, w: &[f64; 64], c: &[f64; 64], i: usize) -> f64
-    requires { ⌜ (0 < i) × (i < 64) ⌝ }
-    ensures { λ r. ⌜ r ≡ surfaceNode v (now (w .entry)) (placesOf (now (c .entry))) i ⌝ }
-{
-    let inner = c[i - 1];
-    moved(v, c[i], shell_rate(v, w[i], inner, c[i], inner + v.push))
-}
-
-// The profile after a sub-step: all nodes from the old profile, the other places kept.
+// The profile after a sub-step.
 pub fn sub_step(v: Drive, w: &[f64; 64], c: [f64; 64]) -> [f64; 64]
     requires { ⌜ (3 ≤ v .n) × (v .n ≤ 64) ⌝ }
     ensures { λ r. ⌜ r ≡ subStepBy v (now (w .entry)) c ⌝ }
 {
-    let last = v.n - 1;
     let mut out = c;
-    out[0] = centre_node(v, &c);
-    for i in 1..last {
-        out[i] = shell_node(v, w, &c, i);
-    }
-    out[last] = surface_node(v, w, &c, last);
+    move_nodes(v, w, &mut out);
     out
 }
 
-// The profile after so many sub-steps.
-pub fn sub_steps(v: Drive, w: &[f64; 64], c: [f64; 64], turns: usize) -> [f64; 64]
+// So many sub-steps, in place.
+pub fn sub_steps(v: Drive, w: &[f64; 64], c: &mut [f64; 64], turns: usize)
     requires { ⌜ (3 ≤ v .n) × (v .n ≤ 64) ⌝ }
-    ensures { λ r. ⌜ r ≡ times turns (subStepBy v (now (w .entry))) c ⌝ }
+    ensures { λ _. ⌜ now (c .exit) ≡ times turns (subStepBy v (now (w .entry))) (now (c .entry)) ⌝ }
 {
-    let mut out = c;
     for k in 0..turns {
-        let next = sub_step(v, w, out);
-        out = next;
+        move_nodes(v, w, c);
     }
-    out
 }

@@ -4,10 +4,6 @@ use Rattle.turns.specs.Turns.{firstBy}
 use borrow.Author.Needs.{needs}
 use Rattle.cell_images.proofs.config_at.Statement.{statement}
 use Rattle.cell_images.proofs.config_at.Tie as tie
-use Rattle.cell_images.proofs.config_at.Reads as reads
-use Rattle.cell_images.proofs.config_at.Lts as lts
-use Rattle.codec.proofs.read_places.Reads as read-places-reads
-use Rattle.codec.proofs.read_word.Reads as read-word-reads
 
 slice-aggregate-read-places : tie.Need-slice-aggregate-read-places
 slice-aggregate-read-places c = search needs

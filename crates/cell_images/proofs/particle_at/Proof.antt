@@ -3,11 +3,6 @@ use Rattle.cell_images.specs.Images.{particleAt}
 use borrow.Author.Needs.{needs}
 use Rattle.cell_images.proofs.particle_at.Statement.{statement}
 use Rattle.cell_images.proofs.particle_at.Tie as tie
-use Rattle.cell_images.proofs.particle_at.Reads as reads
-use Rattle.cell_images.proofs.particle_at.Lts as lts
-use Rattle.cell_images.proofs.sheet_at.Reads as sheet-at-reads
-use Rattle.codec.proofs.read_places.Reads as read-places-reads
-use Rattle.codec.proofs.read_word.Reads as read-word-reads
 
 sheet-at-requires : tie.Need-sheet-at-requires
 sheet-at-requires c κs = search needs
@@ -18,18 +13,15 @@ add-read-word c = search needs
 read-word-requires : tie.Need-read-word-requires
 read-word-requires c κs = search needs
 
-add-read-places : tie.Need-add-read-places
-add-read-places c = search needs
+add-fill-64 : tie.Need-add-fill-64
+add-fill-64 c = search needs
 
-slice-aggregate-read-places : tie.Need-slice-aggregate-read-places
-slice-aggregate-read-places c = search needs
-
-read-places-requires : tie.Need-read-places-requires
-read-places-requires c κs = search needs
+fill-64-requires : tie.Need-fill-64-requires
+fill-64-requires c κs = search needs
 
 returns : tie.Need-returns
 unfolding particleAt
-returns c = rw (c .before .read-places .ensures, c .before .before .before .read-word .ensures, c .before .before .before .before .sheet-at .ensures)
+returns c = rw (c .fill-64 .ensures, c .before .before .read-word .ensures, c .before .before .before .sheet-at .ensures)
 
 pub particle-at-spec : {M : Type 1} → statement M
 particle-at-spec =
@@ -38,7 +30,6 @@ particle-at-spec =
     sheet-at-requires
     add-read-word
     read-word-requires
-    add-read-places
-    slice-aggregate-read-places
-    read-places-requires
+    add-fill-64
+    fill-64-requires
     returns)

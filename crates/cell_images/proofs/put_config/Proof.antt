@@ -3,10 +3,6 @@ use Rattle.cell_images.specs.Images.{putConfig}
 use borrow.Author.Needs.{needs}
 use Rattle.cell_images.proofs.put_config.Statement.{statement}
 use Rattle.cell_images.proofs.put_config.Tie as tie
-use Rattle.cell_images.proofs.put_config.Reads as reads
-use Rattle.cell_images.proofs.put_config.Lts as lts
-use Rattle.codec.proofs.write_places.Reads as write-places-reads
-use Rattle.codec.proofs.write_word.Reads as write-word-reads
 
 write-word-requires : tie.Need-write-word-requires
 write-word-requires c κs = search needs

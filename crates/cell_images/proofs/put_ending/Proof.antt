@@ -3,9 +3,6 @@ use Rattle.cell_images.specs.Images.{putEnding}
 use borrow.Author.Needs.{needs}
 use Rattle.cell_images.proofs.put_ending.Statement.{statement}
 use Rattle.cell_images.proofs.put_ending.Tie as tie
-use Rattle.cell_images.proofs.put_ending.Reads as reads
-use Rattle.cell_images.proofs.put_ending.Lts as lts
-use Rattle.codec.proofs.write_word.Reads as write-word-reads
 
 write-word-requires : tie.Need-write-word-requires
 write-word-requires c κs = search needs

@@ -3,10 +3,6 @@ use Rattle.cell_images.specs.Images.{putSheet}
 use borrow.Author.Needs.{needs}
 use Rattle.cell_images.proofs.put_sheet.Statement.{statement}
 use Rattle.cell_images.proofs.put_sheet.Tie as tie
-use Rattle.cell_images.proofs.put_sheet.Reads as reads
-use Rattle.cell_images.proofs.put_sheet.Lts as lts
-use Rattle.codec.proofs.write_places.Reads as write-places-reads
-use Rattle.codec.proofs.write_word.Reads as write-word-reads
 
 write-word-requires : tie.Need-write-word-requires
 write-word-requires c κs = search needs

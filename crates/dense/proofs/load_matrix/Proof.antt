@@ -22,7 +22,7 @@ load-row-requires : tie.Need-load-row-requires Inv-loop μ-loop
 load-row-requires c κs = (search needs, (search needs, omega (arith, row-fits (c .before .before .loop .row) (c .before .before .before .before .args .n) (c .before .loop-test .taken))))
 
 add-row : tie.Need-add-row Inv-loop μ-loop
-add-row c = search needs
+add-row c = omega arith
 
 loop-less : tie.Need-loop-less Inv-loop μ-loop
 loop-less c = search needs

@@ -15,34 +15,34 @@ abbrev μ-loop : tie.MeasureT-loop
 μ-loop m₀ a row n from k₀ m k = n - k
 
 mul-from : tie.Need-mul-from Inv-loop μ-loop
-mul-from c = search needs
+mul-from c = omega arith
 
 loop-holds : tie.Need-loop-holds Inv-loop μ-loop
 loop-holds c = (search needs, rw (range-none 0))
 
 add-m : tie.Need-add-m Inv-loop μ-loop
-add-m c = search needs
+add-m c = omega arith
 
 mul-m : tie.Need-mul-m Inv-loop μ-loop
-mul-m c = search needs
+mul-m c = omega arith
 
 shared-slice-read-m : tie.Need-shared-slice-read-m Inv-loop μ-loop
 shared-slice-read-m c = search needs
 
 mul-m-2 : tie.Need-mul-m-2 Inv-loop μ-loop
-mul-m-2 c = search needs
+mul-m-2 c = omega arith
 
 add-m-2 : tie.Need-add-m-2 Inv-loop μ-loop
-add-m-2 c = search needs
+add-m-2 c = omega arith
 
 mul-m-3 : tie.Need-mul-m-3 Inv-loop μ-loop
-mul-m-3 c = search needs
+mul-m-3 c = omega arith
 
 element-write-m : tie.Need-element-write-m Inv-loop μ-loop
-element-write-m c = search needs
+element-write-m c = omega arith
 
 add-k : tie.Need-add-k Inv-loop μ-loop
-add-k c = search needs
+add-k c = omega arith
 
 loop-less : tie.Need-loop-less Inv-loop μ-loop
 loop-less c = search needs

@@ -20,16 +20,16 @@ unfolding firstFinite allBelow
 loop-holds c = (search needs, refl)
 
 mul-is-finite : tie.Need-mul-is-finite Inv-loop μ-loop
-mul-is-finite c = search needs
+mul-is-finite c = omega arith
 
 element-copy-out-is-finite : tie.Need-element-copy-out-is-finite Inv-loop μ-loop
-element-copy-out-is-finite c = search needs
+element-copy-out-is-finite c = omega arith
 
 is-finite-requires : tie.Need-is-finite-requires Inv-loop μ-loop
 is-finite-requires c κs = search needs
 
 add-i : tie.Need-add-i Inv-loop μ-loop
-add-i c = search needs
+add-i c = omega arith
 
 loop-less : tie.Need-loop-less Inv-loop μ-loop
 loop-less c = search needs

@@ -18,22 +18,22 @@ loop-holds : tie.Need-loop-holds Inv-loop μ-loop
 loop-holds c = (search needs, rw try-none)
 
 sub-col : tie.Need-sub-col Inv-loop μ-loop
-sub-col c = search needs
+sub-col c = omega arith
 
 sub-col-2 : tie.Need-sub-col-2 Inv-loop μ-loop
-sub-col-2 c = search needs
+sub-col-2 c = omega arith
 
 mul-pivot : tie.Need-mul-pivot Inv-loop μ-loop
-mul-pivot c = search needs
+mul-pivot c = omega arith
 
 add-pivot : tie.Need-add-pivot Inv-loop μ-loop
-add-pivot c = search needs
+add-pivot c = omega arith
 
 mul-pivot-2 : tie.Need-mul-pivot-2 Inv-loop μ-loop
-mul-pivot-2 c = search needs
+mul-pivot-2 c = omega arith
 
 element-copy-out-pivot : tie.Need-element-copy-out-pivot Inv-loop μ-loop
-element-copy-out-pivot c = search needs
+element-copy-out-pivot c = omega arith
 
 abs-requires : tie.Need-abs-requires Inv-loop μ-loop
 abs-requires c κs = search needs
@@ -43,22 +43,22 @@ unfolding substituted columnSolved
 returns c = try-ends _ _ _ (c .before .before .before .before .loop .k) _ _ (c .before .before .before .loop-test .taken) (λ z. absurd (omega (arith, z))) (c .before .before .before .before .loop .inv .1) (rw (← c .before .abs .ensures, c .if1 .taken))
 
 mul-x : tie.Need-mul-x Inv-loop μ-loop
-mul-x c = search needs
+mul-x c = omega arith
 
 element-copy-out-x : tie.Need-element-copy-out-x Inv-loop μ-loop
-element-copy-out-x c = search needs
+element-copy-out-x c = omega arith
 
 mul-x-2 : tie.Need-mul-x-2 Inv-loop μ-loop
-mul-x-2 c = search needs
+mul-x-2 c = omega arith
 
 element-write-x : tie.Need-element-write-x Inv-loop μ-loop
-element-write-x c = search needs
+element-write-x c = omega arith
 
 take-out-requires : tie.Need-take-out-requires Inv-loop μ-loop
 take-out-requires c κs = search needs
 
 add-k : tie.Need-add-k Inv-loop μ-loop
-add-k c = search needs
+add-k c = omega arith
 
 loop-less : tie.Need-loop-less Inv-loop μ-loop
 loop-less c = search needs

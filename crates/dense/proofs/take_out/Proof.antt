@@ -18,37 +18,37 @@ loop-holds : tie.Need-loop-holds Inv-loop μ-loop
 loop-holds c = (search needs, rw (range-none 0))
 
 mul-x : tie.Need-mul-x Inv-loop μ-loop
-mul-x c = search needs
+mul-x c = omega arith
 
 element-copy-out-x : tie.Need-element-copy-out-x Inv-loop μ-loop
-element-copy-out-x c = search needs
+element-copy-out-x c = omega arith
 
 mul-x-2 : tie.Need-mul-x-2 Inv-loop μ-loop
-mul-x-2 c = search needs
+mul-x-2 c = omega arith
 
 add-x : tie.Need-add-x Inv-loop μ-loop
-add-x c = search needs
+add-x c = omega arith
 
 mul-x-3 : tie.Need-mul-x-3 Inv-loop μ-loop
-mul-x-3 c = search needs
+mul-x-3 c = omega arith
 
 element-copy-out-x-2 : tie.Need-element-copy-out-x-2 Inv-loop μ-loop
-element-copy-out-x-2 c = search needs
+element-copy-out-x-2 c = omega arith
 
 mul-x-4 : tie.Need-mul-x-4 Inv-loop μ-loop
-mul-x-4 c = search needs
+mul-x-4 c = omega arith
 
 element-copy-out-x-3 : tie.Need-element-copy-out-x-3 Inv-loop μ-loop
-element-copy-out-x-3 c = search needs
+element-copy-out-x-3 c = omega arith
 
 mul-x-5 : tie.Need-mul-x-5 Inv-loop μ-loop
-mul-x-5 c = search needs
+mul-x-5 c = omega arith
 
 element-write-x : tie.Need-element-write-x Inv-loop μ-loop
-element-write-x c = search needs
+element-write-x c = omega arith
 
 add-row : tie.Need-add-row Inv-loop μ-loop
-add-row c = search needs
+add-row c = omega arith
 
 loop-less : tie.Need-loop-less Inv-loop μ-loop
 loop-less c = search needs

@@ -1,20 +1,21 @@
 -- `dense_elimination::candidate` meets its contract. Assumes nothing.
 use borrow.Author.Needs.{needs}
+use native.Mathlib.Omega.{arith}
 use Rattle.dense_elimination.specs.Elimination.{candidate}
 use Rattle.dense_elimination.proofs.candidate.Statement.{statement}
 use Rattle.dense_elimination.proofs.candidate.Tie as tie
 
 mul-abs : tie.Need-mul-abs
-mul-abs c = search needs
+mul-abs c = omega arith
 
 add-abs : tie.Need-add-abs
-add-abs c = search needs
+add-abs c = omega arith
 
 mul-abs-2 : tie.Need-mul-abs-2
-mul-abs-2 c = search needs
+mul-abs-2 c = omega arith
 
 element-copy-out-abs : tie.Need-element-copy-out-abs
-element-copy-out-abs c = search needs
+element-copy-out-abs c = omega arith
 
 abs-requires : tie.Need-abs-requires
 abs-requires c κs = search needs

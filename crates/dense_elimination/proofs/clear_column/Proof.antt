@@ -15,58 +15,58 @@ abbrev μ-loop : tie.MeasureT-loop
 μ-loop a₀ x₀ col n pivot row₀ a x row = n - row
 
 mul-pivot : tie.Need-mul-pivot Inv-loop μ-loop
-mul-pivot c = search needs
+mul-pivot c = omega arith
 
 add-pivot : tie.Need-add-pivot Inv-loop μ-loop
-add-pivot c = search needs
+add-pivot c = omega arith
 
 mul-pivot-2 : tie.Need-mul-pivot-2 Inv-loop μ-loop
-mul-pivot-2 c = search needs
+mul-pivot-2 c = omega arith
 
 element-copy-out-pivot : tie.Need-element-copy-out-pivot Inv-loop μ-loop
-element-copy-out-pivot c = search needs
+element-copy-out-pivot c = omega arith
 
 add-row : tie.Need-add-row Inv-loop μ-loop
-add-row c = search needs
+add-row c = omega arith
 
 loop-holds : tie.Need-loop-holds Inv-loop μ-loop
 loop-holds c = (search needs, (search needs, rw (range-none (c .before .args .col + 1))))
 
 mul-f : tie.Need-mul-f Inv-loop μ-loop
-mul-f c = search needs
+mul-f c = omega arith
 
 add-f : tie.Need-add-f Inv-loop μ-loop
-add-f c = search needs
+add-f c = omega arith
 
 mul-f-2 : tie.Need-mul-f-2 Inv-loop μ-loop
-mul-f-2 c = search needs
+mul-f-2 c = omega arith
 
 element-copy-out-f : tie.Need-element-copy-out-f Inv-loop μ-loop
-element-copy-out-f c = search needs
+element-copy-out-f c = omega arith
 
 reduce-row-requires : tie.Need-reduce-row-requires Inv-loop μ-loop
 reduce-row-requires c κs = search needs
 
 mul-x : tie.Need-mul-x Inv-loop μ-loop
-mul-x c = search needs
+mul-x c = omega arith
 
 element-copy-out-x : tie.Need-element-copy-out-x Inv-loop μ-loop
-element-copy-out-x c = search needs
+element-copy-out-x c = omega arith
 
 mul-x-2 : tie.Need-mul-x-2 Inv-loop μ-loop
-mul-x-2 c = search needs
+mul-x-2 c = omega arith
 
 element-copy-out-x-2 : tie.Need-element-copy-out-x-2 Inv-loop μ-loop
-element-copy-out-x-2 c = search needs
+element-copy-out-x-2 c = omega arith
 
 mul-x-3 : tie.Need-mul-x-3 Inv-loop μ-loop
-mul-x-3 c = search needs
+mul-x-3 c = omega arith
 
 element-write-x : tie.Need-element-write-x Inv-loop μ-loop
-element-write-x c = search needs
+element-write-x c = omega arith
 
 add-row-2 : tie.Need-add-row-2 Inv-loop μ-loop
-add-row-2 c = search needs
+add-row-2 c = omega arith
 
 loop-less : tie.Need-loop-less Inv-loop μ-loop
 loop-less c = search needs

@@ -44,10 +44,10 @@ larger-requires : tie.Need-larger-requires Inv-loop μ-loop Inv-columns μ-colum
 larger-requires c κs = search needs
 
 add-if1 : tie.Need-add-if1 Inv-loop μ-loop Inv-columns μ-columns
-add-if1 c = search needs
+add-if1 c = omega arith
 
 add-row : tie.Need-add-row Inv-loop μ-loop Inv-columns μ-columns
-add-row c = search needs
+add-row c = omega arith
 
 loop-less : tie.Need-loop-less Inv-loop μ-loop Inv-columns μ-columns
 loop-less c = search needs
@@ -61,7 +61,7 @@ take-pivot-requires c κs =
     (search needs, (rw (c .before .before .before .loop .inv .1 .1 .1 .0, e) (pivot-row _ _ _ (c .before .before .before .before .before .before .columns-test .taken)), search needs))
 
 add-col : tie.Need-add-col Inv-loop μ-loop Inv-columns μ-columns
-add-col c = search needs
+add-col c = omega arith
 
 columns-less : tie.Need-columns-less Inv-loop μ-loop Inv-columns μ-columns
 columns-less c = search needs

@@ -1,33 +1,34 @@
 -- `dense_elimination::swap_places` meets its contract. Assumes nothing.
 use mathlib.Core.Path.{refl}
 use borrow.Author.Needs.{needs}
+use native.Mathlib.Omega.{arith}
 use Rattle.dense_elimination.specs.Elimination.{swapped}
 use Rattle.dense_elimination.proofs.swap_places.Statement.{statement}
 use Rattle.dense_elimination.proofs.swap_places.Tie as tie
 
 mul-held : tie.Need-mul-held
-mul-held c = search needs
+mul-held c = omega arith
 
 element-copy-out-held : tie.Need-element-copy-out-held
-element-copy-out-held c = search needs
+element-copy-out-held c = omega arith
 
 mul-x : tie.Need-mul-x
-mul-x c = search needs
+mul-x c = omega arith
 
 element-copy-out-x : tie.Need-element-copy-out-x
-element-copy-out-x c = search needs
+element-copy-out-x c = omega arith
 
 mul-x-2 : tie.Need-mul-x-2
-mul-x-2 c = search needs
+mul-x-2 c = omega arith
 
 element-write-x : tie.Need-element-write-x
-element-write-x c = search needs
+element-write-x c = omega arith
 
 mul-x-3 : tie.Need-mul-x-3
-mul-x-3 c = search needs
+mul-x-3 c = omega arith
 
 element-write-x-2 : tie.Need-element-write-x-2
-element-write-x-2 c = search needs
+element-write-x-2 c = omega arith
 
 returns : tie.Need-returns
 unfolding swapped

@@ -19,55 +19,55 @@ unfolding rowsSwapped
 loop-holds c = (search needs, rw (range-none 0))
 
 mul-held : tie.Need-mul-held Inv-loop μ-loop
-mul-held c = search needs
+mul-held c = omega arith
 
 add-held : tie.Need-add-held Inv-loop μ-loop
-add-held c = search needs
+add-held c = omega arith
 
 mul-held-2 : tie.Need-mul-held-2 Inv-loop μ-loop
-mul-held-2 c = search needs
+mul-held-2 c = omega arith
 
 element-copy-out-held : tie.Need-element-copy-out-held Inv-loop μ-loop
-element-copy-out-held c = search needs
+element-copy-out-held c = omega arith
 
 mul-a : tie.Need-mul-a Inv-loop μ-loop
-mul-a c = search needs
+mul-a c = omega arith
 
 add-a : tie.Need-add-a Inv-loop μ-loop
-add-a c = search needs
+add-a c = omega arith
 
 mul-a-2 : tie.Need-mul-a-2 Inv-loop μ-loop
-mul-a-2 c = search needs
+mul-a-2 c = omega arith
 
 element-copy-out-a : tie.Need-element-copy-out-a Inv-loop μ-loop
-element-copy-out-a c = search needs
+element-copy-out-a c = omega arith
 
 mul-a-3 : tie.Need-mul-a-3 Inv-loop μ-loop
-mul-a-3 c = search needs
+mul-a-3 c = omega arith
 
 add-a-2 : tie.Need-add-a-2 Inv-loop μ-loop
-add-a-2 c = search needs
+add-a-2 c = omega arith
 
 mul-a-4 : tie.Need-mul-a-4 Inv-loop μ-loop
-mul-a-4 c = search needs
+mul-a-4 c = omega arith
 
 element-write-a : tie.Need-element-write-a Inv-loop μ-loop
-element-write-a c = search needs
+element-write-a c = omega arith
 
 mul-a-5 : tie.Need-mul-a-5 Inv-loop μ-loop
-mul-a-5 c = search needs
+mul-a-5 c = omega arith
 
 add-a-3 : tie.Need-add-a-3 Inv-loop μ-loop
-add-a-3 c = search needs
+add-a-3 c = omega arith
 
 mul-a-6 : tie.Need-mul-a-6 Inv-loop μ-loop
-mul-a-6 c = search needs
+mul-a-6 c = omega arith
 
 element-write-a-2 : tie.Need-element-write-a-2 Inv-loop μ-loop
-element-write-a-2 c = search needs
+element-write-a-2 c = omega arith
 
 add-k : tie.Need-add-k Inv-loop μ-loop
-add-k c = search needs
+add-k c = omega arith
 
 loop-less : tie.Need-loop-less Inv-loop μ-loop
 loop-less c = search needs

@@ -1,5 +1,6 @@
 -- `dense_elimination::take_pivot` meets its contract. Assumes nothing.
 use borrow.Author.Needs.{needs}
+use native.Mathlib.Omega.{arith}
 use Rattle.dense_elimination.specs.Elimination.{pivotTaken}
 use Rattle.dense_elimination.proofs.take_pivot.Statement.{statement}
 use Rattle.dense_elimination.proofs.take_pivot.Tie as tie

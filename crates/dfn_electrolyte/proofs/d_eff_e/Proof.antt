@@ -7,7 +7,7 @@ exp-requires : tie.Need-exp-requires
 exp-requires c κs = search needs
 
 returns : tie.Need-returns
-returns c = cc
+returns c = rw (c .before .before .exp .ensures)
 
 pub d-eff-e-spec : {M : Type 1} → statement M
 d-eff-e-spec = tie.close (tie.spec exp-requires returns)

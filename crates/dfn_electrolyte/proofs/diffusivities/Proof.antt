@@ -22,22 +22,22 @@ unfolding firstBy
 loop-holds c = (search needs, refl)
 
 mul-d-eff-e : tie.Need-mul-d-eff-e Inv-loop μ-loop
-mul-d-eff-e c = search needs
+mul-d-eff-e c = omega arith
 
 element-copy-out-d-eff-e : tie.Need-element-copy-out-d-eff-e Inv-loop μ-loop
-element-copy-out-d-eff-e c = search needs
+element-copy-out-d-eff-e c = omega arith
 
 d-eff-e-requires : tie.Need-d-eff-e-requires Inv-loop μ-loop
 d-eff-e-requires c κs = search needs
 
 mul-d : tie.Need-mul-d Inv-loop μ-loop
-mul-d c = search needs
+mul-d c = omega arith
 
 array-write-d : tie.Need-array-write-d Inv-loop μ-loop
 array-write-d c = search needs
 
 add-i : tie.Need-add-i Inv-loop μ-loop
-add-i c = search needs
+add-i c = omega arith
 
 loop-less : tie.Need-loop-less Inv-loop μ-loop
 loop-less c = search needs

@@ -3,12 +3,11 @@ use Prim.Native.Nat.{_+_}
 use native.Mathlib.Omega.{arith}
 use Rattle.dfn_electrolyte.specs.Electrolyte.{nodeWith}
 use Rattle.dfn_electrolyte.proofs.Both.{both-less}
-use borrow.Author.Needs.{needs}
 use Rattle.dfn_electrolyte.proofs.node.Statement.{statement}
 use Rattle.dfn_electrolyte.proofs.node.Tie as tie
 
 add-if1 : tie.Need-add-if1
-add-if1 c = search needs
+add-if1 c = omega arith
 
 moved-requires : tie.Need-moved-requires
 moved-requires c κs = let h = both-less 0 (c .before .before .args .i) (c .before .before .args .i + 1) (c .before .before .args .neg .n) (c .if1 .taken) in
@@ -19,13 +18,13 @@ unfolding nodeWith
 returns c = rw (c .before .if1 .taken, c .moved .ensures)
 
 add-if2 : tie.Need-add-if2
-add-if2 c = search needs
+add-if2 c = omega arith
 
 add-if2-2 : tie.Need-add-if2-2
-add-if2-2 c = search needs
+add-if2-2 c = omega arith
 
 add-if2-3 : tie.Need-add-if2-3
-add-if2-3 c = search needs
+add-if2-3 c = omega arith
 
 moved-requires-2 : tie.Need-moved-requires-2
 moved-requires-2 c κs = let h = both-less (c .before .before .before .before .before .before .args .neg .n) (c .before .before .before .before .before .before .args .i) (c .before .before .before .before .before .before .args .i + 1) (c .before .before .before .before .before .before .args .neg .n + 1 + c .before .before .before .before .before .before .args .pos .n) (c .if2 .taken) in
@@ -36,10 +35,10 @@ unfolding nodeWith
 returns-2 c = rw (c .before .before .before .before .before .if1 .left, c .before .if2 .taken, c .moved2 .ensures)
 
 mul-result : tie.Need-mul-result
-mul-result c = search needs
+mul-result c = omega arith
 
 element-copy-out-result : tie.Need-element-copy-out-result
-element-copy-out-result c = search needs
+element-copy-out-result c = omega arith
 
 returns-3 : tie.Need-returns-3
 unfolding nodeWith

@@ -13,16 +13,16 @@ use Rattle.dfn_electrolyte.proofs.nodes.Statement.{statement}
 use Rattle.dfn_electrolyte.proofs.nodes.Tie as tie
 
 abbrev Inv-loop : tie.InvT-loop
-Inv-loop neg pos d c n out₀ i₀ out i = (i ≤ neg .n + 1 + pos .n) × (out ≡ firstBy i (λ k. clampOf (nodeWith neg pos c d k) (f64 0x4059_0000_0000_0000) (f64 0x40a7_7000_0000_0000)) c)
+Inv-loop neg pos c d n out₀ i₀ out i = (i ≤ neg .n + 1 + pos .n) × (out ≡ firstBy i (λ k. clampOf (nodeWith neg pos c d k) (f64 0x4059_0000_0000_0000) (f64 0x40a7_7000_0000_0000)) c)
 
 abbrev μ-loop : tie.MeasureT-loop
-μ-loop neg pos d c n out₀ i₀ out i = neg .n + 1 + pos .n - i
+μ-loop neg pos c d n out₀ i₀ out i = neg .n + 1 + pos .n - i
 
 add-n : tie.Need-add-n Inv-loop μ-loop
-add-n c = search needs
+add-n c = omega arith
 
 add-n-2 : tie.Need-add-n-2 Inv-loop μ-loop
-add-n-2 c = search needs
+add-n-2 c = omega arith
 
 loop-holds : tie.Need-loop-holds Inv-loop μ-loop
 unfolding firstBy
@@ -35,24 +35,24 @@ clamp-requires : tie.Need-clamp-requires Inv-loop μ-loop
 clamp-requires c κs = search needs
 
 mul-out : tie.Need-mul-out Inv-loop μ-loop
-mul-out c = search needs
+mul-out c = omega arith
 
 array-write-out : tie.Need-array-write-out Inv-loop μ-loop
 array-write-out c = search needs
 
 add-i : tie.Need-add-i Inv-loop μ-loop
-add-i c = search needs
+add-i c = omega arith
 
 loop-less : tie.Need-loop-less Inv-loop μ-loop
 loop-less c = search needs
 
 loop-again : tie.Need-loop-again Inv-loop μ-loop
 unfolding firstBy
-loop-again c = (search needs, rw (add-one, c .clamp .ensures, c .before .node .ensures, c .before .before .before .before .loop .inv .1))
+loop-again c = (search needs, rw (add-one, c .clamp .ensures, c .before .node .ensures, c .before .before .before .loop .inv .1))
 
 returns : tie.Need-returns Inv-loop μ-loop
 unfolding nodesWith
-returns c = let e : c .before .loop .i ≡ c .before .before .before .before .args .neg .n + 1 + c .before .before .before .before .args .pos .n = omega arith in
+returns c = let e : c .before .loop .i ≡ c .before .before .before .before .before .args .neg .n + 1 + c .before .before .before .before .before .args .pos .n = omega arith in
     rw e at (c .before .loop .inv .1)
 
 pub nodes-spec : {M : Type 1} → statement M

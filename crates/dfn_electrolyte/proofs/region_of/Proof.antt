@@ -10,7 +10,7 @@ specific-area-requires : tie.Need-specific-area-requires
 specific-area-requires c κs = search needs
 
 returns : tie.Need-returns
-returns c = cc
+returns c = rw (c .before .before .specific-area .ensures, c .before .before .before .before .before .nearest-u64-to-f64 .ensures)
 
 pub region-of-spec : {M : Type 1} → statement M
 region-of-spec = tie.close (tie.spec nearest-u64-to-f64-requires specific-area-requires returns)

@@ -7,7 +7,7 @@ powf-requires : tie.Need-powf-requires
 powf-requires c κs = search needs
 
 returns : tie.Need-returns
-returns c = cc
+returns c = rw (c .powf .ensures)
 
 pub salt-of-spec : {M : Type 1} → statement M
 salt-of-spec = tie.close (tie.spec powf-requires returns)

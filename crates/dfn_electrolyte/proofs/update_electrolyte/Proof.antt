@@ -1,6 +1,7 @@
 -- `dfn_electrolyte::update_electrolyte` meets its contract. Assumes nothing.
 use Rattle.dfn_electrolyte.specs.Electrolyte.{electrolyteAfter}
 use borrow.Author.Needs.{needs}
+use native.Mathlib.Omega.{arith}
 use Rattle.dfn_electrolyte.proofs.update_electrolyte.Statement.{statement}
 use Rattle.dfn_electrolyte.proofs.update_electrolyte.Tie as tie
 
@@ -26,20 +27,20 @@ salt-of-requires : tie.Need-salt-of-requires
 salt-of-requires c κs = search needs
 
 add-diffusivities : tie.Need-add-diffusivities
-add-diffusivities c = search needs
+add-diffusivities c = omega arith
 
 add-diffusivities-2 : tie.Need-add-diffusivities-2
-add-diffusivities-2 c = search needs
+add-diffusivities-2 c = omega arith
 
 diffusivities-requires : tie.Need-diffusivities-requires
 diffusivities-requires c κs = search needs
 
 nodes-requires : tie.Need-nodes-requires
-nodes-requires c κs = rw (c .before .before .before .before .before .before .region-of .ensures, c .before .before .before .before .region-of2 .ensures) (search needs)
+nodes-requires c κs = rw (c .before .before .before .before .before .region-of .ensures, c .before .before .before .region-of2 .ensures) (search needs)
 
 returns : tie.Need-returns
 unfolding electrolyteAfter
-returns c = rw (c .nodes .ensures, c .before .before .diffusivities .ensures, c .before .before .before .before .salt-of .ensures, c .before .before .before .before .before .region-of2 .ensures, c .before .before .before .before .before .before .before .region-of .ensures, c .before .before .before .before .before .before .pore-flux2 .ensures, c .before .before .before .before .before .before .before .before .pore-flux .ensures, c .before .before .before .before .before .before .before .before .before .cathode .ensures, c .before .before .before .before .before .before .before .before .before .before .anode .ensures)
+returns c = rw (c .nodes .ensures, c .before .before .diffusivities .ensures, c .before .before .before .salt-of .ensures, c .before .before .before .before .region-of2 .ensures, c .before .before .before .before .before .before .region-of .ensures, c .before .before .before .before .before .pore-flux2 .ensures, c .before .before .before .before .before .before .before .pore-flux .ensures, c .before .before .before .before .before .before .before .before .cathode .ensures, c .before .before .before .before .before .before .before .before .before .anode .ensures)
 
 pub update-electrolyte-spec : {M : Type 1} → statement M
 update-electrolyte-spec =

@@ -1,61 +1,26 @@
--- `dfn_places::solid_fits` meets its contract: i places are tested after i turns. Assumes nothing.
-use lib.Dec.{ltb}
-use Prim.Native.Nat.{_≤_, _-_}
-use mathlib.Core.Path.{_≡_, refl}
+-- `dfn_places::solid_fits` meets its contract. Assumes nothing.
 use native.Mathlib.Omega.{arith}
-use native.Mathlib.Numerals.{add-one}
-use Rattle.binary64.specs.Operators.{f64}
-use Rattle.turns.specs.Turns.{allBelow}
-use Rattle.dfn_places.specs.Places.{at, placeFits, solidFits}
+use native.Mathlib.Nat.{le-refl}
+use Rattle.dfn_places.specs.Places.{solidFits}
 use borrow.Author.Needs.{needs}
 use Rattle.dfn_places.proofs.solid_fits.Statement.{statement}
 use Rattle.dfn_places.proofs.solid_fits.Tie as tie
 
-abbrev Inv-loop : tie.InvT-loop
-Inv-loop c n c-max ok₀ i₀ ok i = (i ≤ 512) × (ok ≡ allBelow i (λ k. placeFits (at c k) (ltb k n) (f64 0) c-max))
+used-fit-requires : tie.Need-used-fit-requires
+used-fit-requires c κs = search needs
 
-abbrev μ-loop : tie.MeasureT-loop
-μ-loop c n c-max ok₀ i₀ ok i = 512 - i
-
-loop-holds : tie.Need-loop-holds Inv-loop μ-loop
-unfolding allBelow
-loop-holds c = (search needs, refl)
-
-mul-place-fits : tie.Need-mul-place-fits Inv-loop μ-loop
-mul-place-fits c = search needs
-
-element-copy-out-place-fits : tie.Need-element-copy-out-place-fits Inv-loop μ-loop
-element-copy-out-place-fits c = search needs
-
-place-fits-requires : tie.Need-place-fits-requires Inv-loop μ-loop
-place-fits-requires c κs = search needs
-
-add-i : tie.Need-add-i Inv-loop μ-loop
-add-i c = search needs
-
-loop-less : tie.Need-loop-less Inv-loop μ-loop
-loop-less c = search needs
-
-loop-again : tie.Need-loop-again Inv-loop μ-loop
-unfolding allBelow
-loop-again c = (search needs, rw (add-one, c .place-fits .ensures, c .before .before .before .loop .inv .1))
-
-returns : tie.Need-returns Inv-loop μ-loop
+returns : tie.Need-returns
 unfolding solidFits
-returns c = let e : c .before .loop .i ≡ 512 = omega arith in
-    rw e at (c .before .loop .inv .1)
+returns c = c .used-fit .ensures (c .before .before .args .n) (omega arith)
+
+used-fit-requires-2 : tie.Need-used-fit-requires-2
+used-fit-requires-2 c κs = search needs
+
+unused-fit-requires : tie.Need-unused-fit-requires
+unused-fit-requires c κs = search needs
+
+returns-2 : tie.Need-returns-2
+returns-2 c = c .unused-fit .ensures (c .before .before .before .args .c-max) (c .before .used-fit2 .ensures (c .before .before .before .args .n) (le-refl _))
 
 pub solid-fits-spec : {M : Type 1} → statement M
-solid-fits-spec =
-    tie.close
-    (tie.spec
-    Inv-loop
-    μ-loop
-    loop-holds
-    mul-place-fits
-    element-copy-out-place-fits
-    place-fits-requires
-    add-i
-    loop-less
-    loop-again
-    returns)
+solid-fits-spec = tie.close (tie.spec used-fit-requires returns used-fit-requires-2 unused-fit-requires returns-2)

@@ -7,20 +7,20 @@ use Rattle.dfn_solid.proofs.centre_node.Statement.{statement}
 use Rattle.dfn_solid.proofs.centre_node.Tie as tie
 
 add-result : tie.Need-add-result
-add-result c = search needs
+add-result c = omega arith
 
 mul-result : tie.Need-mul-result
-mul-result c = search needs
+mul-result c = omega arith
 
 element-copy-out-result : tie.Need-element-copy-out-result
-element-copy-out-result c = search needs
+element-copy-out-result c = omega arith
 
 returns : tie.Need-returns
 unfolding centreWith
 returns c = rw (eq-eqb _ _ (c .before .if1 .taken))
 
 add-inner-node : tie.Need-add-inner-node
-add-inner-node c = search needs
+add-inner-node c = omega arith
 
 inner-node-requires : tie.Need-inner-node-requires
 inner-node-requires c κs = search needs

@@ -7,7 +7,7 @@ max-requires : tie.Need-max-requires
 max-requires c κs = search needs
 
 returns : tie.Need-returns
-returns c = cc
+returns c = rw (c .before .max .ensures)
 
 pub d-s-spec : {M : Type 1} → statement M
 d-s-spec = tie.close (tie.spec max-requires returns)

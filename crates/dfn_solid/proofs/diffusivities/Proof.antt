@@ -22,22 +22,22 @@ unfolding firstBy
 loop-holds c = (search needs, refl)
 
 mul-d-s : tie.Need-mul-d-s Inv-loop μ-loop
-mul-d-s c = search needs
+mul-d-s c = omega arith
 
 element-copy-out-d-s : tie.Need-element-copy-out-d-s Inv-loop μ-loop
-element-copy-out-d-s c = search needs
+element-copy-out-d-s c = omega arith
 
 d-s-requires : tie.Need-d-s-requires Inv-loop μ-loop
 d-s-requires c κs = search needs
 
 mul-d : tie.Need-mul-d Inv-loop μ-loop
-mul-d c = search needs
+mul-d c = omega arith
 
 array-write-d : tie.Need-array-write-d Inv-loop μ-loop
 array-write-d c = search needs
 
 add-k : tie.Need-add-k Inv-loop μ-loop
-add-k c = search needs
+add-k c = omega arith
 
 loop-less : tie.Need-loop-less Inv-loop μ-loop
 loop-less c = search needs

@@ -14,10 +14,10 @@ unfolding nodeWith
 returns c = rw (eq-eqb _ _ (c .before .if1 .taken), c .centre-node .ensures)
 
 add-if2 : tie.Need-add-if2
-add-if2 c = search needs
+add-if2 c = omega arith
 
 add-inner-node : tie.Need-add-inner-node
-add-inner-node c = search needs
+add-inner-node c = omega arith
 
 inner-node-requires : tie.Need-inner-node-requires
 inner-node-requires c κs = search needs
@@ -27,7 +27,7 @@ unfolding nodeWith
 returns-2 c = rw (ne-eqb _ _ (c .before .before .before .if1 .left), lt-ltb _ _ (c .before .if2 .taken), c .inner-node .ensures)
 
 add-surface-node : tie.Need-add-surface-node
-add-surface-node c = search needs
+add-surface-node c = omega arith
 
 surface-node-requires : tie.Need-surface-node-requires
 surface-node-requires c κs = search needs

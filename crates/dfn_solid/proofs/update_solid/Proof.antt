@@ -1,5 +1,4 @@
 -- `dfn_solid::update_solid` meets its contract: i particles are new after i turns. Assumes nothing.
-use Prim.Native.Nat.{_*_}
 use Prim.Native.Nat.{_≤_, _-_}
 use mathlib.Core.Path.{_≡_, refl}
 use native.Mathlib.Omega.{arith}
@@ -11,59 +10,57 @@ use Rattle.dfn_solid.proofs.update_solid.Statement.{statement}
 use Rattle.dfn_solid.proofs.update_solid.Tie as tie
 
 abbrev Inv-loop : tie.InvT-loop
-Inv-loop v count c n d out₀ sum₀ i₀ out sum i = (i ≤ count) × ((out ≡ particlesWith v c d i) × (sum ≡ surfacesWith v c d i))
+Inv-loop v c count out₀ n d sum₀ i₀ out sum i = (i ≤ count) × ((out ≡ particlesWith v c d i) × (sum ≡ surfacesWith v c d i))
 
 abbrev μ-loop : tie.MeasureT-loop
-μ-loop v count c n d out₀ sum₀ i₀ out sum i = count - i
+μ-loop v c count out₀ n d sum₀ i₀ out sum i = count - i
 
 mul-diffusivities : tie.Need-mul-diffusivities Inv-loop μ-loop
-mul-diffusivities c = let r = room (c .before .args .count) (c .before .args .v .n) (omega arith) (omega arith) in
+mul-diffusivities c = let r = room (c .args .count) (c .args .v .n) (omega arith) (omega arith) in
     omega (arith, r)
 
 diffusivities-requires : tie.Need-diffusivities-requires Inv-loop μ-loop
-diffusivities-requires c κs = let r = room (c .before .args .count) (c .before .args .v .n) (omega arith) (omega arith) in
-    omega (arith, r)
+diffusivities-requires c κs = room (c .args .count) (c .args .v .n) (omega arith) (omega arith)
 
 loop-holds : tie.Need-loop-holds Inv-loop μ-loop
 unfolding particlesWith surfacesWith
-loop-holds c = (search needs, (refl, refl))
+loop-holds c = (search needs, (c .before .pre .1 .1 .1, refl))
 
 mul-move-particle : tie.Need-mul-move-particle Inv-loop μ-loop
-mul-move-particle c = let r = room-at (c .before .before .before .loop .i) (c .before .before .before .before .before .before .args .v .n) (omega arith) (omega arith) in
+mul-move-particle c = let r = room-at (c .before .before .loop .i) (c .before .before .before .before .args .v .n) (omega arith) (omega arith) in
     omega (arith, r)
 
 move-particle-requires : tie.Need-move-particle-requires Inv-loop μ-loop
-move-particle-requires c κs = let r = room-at (c .before .before .before .before .loop .i) (c .before .before .before .before .before .before .before .args .v .n) (omega arith) (omega arith) in
-    (search needs, r)
+move-particle-requires c κs = (search needs, room-at (c .before .before .before .loop .i) (c .before .before .before .before .before .args .v .n) (omega arith) (omega arith))
 
 mul-sum : tie.Need-mul-sum Inv-loop μ-loop
-mul-sum c = let r = room-at (c .before .before .before .before .before .loop .i) (c .before .before .before .before .before .before .before .before .args .v .n) (omega arith) (omega arith) in
+mul-sum c = let r = room-at (c .before .before .before .before .loop .i) (c .before .before .before .before .before .before .args .v .n) (omega arith) (omega arith) in
     omega (arith, r)
 
 sub-sum : tie.Need-sub-sum Inv-loop μ-loop
-sub-sum c = search needs
+sub-sum c = omega arith
 
 add-sum : tie.Need-add-sum Inv-loop μ-loop
-add-sum c = let r = room-at (c .before .before .before .before .before .loop .i) (c .before .before .before .before .before .before .before .before .args .v .n) (omega arith) (omega arith) in
+add-sum c = let r = room-at (c .before .before .before .before .loop .i) (c .before .before .before .before .before .before .args .v .n) (omega arith) (omega arith) in
     omega (arith, r)
 
 mul-sum-2 : tie.Need-mul-sum-2 Inv-loop μ-loop
-mul-sum-2 c = let r = room-at (c .before .before .before .before .before .loop .i) (c .before .before .before .before .before .before .before .before .args .v .n) (omega arith) (omega arith) in
+mul-sum-2 c = let r = room-at (c .before .before .before .before .loop .i) (c .before .before .before .before .before .before .args .v .n) (omega arith) (omega arith) in
     search needs
 
-array-read-sum : tie.Need-array-read-sum Inv-loop μ-loop
-array-read-sum c = let r = room-at (c .before .before .before .before .before .loop .i) (c .before .before .before .before .before .before .before .before .args .v .n) (omega arith) (omega arith) in
+element-copy-out-sum : tie.Need-element-copy-out-sum Inv-loop μ-loop
+element-copy-out-sum c = let r = room-at (c .before .before .before .before .loop .i) (c .before .before .before .before .before .before .args .v .n) (omega arith) (omega arith) in
     omega (arith, r)
 
 add-i : tie.Need-add-i Inv-loop μ-loop
-add-i c = search needs
+add-i c = omega arith
 
 loop-less : tie.Need-loop-less Inv-loop μ-loop
 loop-less c = search needs
 
 loop-again : tie.Need-loop-again Inv-loop μ-loop
 unfolding particlesWith surfacesWith
-loop-again c = (search needs, (rw (add-one, c .before .move-particle .ensures, c .before .before .before .before .before .before .loop .inv .1 .0), rw (add-one, c .before .move-particle .ensures, c .before .before .before .before .before .before .loop .inv .1 .0, c .before .before .before .before .before .before .loop .inv .1 .1)))
+loop-again c = (search needs, (rw (add-one, c .before .before .move-particle .ensures, c .before .before .before .before .before .before .loop .inv .1 .0), rw (add-one, c .before .before .move-particle .ensures, c .before .before .before .before .before .before .loop .inv .1 .0, c .before .before .before .before .before .before .loop .inv .1 .1)))
 
 at-least-one-requires : tie.Need-at-least-one-requires Inv-loop μ-loop
 at-least-one-requires c κs = search needs
@@ -73,8 +70,8 @@ nearest-u64-to-f64-requires c κs = search needs
 
 returns : tie.Need-returns Inv-loop μ-loop
 unfolding solidAfter
-returns c = let e : c .before .before .before .loop .i ≡ c .before .before .before .before .before .before .args .count = omega arith in
-    rw (c .nearest-u64-to-f64 .ensures, c .before .at-least-one .ensures, rw e at (c .before .before .before .loop .inv .1 .0), rw e at (c .before .before .before .loop .inv .1 .1), c .before .before .before .before .diffusivities .ensures)
+returns c = let e : c .before .before .before .loop .i ≡ c .before .before .before .before .before .args .count = omega arith in
+    (rw (c .nearest-u64-to-f64 .ensures, c .before .at-least-one .ensures, rw e at (c .before .before .before .loop .inv .1 .1), c .before .before .before .before .diffusivities .ensures), rw (rw e at (c .before .before .before .loop .inv .1 .0), c .before .before .before .before .diffusivities .ensures))
 
 pub update-solid-spec : {M : Type 1} → statement M
 update-solid-spec =
@@ -91,7 +88,7 @@ update-solid-spec =
     sub-sum
     add-sum
     mul-sum-2
-    array-read-sum
+    element-copy-out-sum
     add-i
     loop-less
     loop-again

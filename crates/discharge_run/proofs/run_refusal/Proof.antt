@@ -1,4 +1,9 @@
 -- `discharge_run::run_refusal` meets its contract. Assumes nothing.
+use Prim.Native.Nat.{ℕ, zero, suc}
+use mathlib.Core.Path.{_≡_, refl}
+use lib.Dec.{eqb·suc-zero}
+use Rattle.refusal.specs.Numbers.{firstMet}
+use Rattle.solver.specs.Cell.{cellRefusal}
 use Rattle.discharge_run.specs.Discharge.{runRefusal}
 use borrow.Author.Needs.{needs}
 use Rattle.discharge_run.proofs.run_refusal.Statement.{statement}
@@ -13,8 +18,8 @@ refusal-unless-requires c κs = search needs
 refusal-unless-requires-2 : tie.Need-refusal-unless-requires-2
 refusal-unless-requires-2 c κs = search needs
 
-fields-fit-requires : tie.Need-fields-fit-requires
-fields-fit-requires c κs = search needs
+refusal-requires : tie.Need-refusal-requires
+refusal-requires c κs = search needs
 
 refusal-unless-requires-3 : tie.Need-refusal-unless-requires-3
 refusal-unless-requires-3 c κs = search needs
@@ -37,9 +42,6 @@ refusal-unless-requires-5 c κs = search needs
 temperature-fits-requires : tie.Need-temperature-fits-requires
 temperature-fits-requires c κs = search needs
 
-refusal-unless-requires-6 : tie.Need-refusal-unless-requires-6
-refusal-unless-requires-6 c κs = search needs
-
 first-met-requires : tie.Need-first-met-requires
 first-met-requires c κs = search needs
 
@@ -55,9 +57,34 @@ first-met-requires-4 c κs = search needs
 first-met-requires-5 : tie.Need-first-met-requires-5
 first-met-requires-5 c κs = search needs
 
+-- what refuses the cell is its grid or what is met after that
+grid-once : (g l f x : ℕ) → firstMet g (firstMet l (firstMet (firstMet g f) x)) ≡ firstMet g (firstMet l (firstMet f x))
+unfolding firstMet
+grid-once zero l f x = refl
+grid-once (suc g) l f x = rw eqb·suc-zero
+
 returns : tie.Need-returns
-unfolding runRefusal
-returns c = cc
+unfolding runRefusal cellRefusal
+returns c =
+    rw (
+      c .first-met5 .ensures,
+      c .before .first-met4 .ensures,
+      c .before .before .first-met3 .ensures,
+      c .before .before .before .first-met2 .ensures,
+      c .before .before .before .before .first-met .ensures,
+      c .before .before .before .before .before .refusal-unless5 .ensures,
+      c .before .before .before .before .before .before .temperature-fits .ensures,
+      c .before .before .before .before .before .before .before .refusal-unless4 .ensures,
+      c .before .before .before .before .before .before .before .before .is-finite .ensures,
+      c .before .before .before .before .before .before .before .before .before .interval-fits .ensures,
+      c .before .before .before .before .before .before .before .before .before .before .refusal-unless3 .ensures,
+      c .before .before .before .before .before .before .before .before .before .before .before .load-fits .ensures,
+      c .before .before .before .before .before .before .before .before .before .before .before .before .refusal .ensures,
+      c .before .before .before .before .before .before .before .before .before .before .before .before .before .refusal-unless2 .ensures,
+      c .before .before .before .before .before .before .before .before .before .before .before .before .before .before .refusal-unless .ensures,
+      c .before .before .before .before .before .before .before .before .before .before .before .before .before .before .before .grid-fits .ensures,
+    )
+    (grid-once _ _ _ _)
 
 pub run-refusal-spec : {M : Type 1} → statement M
 run-refusal-spec =
@@ -66,15 +93,14 @@ run-refusal-spec =
     grid-fits-requires
     refusal-unless-requires
     refusal-unless-requires-2
-    fields-fit-requires
-    refusal-unless-requires-3
+    refusal-requires
     load-fits-requires
-    refusal-unless-requires-4
+    refusal-unless-requires-3
     interval-fits-requires
     is-finite-requires
-    refusal-unless-requires-5
+    refusal-unless-requires-4
     temperature-fits-requires
-    refusal-unless-requires-6
+    refusal-unless-requires-5
     first-met-requires
     first-met-requires-2
     first-met-requires-3

@@ -12,7 +12,7 @@ no-state-requires c κs = search needs
 
 returns : tie.Need-returns
 unfolding started
-returns c = cc
+returns c = rw (c .no-state .ensures, c .before .over-after .ensures)
 
 pub start-spec : {M : Type 1} → statement M
 start-spec = tie.close (tie.spec over-after-requires no-state-requires returns)

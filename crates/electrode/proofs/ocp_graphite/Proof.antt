@@ -18,7 +18,7 @@ exp-requires-2 c κs = search needs
 
 returns : tie.Need-returns
 unfolding graphiteCurve
-returns c = cc
+returns c = rw (c .exp2 .ensures, c .before .exp .ensures, c .before .before .powf2 .ensures, c .before .before .before .powf .ensures)
 
 pub ocp-graphite-spec : {M : Type 1} → statement M
 ocp-graphite-spec =

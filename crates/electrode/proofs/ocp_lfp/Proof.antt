@@ -24,7 +24,7 @@ exp-requires-2 c κs = search needs
 
 returns : tie.Need-returns
 unfolding lfpCurve
-returns c = cc
+returns c = rw (c .exp2 .ensures, c .before .exp .ensures, c .before .before .fourth .ensures, c .before .before .before .cube .ensures, c .before .before .before .before .square .ensures, c .before .before .before .before .before .clamp .ensures)
 
 pub ocp-lfp-spec : {M : Type 1} → statement M
 ocp-lfp-spec =

@@ -18,7 +18,7 @@ exp-requires c κs = search needs
 
 returns : tie.Need-returns
 unfolding nmcCurve
-returns c = cc
+returns c = rw (c .exp .ensures, c .before .cube .ensures, c .before .before .square .ensures, c .before .before .before .clamp .ensures)
 
 pub ocp-nmc-spec : {M : Type 1} → statement M
 ocp-nmc-spec =

@@ -15,7 +15,7 @@ answered-requires c κs = search needs
 
 returns : tie.Need-returns
 unfolding volumeCall
-returns c = cc
+returns c = rw (c .answered .ensures, c .before .refusal-unless .ensures, c .before .before .within .ensures)
 
 pub sphere-volume-spec : {M : Type 1} → statement M
 sphere-volume-spec =

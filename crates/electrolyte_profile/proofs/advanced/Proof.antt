@@ -23,13 +23,13 @@ node-new-requires : tie.Need-node-new-requires Inv-loop μ-loop
 node-new-requires c κs = search needs
 
 mul-out : tie.Need-mul-out Inv-loop μ-loop
-mul-out c = search needs
+mul-out c = omega arith
 
 array-write-out : tie.Need-array-write-out Inv-loop μ-loop
 array-write-out c = search needs
 
 add-node : tie.Need-add-node Inv-loop μ-loop
-add-node c = search needs
+add-node c = omega arith
 
 loop-less : tie.Need-loop-less Inv-loop μ-loop
 loop-less c = search needs

@@ -23,7 +23,7 @@ unfolding allBelow
 loop-holds c = (search needs, refl)
 
 mul-is-finite : tie.Need-mul-is-finite Inv-loop μ-loop
-mul-is-finite c = search needs
+mul-is-finite c = omega arith
 
 array-read-is-finite : tie.Need-array-read-is-finite Inv-loop μ-loop
 array-read-is-finite c = search needs
@@ -32,7 +32,7 @@ is-finite-requires : tie.Need-is-finite-requires Inv-loop μ-loop
 is-finite-requires c κs = search needs
 
 add-i : tie.Need-add-i Inv-loop μ-loop
-add-i c = search needs
+add-i c = omega arith
 
 loop-less : tie.Need-loop-less Inv-loop μ-loop
 loop-less c = search needs

@@ -1,5 +1,6 @@
 -- `electrolyte_profile::node_new` meets its contract. Assumes nothing.
 use borrow.Author.Needs.{needs}
+use native.Mathlib.Omega.{arith}
 use Rattle.electrolyte_profile.specs.Step.{nodeNew}
 use Rattle.electrolyte_profile.proofs.node_new.Statement.{statement}
 use Rattle.electrolyte_profile.proofs.node_new.Tie as tie
@@ -14,10 +15,10 @@ region-at-requires : tie.Need-region-at-requires
 region-at-requires c κs = search needs
 
 mul-moved : tie.Need-mul-moved
-mul-moved c = search needs
+mul-moved c = omega arith
 
 element-copy-out-moved : tie.Need-element-copy-out-moved
-element-copy-out-moved c = search needs
+element-copy-out-moved c = omega arith
 
 moved-requires : tie.Need-moved-requires
 moved-requires c κs = search needs

@@ -23,7 +23,7 @@ unfolding allBelow
 loop-holds c = (search needs, refl)
 
 mul-place-fits : tie.Need-mul-place-fits Inv-loop μ-loop
-mul-place-fits c = search needs
+mul-place-fits c = omega arith
 
 array-read-place-fits : tie.Need-array-read-place-fits Inv-loop μ-loop
 array-read-place-fits c = search needs
@@ -32,7 +32,7 @@ place-fits-requires : tie.Need-place-fits-requires Inv-loop μ-loop
 place-fits-requires c κs = search needs
 
 add-i : tie.Need-add-i Inv-loop μ-loop
-add-i c = search needs
+add-i c = omega arith
 
 loop-less : tie.Need-loop-less Inv-loop μ-loop
 loop-less c = search needs

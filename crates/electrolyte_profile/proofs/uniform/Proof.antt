@@ -20,13 +20,13 @@ unfolding firstBy
 loop-holds c = (search needs, refl)
 
 mul-c : tie.Need-mul-c Inv-loop μ-loop
-mul-c c = search needs
+mul-c c = omega arith
 
 array-write-c : tie.Need-array-write-c Inv-loop μ-loop
 array-write-c c = search needs
 
 add-i : tie.Need-add-i Inv-loop μ-loop
-add-i c = search needs
+add-i c = omega arith
 
 loop-less : tie.Need-loop-less Inv-loop μ-loop
 loop-less c = search needs

@@ -15,7 +15,7 @@ sqrt-requires c κs = search needs
 
 returns : tie.Need-returns
 unfolding exchange
-returns c = cc
+returns c = rw (c .before .sqrt .ensures .0, c .before .before .before .before .clamp .ensures, c .before .before .before .before .before .surface-theta .ensures)
 
 pub exchange-current-spec : {M : Type 1} → statement M
 exchange-current-spec =

@@ -7,7 +7,7 @@ signum-requires : tie.Need-signum-requires
 signum-requires c κs = search needs
 
 returns : tie.Need-returns
-returns c = cc
+returns c = rw (c .signum .ensures)
 
 pub terminal-voltage-spec : {M : Type 1} → statement M
 terminal-voltage-spec = tie.close (tie.spec signum-requires returns)

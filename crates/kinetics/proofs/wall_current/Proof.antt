@@ -9,7 +9,7 @@ area-per-volume-requires c κs = search needs
 
 returns : tie.Need-returns
 unfolding wallCurrent
-returns c = cc
+returns c = rw (c .before .area-per-volume .ensures)
 
 pub wall-current-spec : {M : Type 1} → statement M
 wall-current-spec = tie.close (tie.spec area-per-volume-requires returns)

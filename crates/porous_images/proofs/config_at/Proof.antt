@@ -3,10 +3,6 @@ use Rattle.porous_images.specs.Images.{configAt}
 use borrow.Author.Needs.{needs}
 use Rattle.porous_images.proofs.config_at.Statement.{statement}
 use Rattle.porous_images.proofs.config_at.Tie as tie
-use Rattle.porous_images.proofs.config_at.Reads as reads
-use Rattle.porous_images.proofs.config_at.Lts as lts
-use Rattle.codec.proofs.read_f64.Reads as read-f64-reads
-use Rattle.codec.proofs.read_word.Reads as read-word-reads
 
 read-word-requires : tie.Need-read-word-requires
 read-word-requires c κs = search needs

@@ -4,11 +4,6 @@ use Rattle.turns.specs.Turns.{firstBy}
 use borrow.Author.Needs.{needs}
 use Rattle.porous_images.proofs.electrolyte_at.Statement.{statement}
 use Rattle.porous_images.proofs.electrolyte_at.Tie as tie
-use Rattle.porous_images.proofs.electrolyte_at.Reads as reads
-use Rattle.porous_images.proofs.electrolyte_at.Lts as lts
-use Rattle.codec.proofs.read_places.Reads as read-places-reads
-use Rattle.codec.proofs.read_word.Reads as read-word-reads
-use Rattle.porous_images.proofs.salt_at.Reads as salt-at-reads
 
 salt-at-requires : tie.Need-salt-at-requires
 salt-at-requires c κs = search needs

@@ -3,11 +3,6 @@ use Rattle.porous_images.specs.Images.{paramsAt}
 use borrow.Author.Needs.{needs}
 use Rattle.porous_images.proofs.params_at.Statement.{statement}
 use Rattle.porous_images.proofs.params_at.Tie as tie
-use Rattle.porous_images.proofs.params_at.Reads as reads
-use Rattle.porous_images.proofs.params_at.Lts as lts
-use Rattle.codec.proofs.read_places.Reads as read-places-reads
-use Rattle.codec.proofs.read_word.Reads as read-word-reads
-use Rattle.porous_images.proofs.params_of.Reads as params-of-reads
 
 slice-aggregate-read-places : tie.Need-slice-aggregate-read-places
 slice-aggregate-read-places c = search needs

@@ -4,8 +4,6 @@ use mathlib.Core.Path.{refl}
 use borrow.Author.Needs.{needs}
 use Rattle.porous_images.proofs.params_of.Statement.{statement}
 use Rattle.porous_images.proofs.params_of.Tie as tie
-use Rattle.porous_images.proofs.params_of.Reads as reads
-use Rattle.porous_images.proofs.params_of.Lts as lts
 
 array-read-t9 : tie.Need-array-read-t9
 array-read-t9 c = search needs

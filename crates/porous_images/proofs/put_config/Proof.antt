@@ -3,10 +3,6 @@ use Rattle.porous_images.specs.Images.{putConfig}
 use borrow.Author.Needs.{needs}
 use Rattle.porous_images.proofs.put_config.Statement.{statement}
 use Rattle.porous_images.proofs.put_config.Tie as tie
-use Rattle.porous_images.proofs.put_config.Reads as reads
-use Rattle.porous_images.proofs.put_config.Lts as lts
-use Rattle.codec.proofs.write_f64.Reads as write-f64-reads
-use Rattle.codec.proofs.write_word.Reads as write-word-reads
 
 write-word-requires : tie.Need-write-word-requires
 write-word-requires c κs = search needs

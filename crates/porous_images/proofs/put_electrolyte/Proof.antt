@@ -3,12 +3,6 @@ use Rattle.porous_images.specs.Images.{putElectrolyte}
 use borrow.Author.Needs.{needs}
 use Rattle.porous_images.proofs.put_electrolyte.Statement.{statement}
 use Rattle.porous_images.proofs.put_electrolyte.Tie as tie
-use Rattle.porous_images.proofs.put_electrolyte.Reads as reads
-use Rattle.porous_images.proofs.put_electrolyte.Lts as lts
-use Rattle.codec.proofs.put_96.Reads as put-96-reads
-use Rattle.codec.proofs.write_places.Reads as write-places-reads
-use Rattle.codec.proofs.write_word.Reads as write-word-reads
-use Rattle.porous_images.proofs.put_salt.Reads as put-salt-reads
 
 put-salt-requires : tie.Need-put-salt-requires
 put-salt-requires c κs = search needs
@@ -28,15 +22,23 @@ write-word-requires-2 c κs = search needs
 write-word-requires-3 : tie.Need-write-word-requires-3
 write-word-requires-3 c κs = search needs
 
-put-96-requires : tie.Need-put-96-requires
-put-96-requires c κs = search needs
+write-places-requires-2 : tie.Need-write-places-requires-2
+write-places-requires-2 c κs = search needs
 
 same-length : tie.Need-same-length
-same-length c = search needs depth 24
+same-length c = search needs depth 32
 
 returns : tie.Need-returns
 unfolding putElectrolyte
-returns c = rw (c .before .before .put-96 .ensures, c .before .before .before .before .before .before .write-word3 .ensures, c .before .before .before .before .before .before .before .before .before .before .write-word2 .ensures, c .before .before .before .before .before .before .before .before .before .before .before .before .before .before .write-word .ensures, c .before .before .before .before .before .before .before .before .before .before .before .before .before .before .before .before .before .before .write-places .ensures, c .before .before .before .before .before .before .before .before .before .before .before .before .before .before .before .before .before .before .before .before .before .before .before .put-salt .ensures)
+returns c =
+    rw (
+      c .before .before .write-places2 .ensures,
+      c .before .before .before .before .before .before .before .before .before .write-word3 .ensures,
+      c .before .before .before .before .before .before .before .before .before .before .before .before .before .write-word2 .ensures,
+      c .before .before .before .before .before .before .before .before .before .before .before .before .before .before .before .before .before .write-word .ensures,
+      c .before .before .before .before .before .before .before .before .before .before .before .before .before .before .before .before .before .before .before .before .before .write-places .ensures,
+      c .before .before .before .before .before .before .before .before .before .before .before .before .before .before .before .before .before .before .before .before .before .before .before .before .before .before .put-salt .ensures,
+    )
 
 pub put-electrolyte-spec : {M : Type 1} → statement M
 put-electrolyte-spec =
@@ -48,6 +50,6 @@ put-electrolyte-spec =
     write-word-requires
     write-word-requires-2
     write-word-requires-3
-    put-96-requires
+    write-places-requires-2
     same-length
     returns)

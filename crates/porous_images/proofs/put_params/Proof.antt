@@ -3,11 +3,6 @@ use Rattle.porous_images.specs.Images.{putParams}
 use borrow.Author.Needs.{needs}
 use Rattle.porous_images.proofs.put_params.Statement.{statement}
 use Rattle.porous_images.proofs.put_params.Tie as tie
-use Rattle.porous_images.proofs.put_params.Reads as reads
-use Rattle.porous_images.proofs.put_params.Lts as lts
-use Rattle.codec.proofs.put_16.Reads as put-16-reads
-use Rattle.codec.proofs.write_places.Reads as write-places-reads
-use Rattle.codec.proofs.write_word.Reads as write-word-reads
 
 slice-aggregate-write-places : tie.Need-slice-aggregate-write-places
 slice-aggregate-write-places c = search needs
@@ -18,21 +13,28 @@ write-places-requires c κs = search needs
 write-word-requires : tie.Need-write-word-requires
 write-word-requires c κs = search needs
 
-put-16-requires : tie.Need-put-16-requires
-put-16-requires c κs = search needs
+write-places-requires-2 : tie.Need-write-places-requires-2
+write-places-requires-2 c κs = search needs
 
 write-word-requires-2 : tie.Need-write-word-requires-2
 write-word-requires-2 c κs = search needs
 
-put-16-requires-2 : tie.Need-put-16-requires-2
-put-16-requires-2 c κs = search needs
+write-places-requires-3 : tie.Need-write-places-requires-3
+write-places-requires-3 c κs = search needs
 
 same-length : tie.Need-same-length
-same-length c = search needs depth 24
+same-length c = search needs depth 32
 
 returns : tie.Need-returns
 unfolding putParams
-returns c = rw (c .before .before .put-162 .ensures, c .before .before .before .before .before .before .write-word2 .ensures, c .before .before .before .before .before .before .before .before .before .before .put-16 .ensures, c .before .before .before .before .before .before .before .before .before .before .before .before .before .before .write-word .ensures, c .before .before .before .before .before .before .before .before .before .before .before .before .before .before .before .before .before .before .write-places .ensures)
+returns c =
+    rw (
+      c .before .before .write-places3 .ensures,
+      c .before .before .before .before .before .before .before .before .before .write-word2 .ensures,
+      c .before .before .before .before .before .before .before .before .before .before .before .before .before .write-places2 .ensures,
+      c .before .before .before .before .before .before .before .before .before .before .before .before .before .before .before .before .before .before .before .before .write-word .ensures,
+      c .before .before .before .before .before .before .before .before .before .before .before .before .before .before .before .before .before .before .before .before .before .before .before .before .write-places .ensures,
+    )
 
 pub put-params-spec : {M : Type 1} → statement M
 put-params-spec =
@@ -41,8 +43,8 @@ put-params-spec =
     slice-aggregate-write-places
     write-places-requires
     write-word-requires
-    put-16-requires
+    write-places-requires-2
     write-word-requires-2
-    put-16-requires-2
+    write-places-requires-3
     same-length
     returns)

@@ -3,11 +3,6 @@ use Rattle.porous_images.specs.Images.{putReport}
 use borrow.Author.Needs.{needs}
 use Rattle.porous_images.proofs.put_report.Statement.{statement}
 use Rattle.porous_images.proofs.put_report.Tie as tie
-use Rattle.porous_images.proofs.put_report.Reads as reads
-use Rattle.porous_images.proofs.put_report.Lts as lts
-use Rattle.codec.proofs.flag.Reads as flag-reads
-use Rattle.codec.proofs.write_places.Reads as write-places-reads
-use Rattle.codec.proofs.write_word.Reads as write-word-reads
 
 slice-aggregate-write-places : tie.Need-slice-aggregate-write-places
 slice-aggregate-write-places c = search needs

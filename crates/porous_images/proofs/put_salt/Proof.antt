@@ -3,9 +3,6 @@ use Rattle.porous_images.specs.Images.{putSalt}
 use borrow.Author.Needs.{needs}
 use Rattle.porous_images.proofs.put_salt.Statement.{statement}
 use Rattle.porous_images.proofs.put_salt.Tie as tie
-use Rattle.porous_images.proofs.put_salt.Reads as reads
-use Rattle.porous_images.proofs.put_salt.Lts as lts
-use Rattle.codec.proofs.write_places.Reads as write-places-reads
 
 slice-aggregate-write-places : tie.Need-slice-aggregate-write-places
 slice-aggregate-write-places c = search needs

@@ -4,9 +4,6 @@ use Rattle.turns.specs.Turns.{firstBy}
 use borrow.Author.Needs.{needs}
 use Rattle.porous_images.proofs.salt_at.Statement.{statement}
 use Rattle.porous_images.proofs.salt_at.Tie as tie
-use Rattle.porous_images.proofs.salt_at.Reads as reads
-use Rattle.porous_images.proofs.salt_at.Lts as lts
-use Rattle.codec.proofs.read_places.Reads as read-places-reads
 
 slice-aggregate-read-places : tie.Need-slice-aggregate-read-places
 slice-aggregate-read-places c = search needs

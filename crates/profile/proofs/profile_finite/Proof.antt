@@ -13,10 +13,10 @@ use Rattle.profile.proofs.profile_finite.Statement.{statement}
 use Rattle.profile.proofs.profile_finite.Tie as tie
 
 abbrev Inv-loop : tie.InvT-loop
-Inv-loop c-s ok₀ i₀ ok i = (i ≤ 64) × (ok ≡ allBelow i (λ k. finite (getD c-s k nan)))
+Inv-loop c ok₀ i₀ ok i = (i ≤ 64) × (ok ≡ allBelow i (λ k. finite (getD c k nan)))
 
 abbrev μ-loop : tie.MeasureT-loop
-μ-loop c-s ok₀ i₀ ok i = 64 - i
+μ-loop c ok₀ i₀ ok i = 64 - i
 
 loop-holds : tie.Need-loop-holds Inv-loop μ-loop
 unfolding allBelow
@@ -25,8 +25,8 @@ loop-holds c = (search needs, refl)
 mul-is-finite : tie.Need-mul-is-finite Inv-loop μ-loop
 mul-is-finite c = search needs
 
-array-read-is-finite : tie.Need-array-read-is-finite Inv-loop μ-loop
-array-read-is-finite c = search needs
+element-copy-out-is-finite : tie.Need-element-copy-out-is-finite Inv-loop μ-loop
+element-copy-out-is-finite c = search needs
 
 is-finite-requires : tie.Need-is-finite-requires Inv-loop μ-loop
 is-finite-requires c κs = search needs
@@ -39,7 +39,7 @@ loop-less c = search needs
 
 loop-again : tie.Need-loop-again Inv-loop μ-loop
 unfolding allBelow
-loop-again c = (search needs, rw (add-one, c .is-finite .ensures, c .before .before .loop .inv .1))
+loop-again c = (search needs, rw (add-one, c .is-finite .ensures, c .before .before .before .loop .inv .1))
 
 returns : tie.Need-returns Inv-loop μ-loop
 unfolding finiteProfile
@@ -54,7 +54,7 @@ profile-finite-spec =
     μ-loop
     loop-holds
     mul-is-finite
-    array-read-is-finite
+    element-copy-out-is-finite
     is-finite-requires
     add-i
     loop-less

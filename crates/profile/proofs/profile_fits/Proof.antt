@@ -1,32 +1,32 @@
--- `profile::profile_fits` meets its contract: i places are tested after i turns. Assumes nothing.
+-- `profile::profile_fits` meets its contract: after the used places, i places are tested at turn i. Assumes nothing.
 use Prim.Native.Nat.{_≤_, _-_}
-use mathlib.Core.Path.{_≡_, refl}
+use mathlib.Core.Path.{_≡_}
 use native.Mathlib.Omega.{arith}
 use native.Mathlib.Numerals.{add-one}
-use lib.Dec.{ltb}
-use lib.ListN.{getD}
-use lib.Ieee.{nan}
+use borrow.Author.Tests.{le-ltb}
 use Rattle.turns.specs.Turns.{allBelow}
-use Rattle.profile.specs.Places.{placeFits, profileFits}
+use Rattle.profile.specs.Places.{placesFit, profileFits}
 use borrow.Author.Needs.{needs}
 use Rattle.profile.proofs.profile_fits.Statement.{statement}
 use Rattle.profile.proofs.profile_fits.Tie as tie
 
 abbrev Inv-loop : tie.InvT-loop
-Inv-loop n c-max c-s ok₀ i₀ ok i = (i ≤ 64) × (ok ≡ allBelow i (λ k. placeFits (getD c-s k nan) (ltb k n) c-max))
+Inv-loop c n c-max ok₀ i₀ ok i = (n ≤ i) × ((i ≤ 64) × (ok ≡ placesFit i c n c-max))
 
 abbrev μ-loop : tie.MeasureT-loop
-μ-loop n c-max c-s ok₀ i₀ ok i = 64 - i
+μ-loop c n c-max ok₀ i₀ ok i = 64 - i
+
+used-fit-requires : tie.Need-used-fit-requires Inv-loop μ-loop
+used-fit-requires c κs = search needs
 
 loop-holds : tie.Need-loop-holds Inv-loop μ-loop
-unfolding allBelow
-loop-holds c = (search needs, refl)
+loop-holds c = (search needs, (search needs, c .used-fit .ensures))
 
 mul-place-fits : tie.Need-mul-place-fits Inv-loop μ-loop
 mul-place-fits c = search needs
 
-array-read-place-fits : tie.Need-array-read-place-fits Inv-loop μ-loop
-array-read-place-fits c = search needs
+element-copy-out-place-fits : tie.Need-element-copy-out-place-fits Inv-loop μ-loop
+element-copy-out-place-fits c = search needs
 
 place-fits-requires : tie.Need-place-fits-requires Inv-loop μ-loop
 place-fits-requires c κs = search needs
@@ -39,12 +39,14 @@ loop-less c = search needs
 
 loop-again : tie.Need-loop-again Inv-loop μ-loop
 unfolding allBelow
-loop-again c = (search needs, rw (add-one, c .place-fits .ensures, c .before .before .loop .inv .1))
+loop-again c =
+    let l = c .before .before .before .loop in
+    (search needs, (search needs, rw (add-one, c .place-fits .ensures, l .inv .1 .1, le-ltb (l .i) (c .before .before .before .before .before .args .n) (l .inv .0))))
 
 returns : tie.Need-returns Inv-loop μ-loop
 unfolding profileFits
 returns c = let e : c .before .loop .i ≡ 64 = omega arith in
-    rw e at (c .before .loop .inv .1)
+    rw e at (c .before .loop .inv .1 .1)
 
 pub profile-fits-spec : {M : Type 1} → statement M
 profile-fits-spec =
@@ -52,9 +54,10 @@ profile-fits-spec =
     (tie.spec
     Inv-loop
     μ-loop
+    used-fit-requires
     loop-holds
     mul-place-fits
-    array-read-place-fits
+    element-copy-out-place-fits
     place-fits-requires
     add-i
     loop-less

@@ -9,20 +9,26 @@ use Rattle.profile.proofs.sums_of.Statement.{statement}
 use Rattle.profile.proofs.sums_of.Tie as tie
 
 abbrev Inv-loop : tie.InvT-loop
-Inv-loop n dr c s₀ i₀ s i = (i ≤ n) × (s ≡ sumsAfter c n dr i)
+Inv-loop c n dr table s₀ i₀ s i = (i ≤ n) × (s ≡ sumsAfter c n dr i)
 
 abbrev μ-loop : tie.MeasureT-loop
-μ-loop n dr c s₀ i₀ s i = n - i
+μ-loop c n dr table s₀ i₀ s i = n - i
+
+inner-weights-requires : tie.Need-inner-weights-requires Inv-loop μ-loop
+inner-weights-requires c κs = search needs
 
 loop-holds : tie.Need-loop-holds Inv-loop μ-loop
 unfolding sumsAfter
 loop-holds c = (search needs, refl)
 
+weight-requires : tie.Need-weight-requires Inv-loop μ-loop
+weight-requires c κs = (search needs, (search needs, c .before .before .before .inner-weights .ensures))
+
 mul-added : tie.Need-mul-added Inv-loop μ-loop
 mul-added c = search needs
 
-array-read-added : tie.Need-array-read-added Inv-loop μ-loop
-array-read-added c = search needs
+element-copy-out-added : tie.Need-element-copy-out-added Inv-loop μ-loop
+element-copy-out-added c = search needs
 
 added-requires : tie.Need-added-requires Inv-loop μ-loop
 added-requires c κs = search needs
@@ -35,10 +41,10 @@ loop-less c = search needs
 
 loop-again : tie.Need-loop-again Inv-loop μ-loop
 unfolding sumsAfter
-loop-again c = (search needs, rw (add-one, c .added .ensures, c .before .before .loop .inv .1))
+loop-again c = (search needs, rw (add-one, c .added .ensures, c .before .before .weight .ensures, c .before .before .before .before .before .loop .inv .1))
 
 returns : tie.Need-returns Inv-loop μ-loop
-returns c = let e : c .before .loop .i ≡ c .before .before .args .n = omega arith in
+returns c = let e : c .before .loop .i ≡ c .before .before .before .args .n = omega arith in
     rw e at (c .before .loop .inv .1)
 
 pub sums-of-spec : {M : Type 1} → statement M
@@ -47,9 +53,11 @@ sums-of-spec =
     (tie.spec
     Inv-loop
     μ-loop
+    inner-weights-requires
     loop-holds
+    weight-requires
     mul-added
-    array-read-added
+    element-copy-out-added
     added-requires
     add-i
     loop-less

@@ -16,12 +16,17 @@ returns-2 : tie.Need-returns-2
 unfolding weight
 returns-2 c = rw (ne-eqb _ _ (c .before .if1 .left), eq-eqb _ _ (c .if2 .taken))
 
-inner-weight-requires : tie.Need-inner-weight-requires
-inner-weight-requires c κs = search needs
+mul-result : tie.Need-mul-result
+mul-result c = search needs
+
+element-copy-out-result : tie.Need-element-copy-out-result
+element-copy-out-result c = search needs
 
 returns-3 : tie.Need-returns-3
 unfolding weight
-returns-3 c = rw (ne-eqb _ _ (c .before .before .if1 .left), ne-eqb _ _ (c .before .if2 .left), c .inner-weight .ensures)
+returns-3 c =
+    let a = c .before .before .before .args in
+    rw (ne-eqb _ _ (c .before .before .if1 .left), ne-eqb _ _ (c .before .if2 .left)) (c .before .before .before .pre .1 .1 (a .i) (search needs))
 
 pub weight-spec : {M : Type 1} → statement M
-weight-spec = tie.close (tie.spec returns sub-if2 returns-2 inner-weight-requires returns-3)
+weight-spec = tie.close (tie.spec returns sub-if2 returns-2 mul-result element-copy-out-result returns-3)

@@ -12,7 +12,7 @@ no-particle-requires-2 c κs = search needs
 
 returns : tie.Need-returns
 unfolding noSolver
-returns c = cc
+returns c = rw (c .no-particle2 .ensures, c .before .no-particle .ensures)
 
 pub no-solver-spec : {M : Type 1} → statement M
 no-solver-spec = tie.close (tie.spec no-particle-requires no-particle-requires-2 returns)

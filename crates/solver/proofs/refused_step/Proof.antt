@@ -7,7 +7,7 @@ no-state-requires : tie.Need-no-state-requires
 no-state-requires c κs = search needs
 
 returns : tie.Need-returns
-returns c = cc
+returns c = rw (c .no-state .ensures)
 
 pub refused-step-spec : {M : Type 1} → statement M
 refused-step-spec = tie.close (tie.spec no-state-requires returns)

@@ -28,7 +28,17 @@ wall-current-requires-2 : tie.Need-wall-current-requires-2
 wall-current-requires-2 c κs = search needs
 
 returns : tie.Need-returns
-returns c = cc
+returns c = λ p q.
+    rw (
+      c .wall-current2 .ensures,
+      c .before .wall-current .ensures,
+      c .before .before .min2 .ensures,
+      c .before .before .before .min .ensures,
+      c .before .before .before .before .stable-step2 .ensures q,
+      c .before .before .before .before .before .stable-step .ensures p,
+      c .before .before .before .before .before .before .diffusivity-at2 .ensures,
+      c .before .before .before .before .before .before .before .diffusivity-at .ensures,
+    )
 
 pub plan-for-spec : {M : Type 1} → statement M
 plan-for-spec =

@@ -21,7 +21,7 @@ first-met-requires c κs = search needs
 
 returns : tie.Need-returns
 unfolding planRefusal
-returns c = cc
+returns c = rw (c .first-met .ensures, c .before .refusal-unless2 .ensures, c .before .before .refusal-unless .ensures, c .before .before .before .before .within2 .ensures, c .before .before .before .before .before .within .ensures)
 
 pub plan-refusal-spec : {M : Type 1} → statement M
 plan-refusal-spec =

@@ -15,7 +15,7 @@ coefficients-fit-requires-2 c κs = search needs
 
 returns : tie.Need-returns
 unfolding parametersFit
-returns c = cc
+returns c = rw (c .coefficients-fit2 .ensures, c .before .before .coefficients-fit .ensures, c .before .before .before .before .numbers-fit .ensures)
 
 pub fit-spec : {M : Type 1} → statement M
 fit-spec =

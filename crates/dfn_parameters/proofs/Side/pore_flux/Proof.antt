@@ -7,7 +7,7 @@ specific-area-requires : tie.Need-specific-area-requires
 specific-area-requires c κs = search needs
 
 returns : tie.Need-returns
-returns c = cc
+returns c = rw (c .before .specific-area .ensures)
 
 pub pore-flux-spec : {M : Type 1} → statement M
 pore-flux-spec = tie.close (tie.spec specific-area-requires returns)

@@ -27,7 +27,7 @@ answered-requires c κs = search needs
 
 returns : tie.Need-returns
 unfolding dS sheetRefusal
-returns c = cc
+returns c = rw (c .answered .ensures, c .before .diffusivity-at .ensures, c .before .before .first-met .ensures, c .before .before .before .refusal-unless2 .ensures, c .before .before .before .before .temperature-fits .ensures, c .before .before .before .before .before .refusal-unless .ensures, c .before .before .before .before .before .before .fits2 .ensures)
 
 pub d-s-spec : {M : Type 1} → statement M
 d-s-spec =

@@ -9,7 +9,7 @@ exp-requires c κs = search needs
 
 returns : tie.Need-returns
 unfolding diffusivityAt
-returns c = cc
+returns c = rw (c .before .exp .ensures)
 
 pub diffusivity-at-spec : {M : Type 1} → statement M
 diffusivity-at-spec = tie.close (tie.spec exp-requires returns)

@@ -21,7 +21,7 @@ answered-requires c κs = search needs
 
 returns : tie.Need-returns
 unfolding slopeCall thetaRefusal
-returns c = cc
+returns c = rw (c .answered .ensures, c .before .open-circuit-slope .ensures, c .before .before .refusal-unless .ensures, c .before .before .before .is-finite .ensures, c .before .before .before .before .fits2 .ensures)
 
 pub docp-dtheta-spec : {M : Type 1} → statement M
 docp-dtheta-spec =

@@ -21,7 +21,7 @@ answered-requires c κs = search needs
 
 returns : tie.Need-returns
 unfolding ocpCall thetaRefusal
-returns c = cc
+returns c = rw (c .answered .ensures, c .before .open-circuit .ensures, c .before .before .refusal-unless .ensures, c .before .before .before .is-finite .ensures, c .before .before .before .before .fits2 .ensures)
 
 pub ocp-spec : {M : Type 1} → statement M
 ocp-spec =

@@ -15,7 +15,7 @@ open-circuit-requires-2 c κs = search needs
 
 returns : tie.Need-returns
 unfolding openCircuitSlope
-returns c = cc
+returns c = rw (c .open-circuit2 .ensures, c .before .open-circuit .ensures, c .before .before .clamp .ensures)
 
 pub open-circuit-slope-spec : {M : Type 1} → statement M
 open-circuit-slope-spec =

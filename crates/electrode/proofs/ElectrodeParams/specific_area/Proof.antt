@@ -18,7 +18,7 @@ answered-requires c κs = search needs
 
 returns : tie.Need-returns
 unfolding specificAreaCall sheetRefusal
-returns c = cc
+returns c = rw (c .answered .ensures, c .before .area-per-volume .ensures, c .before .before .refusal-unless .ensures, c .before .before .before .fits2 .ensures)
 
 pub specific-area-spec : {M : Type 1} → statement M
 specific-area-spec =

@@ -17,17 +17,17 @@ answered-requires c κs = search needs
 
 returns : tie.Need-returns
 unfolding cAvg
-returns c = rw (← c .before .before .refusal .ensures, c .answered .ensures) (refused-outcome _ (f64 0) (average (c .before .before .before .args .self)) (c .before .if1 .taken))
+returns c = rw (← c .before .before .refusal .ensures, c .answered .ensures) (refused-outcome _ (f64 0) (average (c .before .before .before .args .t1)) (c .before .if1 .taken))
 
 average-requires : tie.Need-average-requires
-average-requires c κs = nodes-of (c .before .before .args .self) (sym (c .before .refusal .ensures) ∙ c .if1 .left)
+average-requires c κs = nodes-of (c .before .before .before .before .before .args .t1) (sym (c .before .before .before .before .refusal .ensures) ∙ c .before .before .before .if1 .left)
 
 answered-requires-2 : tie.Need-answered-requires-2
 answered-requires-2 c κs = search needs
 
 returns-2 : tie.Need-returns-2
 unfolding cAvg
-returns-2 c = rw (c .answered2 .ensures, c .before .before .before .refusal .ensures, c .before .average .ensures)
+returns-2 c = rw (c .answered2 .ensures, c .before .before .before .before .before .before .refusal .ensures, c .before .average .ensures)
 
 pub c-avg-spec : {M : Type 1} → statement M
 c-avg-spec =

@@ -30,7 +30,7 @@ answered-requires c κs = search needs
 returns : tie.Need-returns
 unfolding dtStable
 returns c = let a = c .before .before .before .before .before .before .args in
-    let e : c .before .before .first-met .result ≡ firstMet (particleRefusal (a .self)) (refusalUnless (temperatureFits (a .temp-k)) temperature) = cc in
+    let e : c .before .before .first-met .result ≡ firstMet (particleRefusal (a .self)) (refusalUnless (temperatureFits (a .temp-k)) temperature) = rw (c .before .before .first-met .ensures, c .before .before .before .refusal .ensures, c .before .before .before .before .refusal-unless .ensures, c .before .before .before .before .before .temperature-fits .ensures) in
     rw (← e, c .answered .ensures) (refused-outcome _ (f64 0) (stableStep (a .self) (diffusivityAt (a .self .params) (a .temp-k))) (c .before .if1 .taken))
 
 diffusivity-at-requires : tie.Need-diffusivity-at-requires
@@ -38,7 +38,8 @@ diffusivity-at-requires c κs = search needs
 
 stable-step-requires : tie.Need-stable-step-requires
 stable-step-requires c κs = let a = c .before .before .before .before .before .before .before .args in
-    let e : firstMet (particleRefusal (a .self)) (refusalUnless (temperatureFits (a .temp-k)) temperature) ≡ 0 = cc in
+    let met : c .before .before .before .first-met .result ≡ firstMet (particleRefusal (a .self)) (refusalUnless (temperatureFits (a .temp-k)) temperature) = rw (c .before .before .before .first-met .ensures, c .before .before .before .before .refusal .ensures, c .before .before .before .before .before .refusal-unless .ensures, c .before .before .before .before .before .before .temperature-fits .ensures) in
+    let e : firstMet (particleRefusal (a .self)) (refusalUnless (temperatureFits (a .temp-k)) temperature) ≡ 0 = sym met ∙ c .before .before .if1 .left in
     nodes-of (a .self) (none-met _ _ e .0)
 
 answered-requires-2 : tie.Need-answered-requires-2
@@ -47,8 +48,8 @@ answered-requires-2 c κs = search needs
 returns-2 : tie.Need-returns-2
 unfolding dtStable
 returns-2 c = let a = c .before .before .before .before .before .before .before .before .before .args in
-    let e : c .before .before .before .before .before .first-met .result ≡ firstMet (particleRefusal (a .self)) (refusalUnless (temperatureFits (a .temp-k)) temperature) = cc in
-    rw (← e, c .answered2 .ensures, c .before .stable-step .ensures, c .before .before .diffusivity-at .ensures)
+    let e : c .before .before .before .before .before .first-met .result ≡ firstMet (particleRefusal (a .self)) (refusalUnless (temperatureFits (a .temp-k)) temperature) = rw (c .before .before .before .before .before .first-met .ensures, c .before .before .before .before .before .before .refusal .ensures, c .before .before .before .before .before .before .before .refusal-unless .ensures, c .before .before .before .before .before .before .before .before .temperature-fits .ensures) in
+    rw (← e, c .answered2 .ensures, c .before .stable-step .ensures (a .self .«c_s»), c .before .before .diffusivity-at .ensures)
 
 pub dt-stable-spec : {M : Type 1} → statement M
 dt-stable-spec =

@@ -1,5 +1,5 @@
 -- `particle::ParticleDiffusion::new` meets its contract. Assumes nothing.
-use mathlib.Core.Path.{_≡_}
+use mathlib.Core.Path.{_≡_, sym, _∙_}
 use borrow.Author.Tests.{eq-eqb, ne-eqb}
 use Rattle.refusal.specs.Numbers.{none-met}
 use Rattle.particle.specs.Checks.{nodes-met}
@@ -29,19 +29,20 @@ no-particle-requires c κs = search needs
 returns : tie.Need-returns
 unfolding made newRefusal
 returns c = let a = c .before .before .before .before .before .before .before .args in
-    let e : c .before .before .first-met .result ≡ newRefusal (a .params) (a .n-nodes) = cc in
+    let e : c .before .before .first-met .result ≡ newRefusal (a .params) (a .n-nodes) = rw (c .before .before .first-met .ensures, c .before .before .before .refusal-unless2 .ensures, c .before .before .before .before .fits2 .ensures, c .before .before .before .before .before .refusal-unless .ensures, c .before .before .before .before .before .before .count-within .ensures) in
     rw (← e, ne-eqb _ _ (c .before .if1 .taken), c .no-particle .ensures)
 
 uniform-requires : tie.Need-uniform-requires
 unfolding newRefusal
 uniform-requires c κs = let a = c .before .before .before .before .before .before .before .args in
-    let e : newRefusal (a .params) (a .n-nodes) ≡ 0 = cc in
+    let met : c .before .before .first-met .result ≡ newRefusal (a .params) (a .n-nodes) = rw (c .before .before .first-met .ensures, c .before .before .before .refusal-unless2 .ensures, c .before .before .before .before .fits2 .ensures, c .before .before .before .before .before .refusal-unless .ensures, c .before .before .before .before .before .before .count-within .ensures) in
+    let e : newRefusal (a .params) (a .n-nodes) ≡ 0 = sym met ∙ c .before .if1 .left in
     nodes-met (a .n-nodes) (none-met _ _ e .0) .1
 
 returns-2 : tie.Need-returns-2
 unfolding made newRefusal fresh
 returns-2 c = let a = c .before .before .before .before .before .before .before .before .args in
-    let e : c .before .before .before .first-met .result ≡ newRefusal (a .params) (a .n-nodes) = cc in
+    let e : c .before .before .before .first-met .result ≡ newRefusal (a .params) (a .n-nodes) = rw (c .before .before .before .first-met .ensures, c .before .before .before .before .refusal-unless2 .ensures, c .before .before .before .before .before .fits2 .ensures, c .before .before .before .before .before .before .refusal-unless .ensures, c .before .before .before .before .before .before .before .count-within .ensures) in
     rw (← e, eq-eqb _ _ (c .before .before .if1 .left), c .uniform .ensures)
 
 pub new-spec : {M : Type 1} → statement M

@@ -17,17 +17,17 @@ answered-requires c κs = search needs
 
 returns : tie.Need-returns
 unfolding ocpSurface
-returns c = rw (← c .before .before .refusal .ensures, c .answered .ensures) (refused-outcome _ (f64 0) (surfacePotential (c .before .before .before .args .self)) (c .before .if1 .taken))
+returns c = rw (← c .before .before .refusal .ensures, c .answered .ensures) (refused-outcome _ (f64 0) (surfacePotential (c .before .before .before .args .t1)) (c .before .if1 .taken))
 
 surface-potential-requires : tie.Need-surface-potential-requires
-surface-potential-requires c κs = nodes-of (c .before .before .args .self) (sym (c .before .refusal .ensures) ∙ c .if1 .left)
+surface-potential-requires c κs = nodes-of (c .before .before .before .before .before .args .t1) (sym (c .before .before .before .before .refusal .ensures) ∙ c .before .before .before .if1 .left)
 
 answered-requires-2 : tie.Need-answered-requires-2
 answered-requires-2 c κs = search needs
 
 returns-2 : tie.Need-returns-2
 unfolding ocpSurface
-returns-2 c = rw (c .answered2 .ensures, c .before .before .before .refusal .ensures, c .before .surface-potential .ensures)
+returns-2 c = rw (c .answered2 .ensures, c .before .before .before .before .before .before .refusal .ensures, c .before .surface-potential .ensures)
 
 pub ocp-surface-spec : {M : Type 1} → statement M
 ocp-surface-spec =

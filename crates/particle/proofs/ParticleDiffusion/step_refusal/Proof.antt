@@ -36,7 +36,7 @@ first-met-requires-3 c κs = search needs
 
 returns : tie.Need-returns
 unfolding stepRefusal
-returns c = cc
+returns c = rw (c .first-met3 .ensures, c .before .first-met2 .ensures, c .before .before .first-met .ensures, c .before .before .before .refusal .ensures, c .before .before .before .before .refusal-unless3 .ensures, c .before .before .before .before .before .temperature-fits .ensures, c .before .before .before .before .before .before .refusal-unless2 .ensures, c .before .before .before .before .before .before .before .interval-fits .ensures, c .before .before .before .before .before .before .before .before .refusal-unless .ensures, c .before .before .before .before .before .before .before .before .before .load-fits .ensures)
 
 pub step-refusal-spec : {M : Type 1} → statement M
 step-refusal-spec =

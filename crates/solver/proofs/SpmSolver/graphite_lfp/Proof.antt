@@ -13,7 +13,7 @@ new-requires : tie.Need-new-requires
 new-requires c κs = search needs
 
 returns : tie.Need-returns
-returns c = cc
+returns c = rw (c .new .ensures, c .before .lfp-cathode .ensures, c .before .before .graphite-anode .ensures)
 
 pub graphite-lfp-spec : {M : Type 1} → statement M
 graphite-lfp-spec =

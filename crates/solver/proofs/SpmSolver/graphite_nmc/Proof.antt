@@ -13,7 +13,7 @@ new-requires : tie.Need-new-requires
 new-requires c κs = search needs
 
 returns : tie.Need-returns
-returns c = cc
+returns c = rw (c .new .ensures, c .before .nmc-cathode .ensures, c .before .before .graphite-anode .ensures)
 
 pub graphite-nmc-spec : {M : Type 1} → statement M
 graphite-nmc-spec =

@@ -1,5 +1,5 @@
 -- `solver::SpmSolver::new` meets its contract. Assumes nothing.
-use mathlib.Core.Path.{_≡_}
+use mathlib.Core.Path.{_≡_, sym, _∙_}
 use borrow.Author.Tests.{eq-eqb, ne-eqb}
 use Rattle.refusal.specs.Numbers.{none-met}
 use Rattle.particle.specs.Checks.{nodes-met}
@@ -36,25 +36,27 @@ no-solver-requires c κs = search needs
 returns : tie.Need-returns
 unfolding built buildRefusal
 returns c = let a = c .before .before .before .before .before .before .before .before .before .args in
-    let e : c .before .before .first-met .result ≡ buildRefusal (a .config) (a .anode) (a .cathode) = cc in
+    let e : c .before .before .first-met .result ≡ buildRefusal (a .config) (a .anode) (a .cathode) = rw (c .before .before .first-met .ensures, c .before .before .before .refusal-unless2 .ensures, c .before .before .before .before .fits4 .ensures, c .before .before .before .before .before .fits3 .ensures, c .before .before .before .before .before .before .fits2 .ensures, c .before .before .before .before .before .before .before .refusal-unless .ensures, c .before .before .before .before .before .before .before .before .count-within .ensures) in
     rw (← e, ne-eqb _ _ (c .before .if1 .taken), c .no-solver .ensures)
 
 uniform-requires : tie.Need-uniform-requires
 unfolding buildRefusal
 uniform-requires c κs = let a = c .before .before .before .before .before .before .before .before .before .args in
-    let e : buildRefusal (a .config) (a .anode) (a .cathode) ≡ 0 = cc in
+    let met : c .before .before .first-met .result ≡ buildRefusal (a .config) (a .anode) (a .cathode) = rw (c .before .before .first-met .ensures, c .before .before .before .refusal-unless2 .ensures, c .before .before .before .before .fits4 .ensures, c .before .before .before .before .before .fits3 .ensures, c .before .before .before .before .before .before .fits2 .ensures, c .before .before .before .before .before .before .before .refusal-unless .ensures, c .before .before .before .before .before .before .before .before .count-within .ensures) in
+    let e : buildRefusal (a .config) (a .anode) (a .cathode) ≡ 0 = sym met ∙ c .before .if1 .left in
     nodes-met (a .config .«n_nodes») (none-met _ _ e .0) .1
 
 uniform-requires-2 : tie.Need-uniform-requires-2
 unfolding buildRefusal
 uniform-requires-2 c κs = let a = c .before .before .before .before .before .before .before .before .before .before .before .args in
-    let e : buildRefusal (a .config) (a .anode) (a .cathode) ≡ 0 = cc in
+    let met : c .before .before .before .before .first-met .result ≡ buildRefusal (a .config) (a .anode) (a .cathode) = rw (c .before .before .before .before .first-met .ensures, c .before .before .before .before .before .refusal-unless2 .ensures, c .before .before .before .before .before .before .fits4 .ensures, c .before .before .before .before .before .before .before .fits3 .ensures, c .before .before .before .before .before .before .before .before .fits2 .ensures, c .before .before .before .before .before .before .before .before .before .refusal-unless .ensures, c .before .before .before .before .before .before .before .before .before .before .count-within .ensures) in
+    let e : buildRefusal (a .config) (a .anode) (a .cathode) ≡ 0 = sym met ∙ c .before .before .before .if1 .left in
     nodes-met (a .config .«n_nodes») (none-met _ _ e .0) .1
 
 returns-2 : tie.Need-returns-2
 unfolding built buildRefusal freshSolver fresh
 returns-2 c = let a = c .before .before .before .before .before .before .before .before .before .before .before .before .args in
-    let e : c .before .before .before .before .before .first-met .result ≡ buildRefusal (a .config) (a .anode) (a .cathode) = cc in
+    let e : c .before .before .before .before .before .first-met .result ≡ buildRefusal (a .config) (a .anode) (a .cathode) = rw (c .before .before .before .before .before .first-met .ensures, c .before .before .before .before .before .before .refusal-unless2 .ensures, c .before .before .before .before .before .before .before .fits4 .ensures, c .before .before .before .before .before .before .before .before .fits3 .ensures, c .before .before .before .before .before .before .before .before .before .fits2 .ensures, c .before .before .before .before .before .before .before .before .before .before .refusal-unless .ensures, c .before .before .before .before .before .before .before .before .before .before .before .count-within .ensures) in
     rw (← e, eq-eqb _ _ (c .before .before .before .before .if1 .left), c .uniform2 .ensures, c .before .before .uniform .ensures)
 
 pub new-spec : {M : Type 1} → statement M

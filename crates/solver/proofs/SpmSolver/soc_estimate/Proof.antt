@@ -15,10 +15,10 @@ answered-requires c κs = search needs
 
 returns : tie.Need-returns
 unfolding socCall
-returns c = rw (← c .before .before .refusal .ensures, c .answered .ensures) (refused-outcome _ (f64 0) (stateOfCharge (c .before .before .before .args .self)) (c .before .if1 .taken))
+returns c = rw (← c .before .before .refusal .ensures, c .answered .ensures) (refused-outcome _ (f64 0) (stateOfCharge (c .before .before .before .args .t1)) (c .before .if1 .taken))
 
 average-theta-requires : tie.Need-average-theta-requires
-average-theta-requires c κs = anode-nodes (c .before .before .before .args .self) (sym (c .before .before .refusal .ensures) ∙ c .before .if1 .left)
+average-theta-requires c κs = anode-nodes (c .before .before .before .before .before .args .t1) (sym (c .before .before .before .before .refusal .ensures) ∙ c .before .before .before .if1 .left)
 
 clamp-requires : tie.Need-clamp-requires
 clamp-requires c κs = search needs
@@ -28,7 +28,7 @@ answered-requires-2 c κs = search needs
 
 returns-2 : tie.Need-returns-2
 unfolding socCall stateOfCharge
-returns-2 c = rw (← c .before .before .before .before .before .refusal .ensures, c .answered2 .ensures, c .before .clamp .ensures, c .before .before .average-theta .ensures)
+returns-2 c = rw (← c .before .before .before .before .before .before .before .refusal .ensures, c .answered2 .ensures, c .before .clamp .ensures, c .before .before .average-theta .ensures)
 
 pub soc-estimate-spec : {M : Type 1} → statement M
 soc-estimate-spec =

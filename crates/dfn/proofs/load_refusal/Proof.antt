@@ -1,0 +1,33 @@
+-- `dfn::load_refusal` meets its contract. Assumes nothing.
+use borrow.Author.Needs.{needs}
+use Rattle.dfn.proofs.load_refusal.Statement.{statement}
+use Rattle.dfn.proofs.load_refusal.Tie as tie
+
+load-fits-requires : tie.Need-load-fits-requires
+load-fits-requires c κs = search needs
+
+refusal-unless-requires : tie.Need-refusal-unless-requires
+refusal-unless-requires c κs = search needs
+
+interval-fits-requires : tie.Need-interval-fits-requires
+interval-fits-requires c κs = search needs
+
+refusal-unless-requires-2 : tie.Need-refusal-unless-requires-2
+refusal-unless-requires-2 c κs = search needs
+
+first-met-requires : tie.Need-first-met-requires
+first-met-requires c κs = search needs
+
+returns : tie.Need-returns
+returns c = rw (c .first-met .ensures, c .before .refusal-unless2 .ensures, c .before .before .interval-fits .ensures, c .before .before .before .refusal-unless .ensures, c .before .before .before .before .load-fits .ensures)
+
+pub load-refusal-spec : {M : Type 1} → statement M
+load-refusal-spec =
+    tie.close
+    (tie.spec
+    load-fits-requires
+    refusal-unless-requires
+    interval-fits-requires
+    refusal-unless-requires-2
+    first-met-requires
+    returns)

@@ -1,0 +1,2 @@
+-- Which rows of numbers are copied as they are.
+pub mod Rows

@@ -1,0 +1,129 @@
+-- `solver::follow` meets its contract. Assumes nothing.
+use Prim.Native.Nat.{ℕ}
+use mathlib.Core.Path.{_≡_, refl, ap₂, sym, _∙_}
+use mathlib.Core.Bool.{Bool, cond, _&&_}
+use mathlib.Core.List.{List}
+use lib.Ieee.{Float}
+use Rattle.binary64.specs.Operators.{_⊕_, _⊘_, count}
+use Rattle.turns.specs.Turns.{times}
+use Rattle.diffusion.specs.SubStep.{subStep}
+use Rattle.refusal.specs.Numbers.{notFinite}
+use Rattle.profile.specs.Places.{finiteProfile}
+use Rattle.particle.specs.declared.ParticleDiffusion.{ParticleDiffusion}
+use Rattle.particle.specs.Particle.{driveWith, withProfile}
+use Rattle.solver_plan.specs.declared.Plan.{Plan}
+use Rattle.solver_plan.specs.Plans.{subStepsOf}
+use Rattle.solver.specs.declared.SpmSolver.{SpmSolver}
+use Rattle.solver.specs.declared.SpmState.{SpmState}
+use Rattle.solver.specs.declared.Wall.{Wall}
+use Rattle.solver.specs.Step.{currentDensity, profileAfter, advanced, wallOf, reported, reportWith, report-is, finiteWith, finiteStep, refusedStep, finished}
+use Rattle.solver.specs.Parts.{cellOf, cellWith, stepBy, followed}
+use borrow.Author.Needs.{needs}
+use Rattle.solver.proofs.follow.Statement.{statement}
+use Rattle.solver.proofs.follow.Tie as tie
+
+-- the cell with new profiles; what was found of it
+module _ (s : SpmSolver) (i dt t : Float) (p : Plan) where
+  module _ (a c : List Float) (ea : a ≡ profileAfter (s .anode) (p .«d_neg») (p .«j_neg») dt (subStepsOf p)) (ec : c ≡ profileAfter (s .cathode) (p .«d_pos») (p .«j_pos») dt (subStepsOf p)) where
+    cell-is : cellWith s dt a c ≡ advanced s p dt
+    unfolding advanced
+    cell-is = ap₂ (cellWith s dt) ea ec
+
+    report-of : (w v : Wall) (r : SpmState) → w ≡ wallOf (s .config) (withProfile (s .anode) a) (p .«j_neg») t → v ≡ wallOf (s .config) (withProfile (s .cathode) c) (p .«j_pos») t
+        → r ≡ reportWith (s .config) (currentDensity s i) w v i (s .«time_s» ⊕ dt) → r ≡ reported (cellWith s dt a c) p i t
+    unfolding currentDensity
+    report-of w v r ew ev er = er ∙ ap₂ (λ (x y : Wall). reportWith (s .config) (currentDensity s i) x y i (s .«time_s» ⊕ dt)) ew ev ∙ sym (report-is (cellWith s dt a c) p i t)
+
+    tested : (fa fc f : Bool) (r : SpmState) → fa ≡ finiteProfile a → fc ≡ finiteProfile c → f ≡ finiteWith (fa && fc) r → f ≡ finiteStep (cellWith s dt a c) r
+    unfolding finiteStep
+    tested fa fc f r ga gc g = g ∙ ap₂ (λ (x y : Bool). finiteWith (x && y) r) ga gc
+
+    to-end : (r : SpmState) (f : Bool) → r ≡ reported (cellWith s dt a c) p i t → f ≡ finiteStep (cellWith s dt a c) r
+        → followed s p i dt t ≡ cond f (stepBy 0 r (subStepsOf p) (cellWith s dt a c)) (refusedStep notFinite s)
+    unfolding finished
+    to-end r f er g = rw (← cell-is, ← er, ← g)
+
+-- the profile as the program makes it: the count of sub-steps worked out once
+profile-by : (p : Plan) (dt : Float) (q : ParticleDiffusion) (d j : Float) (k : ℕ) (x : Float) → k ≡ subStepsOf p → x ≡ count k
+    → times k (subStep (driveWith q d j (dt ⊘ x))) (q .«c_s») ≡ profileAfter q d j dt (subStepsOf p)
+unfolding profileAfter
+profile-by p dt q d j k x e f = rw (f, e)
+
+ceil-count-requires : tie.Need-ceil-count-requires
+ceil-count-requires c κs = search needs
+
+nearest-u64-to-f64-requires : tie.Need-nearest-u64-to-f64-requires
+nearest-u64-to-f64-requires c κs = search needs
+
+advance-requires : tie.Need-advance-requires
+advance-requires c κs = c .before .before .before .before .before .pre .0
+
+advance-requires-2 : tie.Need-advance-requires-2
+advance-requires-2 c κs = c .before .before .before .before .before .before .before .pre .1
+
+wall-of-requires : tie.Need-wall-of-requires
+wall-of-requires c κs = c .before .before .before .before .before .before .before .before .before .pre .0
+
+wall-of-requires-2 : tie.Need-wall-of-requires-2
+wall-of-requires-2 c κs = c .before .before .before .before .before .before .before .before .before .before .before .pre .1
+
+reported-requires : tie.Need-reported-requires
+reported-requires c κs = search needs
+
+profile-finite-requires : tie.Need-profile-finite-requires
+profile-finite-requires c κs = search needs
+
+profile-finite-requires-2 : tie.Need-profile-finite-requires-2
+profile-finite-requires-2 c κs = search needs
+
+finite-with-requires : tie.Need-finite-with-requires
+finite-with-requires c κs = search needs
+
+returns : tie.Need-returns
+unfolding currentDensity
+returns c =
+    let a = c .before .before .before .before .before .before .before .before .before .before .before .before .before .before .before .before .before .before .before .before .before .args in
+    let s = cellOf (a .q) (a .c-neg .now) (a .c-pos .now) in
+    let n = c .before .before .before .before .before .before .before .before .before .before .before .before .before .before .before .before .before .before .ceil-count .ensures in
+    let m = c .before .before .before .before .before .before .before .before .before .before .before .before .before .before .before .before .before .nearest-u64-to-f64 .ensures in
+    let neg = c .before .before .before .before .before .before .before .before .before .before .before .before .before .before .before .advance .ensures ∙ profile-by (a .p) (a .dt) _ _ _ _ _ n m in
+    let pos = c .before .before .before .before .before .before .before .before .before .before .before .before .before .advance2 .ensures ∙ profile-by (a .p) (a .dt) _ _ _ _ _ n m in
+    let e = to-end s (a .current-a) (a .dt) (a .temp-k) (a .p) _ _ neg pos _ _
+    (report-of s (a .current-a) (a .dt) (a .temp-k) (a .p) _ _ neg pos _ _ _ (c .before .before .before .before .before .before .before .before .before .before .before .wall-of .ensures) (c .before .before .before .before .before .before .before .before .before .wall-of2 .ensures) (c .before .before .before .before .before .before .reported .ensures))
+    (tested s (a .current-a) (a .dt) (a .temp-k) (a .p) _ _ neg pos _ _ _ _ (c .before .before .before .before .profile-finite .ensures) (c .before .before .profile-finite2 .ensures) (c .before .finite-with .ensures)) in
+    rw (e, c .if1 .taken) (refl, (refl, (n, (refl, refl))))
+
+refused-move-requires : tie.Need-refused-move-requires
+refused-move-requires c κs = search needs
+
+returns-2 : tie.Need-returns-2
+unfolding currentDensity
+returns-2 c =
+    let a = c .before .before .before .before .before .before .before .before .before .before .before .before .before .before .before .before .before .before .before .before .before .before .args in
+    let s = cellOf (a .q) (a .c-neg .now) (a .c-pos .now) in
+    let n = c .before .before .before .before .before .before .before .before .before .before .before .before .before .before .before .before .before .before .before .ceil-count .ensures in
+    let m = c .before .before .before .before .before .before .before .before .before .before .before .before .before .before .before .before .before .before .nearest-u64-to-f64 .ensures in
+    let neg = c .before .before .before .before .before .before .before .before .before .before .before .before .before .before .before .before .advance .ensures ∙ profile-by (a .p) (a .dt) _ _ _ _ _ n m in
+    let pos = c .before .before .before .before .before .before .before .before .before .before .before .before .before .before .advance2 .ensures ∙ profile-by (a .p) (a .dt) _ _ _ _ _ n m in
+    let e = to-end s (a .current-a) (a .dt) (a .temp-k) (a .p) _ _ neg pos _ _
+    (report-of s (a .current-a) (a .dt) (a .temp-k) (a .p) _ _ neg pos _ _ _ (c .before .before .before .before .before .before .before .before .before .before .before .before .wall-of .ensures) (c .before .before .before .before .before .before .before .before .before .before .wall-of2 .ensures) (c .before .before .before .before .before .before .before .reported .ensures))
+    (tested s (a .current-a) (a .dt) (a .temp-k) (a .p) _ _ neg pos _ _ _ _ (c .before .before .before .before .before .profile-finite .ensures) (c .before .before .before .profile-finite2 .ensures) (c .before .before .finite-with .ensures)) in
+    rw (e, c .before .if1 .left, c .refused-move .ensures) (refl, (refl, (refl, (refl, refl))))
+
+pub follow-spec : {M : Type 1} → statement M
+follow-spec =
+    tie.close
+    (tie.spec
+    ceil-count-requires
+    nearest-u64-to-f64-requires
+    advance-requires
+    advance-requires-2
+    wall-of-requires
+    wall-of-requires-2
+    reported-requires
+    profile-finite-requires
+    profile-finite-requires-2
+    finite-with-requires
+    returns
+    refused-move-requires
+    returns-2)

@@ -1,0 +1,17 @@
+-- `solver::refused_move` meets its contract. Assumes nothing.
+use borrow.Author.Needs.{needs}
+use Rattle.solver.proofs.refused_move.Statement.{statement}
+use Rattle.solver.proofs.refused_move.Tie as tie
+
+no-state-requires : tie.Need-no-state-requires
+no-state-requires c κs = search needs
+
+returns : tie.Need-returns
+returns c = rw (c .no-state .ensures)
+
+pub refused-move-spec : {M : Type 1} → statement M
+refused-move-spec =
+    tie.close
+    (tie.spec
+    no-state-requires
+    returns)

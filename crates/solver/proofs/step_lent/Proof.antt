@@ -1,0 +1,108 @@
+-- `solver::step_lent` meets its contract, stage by stage. Assumes nothing.
+use Prim.Native.Nat.{ℕ}
+use mathlib.Core.Path.{_≡_, refl, sym, subst, _∙_}
+use lib.Ieee.{Float}
+use borrow.Author.Tests.{eq-eqb, ne-eqb}
+use Rattle.refusal.specs.Numbers.{firstMet}
+use Rattle.solver_plan.specs.declared.Plan.{Plan}
+use Rattle.solver_plan.specs.Plans.{planRefusal}
+use Rattle.solver.specs.declared.SpmSolver.{SpmSolver}
+use Rattle.solver.specs.declared.SpmStep.{SpmStep}
+use Rattle.solver.specs.Cell.{cellRefusal, anode-nodes, cathode-nodes, NodesMet}
+use Rattle.solver.specs.Step.{argumentRefusal, input-cell, inputRefusal, currentDensity, planOf, refusedStep, planned, stepped}
+use Rattle.solver.specs.Parts.{cellOf, Told, followed}
+use borrow.Author.Needs.{needs}
+use Rattle.solver.proofs.step_lent.Statement.{statement}
+use Rattle.solver.proofs.step_lent.Tie as tie
+
+-- the stages: nothing refuses the call, nothing refuses the plan
+module _ (s : SpmSolver) (i dt t : Float) (u g k : ℕ) (eu : u ≡ cellRefusal s) (eg : g ≡ argumentRefusal i dt t) (ek : k ≡ firstMet u g) where
+  input-is : k ≡ inputRefusal s i dt t
+  unfolding inputRefusal
+  input-is = rw (ek, eu, eg)
+
+  refused-early : (k ≡ 0 → ⊥) → stepped s i dt t ≡ refusedStep k s
+  unfolding stepped
+  refused-early h = rw (← input-is, ne-eqb _ _ h)
+
+  module _ (z : k ≡ 0) where
+    nodes : NodesMet (s .anode) × NodesMet (s .cathode)
+    nodes = let e = input-cell s i dt t (sym input-is ∙ z) in (anode-nodes s e, cathode-nodes s e)
+
+    module _ (p : Plan) (ep : p ≡ planOf s i dt t) (n : ℕ) (en : n ≡ planRefusal p) where
+      refused-late : (n ≡ 0 → ⊥) → stepped s i dt t ≡ refusedStep n s
+      unfolding stepped planned
+      refused-late h = rw (← input-is, eq-eqb _ _ z, ← ep, ← en, ne-eqb _ _ h)
+
+      to-end : n ≡ 0 → stepped s i dt t ≡ followed s p i dt t
+      unfolding stepped planned
+      to-end h = rw (← input-is, eq-eqb _ _ z, ← ep, ← en, eq-eqb _ _ h)
+
+cell-refusal-requires : tie.Need-cell-refusal-requires
+cell-refusal-requires c κs = search needs
+
+argument-refusal-requires : tie.Need-argument-refusal-requires
+argument-refusal-requires c κs = search needs
+
+first-met-requires : tie.Need-first-met-requires
+first-met-requires c κs = search needs
+
+refused-move-requires : tie.Need-refused-move-requires
+refused-move-requires c κs = search needs
+
+returns : tie.Need-returns
+returns c =
+    let a = c .before .before .before .before .before .before .before .args in
+    let s = cellOf (a .q) (a .c-neg .now) (a .c-pos .now) in
+    rw (refused-early s (a .current-a) (a .dt) (a .temp-k) _ _ _ (c .before .before .before .before .cell-refusal .ensures) (c .before .before .before .argument-refusal .ensures) (c .before .before .first-met .ensures) (c .before .if1 .taken), c .refused-move .ensures)
+    (refl, (refl, (refl, (refl, refl))))
+
+plan-of-requires : tie.Need-plan-of-requires
+plan-of-requires c κs =
+    let a = c .before .before .before .before .before .before .before .args in
+    let s = cellOf (a .q) (a .c-neg .now) (a .c-pos .now) in
+    nodes s (a .current-a) (a .dt) (a .temp-k) _ _ _ (c .before .before .before .before .cell-refusal .ensures) (c .before .before .before .argument-refusal .ensures) (c .before .before .first-met .ensures) (c .before .if1 .left)
+
+plan-refusal-requires : tie.Need-plan-refusal-requires
+plan-refusal-requires c κs = search needs
+
+refused-move-requires-2 : tie.Need-refused-move-requires-2
+refused-move-requires-2 c κs = search needs
+
+returns-2 : tie.Need-returns-2
+unfolding planOf currentDensity
+returns-2 c =
+    let a = c .before .before .before .before .before .before .before .before .before .before .before .args in
+    let s = cellOf (a .q) (a .c-neg .now) (a .c-pos .now) in
+    rw (refused-late s (a .current-a) (a .dt) (a .temp-k) _ _ _ (c .before .before .before .before .before .before .before .before .cell-refusal .ensures) (c .before .before .before .before .before .before .before .argument-refusal .ensures) (c .before .before .before .before .before .before .first-met .ensures) (c .before .before .before .before .before .if1 .left) _ (c .before .before .before .plan-of .ensures _ _) _ (c .before .before .plan-refusal .ensures) (c .before .if2 .taken), c .refused-move2 .ensures)
+    (refl, (refl, (refl, (refl, refl))))
+
+follow-requires : tie.Need-follow-requires
+follow-requires c κs =
+    let a = c .before .before .before .before .before .before .before .before .before .before .before .before .args in
+    let s = cellOf (a .q) (a .c-neg .now) (a .c-pos .now) in
+    nodes s (a .current-a) (a .dt) (a .temp-k) _ _ _ (c .before .before .before .before .before .before .before .before .before .cell-refusal .ensures) (c .before .before .before .before .before .before .before .before .argument-refusal .ensures) (c .before .before .before .before .before .before .before .first-met .ensures) (c .before .before .before .before .before .before .if1 .left)
+
+returns-3 : tie.Need-returns-3
+unfolding planOf currentDensity
+returns-3 c =
+    let a = c .before .before .before .before .before .before .before .before .before .before .before .before .before .args in
+    let s = cellOf (a .q) (a .c-neg .now) (a .c-pos .now) in
+    rw (to-end s (a .current-a) (a .dt) (a .temp-k) _ _ _ (c .before .before .before .before .before .before .before .before .before .before .cell-refusal .ensures) (c .before .before .before .before .before .before .before .before .before .argument-refusal .ensures) (c .before .before .before .before .before .before .before .before .first-met .ensures) (c .before .before .before .before .before .before .before .if1 .left) _ (c .before .before .before .before .before .plan-of .ensures _ _) _ (c .before .before .before .before .plan-refusal .ensures) (c .before .before .before .if2 .left))
+    (c .follow .ensures)
+
+pub step-lent-spec : {M : Type 1} → statement M
+step-lent-spec =
+    tie.close
+    (tie.spec
+    cell-refusal-requires
+    argument-refusal-requires
+    first-met-requires
+    refused-move-requires
+    returns
+    plan-of-requires
+    plan-refusal-requires
+    refused-move-requires-2
+    returns-2
+    follow-requires
+    returns-3)

@@ -1,0 +1,152 @@
+-- `sub_step::move_nodes` meets its contract: after the turn i the first i places are new, and the old place before is kept. The centre comes before the loop, the surface after it. Assumes nothing.
+use Prim.Native.Nat.{_≤_, _-_}
+use mathlib.Core.Path.{_≡_, ap, _∙_}
+use native.Mathlib.Omega.{arith}
+use lib.ListN.{getD, set}
+use lib.Ieee.{nan}
+use Rattle.turns.specs.Turns.{firstBy}
+use Rattle.sub_step.specs.SubSteps.{nodeBy, subStepBy}
+use Rattle.sub_step.proofs.InPlace.{New, restored, shell-turn, kept, surface-turn}
+use borrow.Author.Needs.{needs}
+use Rattle.sub_step.proofs.move_nodes.Statement.{statement}
+use Rattle.sub_step.proofs.move_nodes.Tie as tie
+
+-- the loop starts with the centre new and its old value kept: the old profile is the one with the centre put back
+abbrev Inv-loop : tie.InvT-loop
+Inv-loop v w c₀ last before₀ i₀ c before i = (1 ≤ i) × ((i ≤ last) × (New v w (set c₀ 0 before₀) c i × (before ≡ getD (set c₀ 0 before₀) (i - 1) nan)))
+
+abbrev μ-loop : tie.MeasureT-loop
+μ-loop v w c₀ last before₀ i₀ c before i = last - i
+
+sub-last : tie.Need-sub-last Inv-loop μ-loop
+sub-last c = omega arith
+
+element-copy-out-before : tie.Need-element-copy-out-before Inv-loop μ-loop
+element-copy-out-before c = omega arith
+
+element-copy-out-centre-rate : tie.Need-element-copy-out-centre-rate Inv-loop μ-loop
+element-copy-out-centre-rate c = omega arith
+
+centre-rate-requires : tie.Need-centre-rate-requires Inv-loop μ-loop
+centre-rate-requires c κs = search needs
+
+moved-requires : tie.Need-moved-requires Inv-loop μ-loop
+moved-requires c κs = search needs
+
+element-write-c : tie.Need-element-write-c Inv-loop μ-loop
+element-write-c c = omega arith
+
+loop-holds : tie.Need-loop-holds Inv-loop μ-loop
+unfolding firstBy nodeBy
+loop-holds c =
+    let old = c .before .before .before .before .before .args .c .now in
+    (search needs, (search needs, (rw (restored old (c .moved .result), c .moved .ensures, c .before .centre-rate .ensures), rw (restored old (c .moved .result)))))
+
+mul-here : tie.Need-mul-here Inv-loop μ-loop
+mul-here c = omega arith
+
+element-copy-out-here : tie.Need-element-copy-out-here Inv-loop μ-loop
+element-copy-out-here c = omega arith
+
+mul-shell-node : tie.Need-mul-shell-node Inv-loop μ-loop
+mul-shell-node c = omega arith
+
+element-copy-out-shell-node : tie.Need-element-copy-out-shell-node Inv-loop μ-loop
+element-copy-out-shell-node c = omega arith
+
+add-shell-node : tie.Need-add-shell-node Inv-loop μ-loop
+add-shell-node c = omega arith
+
+mul-shell-node-2 : tie.Need-mul-shell-node-2 Inv-loop μ-loop
+mul-shell-node-2 c = omega arith
+
+element-copy-out-shell-node-2 : tie.Need-element-copy-out-shell-node-2 Inv-loop μ-loop
+element-copy-out-shell-node-2 c = omega arith
+
+shell-node-requires : tie.Need-shell-node-requires Inv-loop μ-loop
+shell-node-requires c κs = search needs
+
+mul-c : tie.Need-mul-c Inv-loop μ-loop
+mul-c c = omega arith
+
+element-write-c-2 : tie.Need-element-write-c-2 Inv-loop μ-loop
+element-write-c-2 c = omega arith
+
+add-i : tie.Need-add-i Inv-loop μ-loop
+add-i c = omega arith
+
+loop-less : tie.Need-loop-less Inv-loop μ-loop
+loop-less c = search needs
+
+loop-again : tie.Need-loop-again Inv-loop μ-loop
+loop-again c =
+    let l = c .before .before .before .before .before .loop in
+    let first = c .before .before .before .before .before .before .before .before .before .before .before .args .c .now in
+    let old = set (set first 0 (c .before .before .before .before .before .before .moved .result)) 0 (getD first 0 nan) in
+    (search needs, (search needs, (rw (c .shell-node .ensures) (shell-turn _ _ old (l .c) (l .i) (l .inv .1 .1 .0) (l .before) (l .inv .1 .1 .1) (l .inv .0) (omega arith)), kept _ _ old (l .c) (l .i) (l .inv .1 .1 .0) (l .before) (l .inv .1 .1 .1))))
+
+mul-shell-node-3 : tie.Need-mul-shell-node-3 Inv-loop μ-loop
+mul-shell-node-3 c = omega arith
+
+element-copy-out-shell-node-3 : tie.Need-element-copy-out-shell-node-3 Inv-loop μ-loop
+element-copy-out-shell-node-3 c = omega arith
+
+mul-shell-node-4 : tie.Need-mul-shell-node-4 Inv-loop μ-loop
+mul-shell-node-4 c = omega arith
+
+element-copy-out-shell-node-4 : tie.Need-element-copy-out-shell-node-4 Inv-loop μ-loop
+element-copy-out-shell-node-4 c = omega arith
+
+shell-node-requires-2 : tie.Need-shell-node-requires-2 Inv-loop μ-loop
+shell-node-requires-2 c κs = search needs
+
+mul-c-2 : tie.Need-mul-c-2 Inv-loop μ-loop
+mul-c-2 c = omega arith
+
+element-write-c-3 : tie.Need-element-write-c-3 Inv-loop μ-loop
+element-write-c-3 c = omega arith
+
+returns : tie.Need-returns Inv-loop μ-loop
+returns c =
+    let a = c .before .before .before .before .before .before .before .before .before .before .before .args in
+    let l = c .before .before .before .before .before .loop in
+    let e : l .i ≡ a .v .n - 1 = omega arith in
+    let old = set (set (a .c .now) 0 (c .before .before .before .before .before .before .moved .result)) 0 (getD (a .c .now) 0 nan) in
+    rw (c .shell-node2 .ensures, ← e)
+    (surface-turn _ _ old (l .c) (l .i) (l .inv .1 .1 .0) (l .before) (l .inv .1 .1 .1) (omega arith) e
+    ∙ ap (subStepBy (a .v) (a .w .now)) (restored (a .c .now) (c .before .before .before .before .before .before .moved .result)))
+
+pub move-nodes-spec : {M : Type 1} → statement M
+move-nodes-spec =
+    tie.close
+    (tie.spec
+    Inv-loop
+    μ-loop
+    sub-last
+    element-copy-out-before
+    element-copy-out-centre-rate
+    centre-rate-requires
+    moved-requires
+    element-write-c
+    loop-holds
+    mul-here
+    element-copy-out-here
+    mul-shell-node
+    element-copy-out-shell-node
+    add-shell-node
+    mul-shell-node-2
+    element-copy-out-shell-node-2
+    shell-node-requires
+    mul-c
+    element-write-c-2
+    add-i
+    loop-less
+    loop-again
+    mul-shell-node-3
+    element-copy-out-shell-node-3
+    mul-shell-node-4
+    element-copy-out-shell-node-4
+    shell-node-requires-2
+    mul-c-2
+    element-write-c-3
+    returns)

@@ -1,0 +1,10 @@
+-- `sub_step::prepare` meets its contract. Assumes nothing.
+use mathlib.Core.Path.{refl}
+use Rattle.sub_step.proofs.prepare.Statement.{statement}
+use Rattle.sub_step.proofs.prepare.Tie as tie
+
+returns : tie.Need-returns
+returns c = refl
+
+pub prepare-spec : {M : Type 1} → statement M
+prepare-spec = tie.close (tie.spec returns)
