@@ -17,7 +17,8 @@ mod published_side {
 
 use std::time::Duration;
 
-pub const TEMPERATURE: f64 = 298.15;
+/// the temperature at which the sheets' diffusivities are given, K; there the Arrhenius factor is 1
+const REFERENCE: f64 = 298.15;
 const ROUNDS: usize = 21;
 /// how long one side's part of a round is to take
 const ROUND: Duration = Duration::from_millis(30);
@@ -29,6 +30,7 @@ pub type Answer = Vec<u64>;
 pub struct Load {
     pub current_a: f64,
     pub dt: f64,
+    pub temp_k: f64,
 }
 
 impl Load {
@@ -124,17 +126,19 @@ fn cell_steps(name: String, n: usize, load: Load, units: f64) -> Case<'static> {
 fn cases(systems: &[System; 2]) -> Vec<Case<'_>> {
     let mut all = Vec::new();
     for (n, dt) in [(11, 1000.0), (20, 400.0), (64, 40.0)] {
-        let load = Load { current_a: 3.0, dt };
+        let load = Load { current_a: 3.0, dt, temp_k: REFERENCE };
         let (_, _, count) = port_side::cell_steps(n, load, 1);
         all.push(cell_steps(format!("a sub-step, n = {n} ({count} in {dt} s)"), n, load, count as f64));
     }
     for n in [11, 20, 64] {
         for dt in [1.0, 10.0] {
-            all.push(cell_steps(format!("a cell step of {dt} s, n = {n}"), n, Load { current_a: 3.0, dt }, 1.0));
+            all.push(cell_steps(format!("a cell step of {dt} s, n = {n}"), n, Load { current_a: 3.0, dt, temp_k: REFERENCE }, 1.0));
         }
     }
+    let warm = Load { current_a: 3.0, dt: 1.0, temp_k: 310.0 };
+    all.push(cell_steps("a cell step of 1 s, n = 11, at 310 K".into(), 11, warm, 1.0));
     let rows = 10_000;
-    let run = Load { current_a: 0.3, dt: 1.0 };
+    let run = Load { current_a: 0.3, dt: 1.0, temp_k: REFERENCE };
     all.push(Case {
         name: format!("a cell step of 1 s in a run of {rows} rows, n = 11"),
         sides: [
@@ -145,7 +149,7 @@ fn cases(systems: &[System; 2]) -> Vec<Case<'_>> {
         units: rows as f64,
         once: true,
     });
-    let load = Load { current_a: 20.0, dt: 1.0 };
+    let load = Load { current_a: 20.0, dt: 1.0, temp_k: REFERENCE };
     for counts in [[5, 5, 6], [16, 16, 32]] {
         let [a, b, c] = counts;
         all.push(Case {

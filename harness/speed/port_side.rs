@@ -1,5 +1,5 @@
 //! What is timed of the port: images in, images out, as firmware calls it.
-use crate::{clock, Answer, Load, System, TEMPERATURE};
+use crate::{clock, Answer, Load, System};
 use std::hint::black_box;
 use std::time::Duration;
 
@@ -55,7 +55,7 @@ fn steps(start: Vec<u8>, answer: usize, times: usize, mut step: impl FnMut(usize
 /// Steps of the cell, and the count of sub-steps of the last.
 pub fn cell_steps(n_nodes: usize, load: Load, times: usize) -> (Duration, Answer, u64) {
     let (taken, last) = steps(spm(n_nodes), CELL + REPORT, times, |turn, cell, answer| {
-        port::cell_step(cell, [load.current(turn), load.dt, TEMPERATURE], answer)
+        port::cell_step(cell, [load.current(turn), load.dt, load.temp_k], answer)
     });
     // voltage, clock, the cathode's first place
     (taken, vec![word(&last, CELL / 8), word(&last, CELL / 8 - 1), word(&last, 92)], word(&last, CELL / 8 + 8))
@@ -70,7 +70,7 @@ pub fn dfn_steps(counts: [usize; 3], load: Load, times: usize) -> (Duration, Ans
 
 pub fn cell_run(n_nodes: usize, load: Load, rows: usize) -> (Duration, Answer) {
     let (cell, mut lent, mut answer) = (spm(n_nodes), vec![-1.0; 8 * rows], vec![0; CELL + ENDING]);
-    let numbers = [load.current_a, load.dt, TEMPERATURE, load.dt * rows as f64];
+    let numbers = [load.current_a, load.dt, load.temp_k, load.dt * rows as f64];
     let started = clock::now();
     accepted(port::simulate_discharge(black_box(&cell), numbers, black_box(&mut lent), &mut answer));
     let taken = clock::now() - started;

@@ -1,5 +1,5 @@
 // What is timed of the Rust; included once for the oracle and once for the published Rust, with `model` as its name.
-use crate::{clock, Answer, Load, System, TEMPERATURE};
+use crate::{clock, Answer, Load, System};
 use model::dfn::{access, DfnConfig, DfnParams, DfnSolver};
 use model::solver::{SpmConfig, SpmSolver};
 use std::hint::black_box;
@@ -14,7 +14,7 @@ pub fn cell_steps(n_nodes: usize, load: Load, times: usize) -> (Duration, Answer
     let mut voltage = 0.0;
     let started = clock::now();
     for turn in 0..times {
-        voltage = black_box(solver.step(black_box(load.current(turn)), black_box(load.dt), black_box(TEMPERATURE))).voltage;
+        voltage = black_box(solver.step(black_box(load.current(turn)), black_box(load.dt), black_box(load.temp_k))).voltage;
     }
     let taken = clock::now() - started;
     (taken, vec![voltage.to_bits(), solver.time_s.to_bits(), solver.cathode.c_s[0].to_bits()])
@@ -24,7 +24,7 @@ pub fn cell_run(n_nodes: usize, load: Load, rows: usize) -> (Duration, Answer) {
     let mut solver = spm(n_nodes);
     let limit = load.dt * rows as f64;
     let started = clock::now();
-    let states = black_box(solver.simulate_discharge(black_box(load.current_a), black_box(load.dt), black_box(TEMPERATURE), limit));
+    let states = black_box(solver.simulate_discharge(black_box(load.current_a), black_box(load.dt), black_box(load.temp_k), limit));
     let taken = clock::now() - started;
     let last = states.last().expect("rows");
     (taken, vec![states.len() as u64, last.voltage.to_bits(), last.theta_pos_avg.to_bits()])
