@@ -19,6 +19,8 @@ use cases::Case;
 use images::words_of;
 use shrink::{first_difference, shrunk};
 use std::process::exit;
+use std::sync::atomic::{AtomicU64, Ordering};
+use std::thread;
 use std::time::{Duration, Instant};
 use tally::Tally;
 
@@ -160,35 +162,80 @@ fn report(seed: u64, number: u64, case: &Case, (at, call, differences): (usize, 
     exit(1);
 }
 
-fn main() {
-    let options = options();
-    let started = Instant::now();
-    let end = options.minutes.map(|minutes| started + Duration::from_secs_f64(60.0 * minutes));
-    let mut said = started;
-    let mut tally = Tally::default();
-    let (first, last) = match options.case {
-        Some(case) => (case, case.saturating_add(1)),
-        None => (0, if end.is_some() { u64::MAX } else { options.cases }),
-    };
-    let mut compared = 0;
-    for number in first..last {
-        if end.is_some_and(|end| Instant::now() >= end) {
-            break;
+/// A difference: the case's number, the case, and which call of it differs in what.
+type Difference = (u64, Case, (usize, Call, Vec<String>));
+
+/// What the workers share: the next case to compare, and the lowest that is known to differ.
+struct Queue {
+    next: AtomicU64,
+    found: AtomicU64,
+    last: u64,
+    started: Instant,
+    end: Option<Instant>,
+}
+
+impl Queue {
+    /// The next case. They are handed out in order, so every case below the lowest that differs is compared.
+    fn take(&self) -> Option<u64> {
+        if self.end.is_some_and(|end| Instant::now() >= end) {
+            return None;
         }
+        let number = self.next.fetch_add(1, Ordering::Relaxed);
+        (number < self.last.min(self.found.load(Ordering::Relaxed))).then_some(number)
+    }
+}
+
+/// Compares cases of the queue until it is empty or one differs; says what was compared, how many cases, and the difference.
+/// The worker that speaks tells every five seconds how far it came.
+fn work(options: &Options, queue: &Queue, speaks: bool) -> (Tally, u64, Option<Difference>) {
+    let (mut tally, mut compared, mut said) = (Tally::default(), 0, queue.started);
+    while let Some(number) = queue.take() {
         if options.trace {
             eprintln!("compare: case {number}");
         }
         let case = cases::case(options.seed, number);
         let found = first_difference(&case, |call, oracle, kept| tally.add(call, oracle, kept));
         if let Some(difference) = found {
-            report(options.seed, number, &case, difference);
+            queue.found.fetch_min(number, Ordering::Relaxed);
+            return (tally, compared, Some((number, case, difference)));
         }
         compared += 1;
-        if end.is_some() && said.elapsed() >= Duration::from_secs(5) {
+        if speaks && said.elapsed() >= Duration::from_secs(5) {
             said = Instant::now();
-            let seconds = started.elapsed().as_secs();
-            eprintln!("compare: {seconds} s, {compared} cases, {} calls, {} words, no difference", tally.calls, tally.words);
+            eprintln!("compare: {} s, case {number}, no difference", queue.started.elapsed().as_secs());
         }
+    }
+    (tally, compared, None)
+}
+
+fn main() {
+    let options = options();
+    let started = Instant::now();
+    let end = options.minutes.map(|minutes| started + Duration::from_secs_f64(60.0 * minutes));
+    let (first, last) = match options.case {
+        Some(case) => (case, case.saturating_add(1)),
+        None => (0, if end.is_some() { u64::MAX } else { options.cases }),
+    };
+    let queue = Queue { next: AtomicU64::new(first), found: AtomicU64::new(u64::MAX), last, started, end };
+    // one worker where the cases are traced, so that the last number printed is the call that did not come back
+    let workers = if options.trace { 1 } else { thread::available_parallelism().map_or(1, |n| n.get()) };
+    let (given, shared) = (&options, &queue);
+    let worked: Vec<_> = thread::scope(|scope| {
+        let workers: Vec<_> = (0..workers).map(|k| scope.spawn(move || work(given, shared, k == 0 && end.is_some()))).collect();
+        workers.into_iter().map(|worker| worker.join().expect("a worker ended early")).collect()
+    });
+    let (mut tally, mut compared, mut lowest) = (Tally::default(), 0, None::<Difference>);
+    for (part, count, difference) in worked {
+        tally.join(part);
+        compared += count;
+        if let Some(found) = difference {
+            if lowest.as_ref().map_or(true, |low| found.0 < low.0) {
+                lowest = Some(found);
+            }
+        }
+    }
+    if let Some((number, case, difference)) = lowest {
+        report(options.seed, number, &case, difference);
     }
     if options.case.is_some() {
         println!("compare: --seed {} --case {first}: {} calls, no difference", options.seed, tally.calls);

@@ -80,6 +80,30 @@ impl Tally {
         }
     }
 
+    /// Takes over what another worker compared.
+    pub fn join(&mut self, other: Tally) {
+        for (name, row) in other.rows {
+            let own = self.rows.entry(name).or_default();
+            own.accepted += row.accepted;
+            for (number, count) in own.by_number.iter_mut().zip(row.by_number) {
+                *number += count;
+            }
+        }
+        for (ending, count) in other.endings {
+            *self.endings.entry(ending).or_default() += count;
+        }
+        self.calls += other.calls;
+        self.words += other.words;
+        self.nonzero += other.nonzero;
+        self.kept_bytes += other.kept_bytes;
+        self.run_rows += other.run_rows;
+        self.sub_steps += other.sub_steps;
+        self.particle_nodes.extend(other.particle_nodes);
+        self.cell_nodes.extend(other.cell_nodes);
+        self.orders.extend(other.orders);
+        self.unexpected.extend(other.unexpected);
+    }
+
     /// The table, and what is missing for a comparison that has seen everything.
     pub fn print(&self) -> Vec<String> {
         println!("{:<24}{:>9}{:>9} |{}", "call", "accepted", "refused", (1..=10).map(|n| format!("{n:>7}")).collect::<String>());

@@ -1,6 +1,6 @@
 // Replays the oracle's answers, a list for each call, through the proved code, and writes how many lines of each agree and how many answers of each call
 // they hold; then runs the bench cells that document 01 says are run only. The lists stand in data/; a line is words of 16 hexadecimal digits, arguments
-// and answer, with a tab between the two.
+// and answer, with a tab between the two. Each argument names a list: the calls that it has an answer of in every line, '|' after each, and its file.
 mod cells;
 mod discharges;
 mod electrolytes;
@@ -16,8 +16,10 @@ mod systems;
 
 use libc::STDOUT_FILENO;
 use list::next_word;
+ghost use Prim.Native.Nat.{_≤_};
+ghost use lib.ListN.{length};
 
-// The lists that are replayed.
+// The lists in the order of the arguments.
 const RANGES: u64 = 0;
 
 const ELEMENTARY: u64 = 1;
@@ -46,27 +48,27 @@ const PARTICLE_DT_STABLE: u64 = 12;
 
 const PARTICLE_NUMBERS: u64 = 13;
 
-const SOLVE_DENSE: u64 = 14;
+const READY_CELLS: u64 = 14;
 
-const ELECTROLYTE_RATES: u64 = 15;
+const CELL_NEW: u64 = 15;
 
-const ELECTROLYTE_NEW: u64 = 16;
+const CELL_STEP: u64 = 16;
 
-const ELECTROLYTE_NUMBERS: u64 = 17;
+const CELL_NUMBERS: u64 = 17;
 
-const STEP_CONCENTRATION: u64 = 18;
+const SIMULATE_DISCHARGE: u64 = 18;
 
-const ELECTROLYTE_DT_STABLE: u64 = 19;
+const ELECTROLYTE_RATES: u64 = 19;
 
-const READY_CELLS: u64 = 20;
+const ELECTROLYTE_NEW: u64 = 20;
 
-const CELL_NEW: u64 = 21;
+const ELECTROLYTE_NUMBERS: u64 = 21;
 
-const CELL_STEP: u64 = 22;
+const STEP_CONCENTRATION: u64 = 22;
 
-const CELL_NUMBERS: u64 = 23;
+const ELECTROLYTE_DT_STABLE: u64 = 23;
 
-const SIMULATE_DISCHARGE: u64 = 24;
+const SOLVE_DENSE: u64 = 24;
 
 const READY_PARAMETERS: u64 = 25;
 
@@ -76,8 +78,8 @@ const DFN_STEP: u64 = 27;
 
 const RUN_GALVANOSTATIC: u64 = 28;
 
-// Whether the line of the list `which` agrees, whose first word is read already.
-fn line(which: u64, fd: i32, first: u64) -> bool {
+// Whether a line agrees, whose first word is read already: of the inner parts, the sheet and the particle.
+fn small_line(which: u64, fd: i32, first: u64) -> bool {
     match which {
         RANGES => ranges::line(fd, first),
         ELEMENTARY => functions::elementary_line(fd, first),
@@ -93,23 +95,37 @@ fn line(which: u64, fd: i32, first: u64) -> bool {
         PARTICLE_STEP => particles::step_line(fd, first),
         PARTICLE_DT_STABLE => particles::dt_stable_line(fd, first),
         PARTICLE_NUMBERS => particles::number_line(fd, first),
-        SOLVE_DENSE => systems::line(fd, first),
-        ELECTROLYTE_RATES => electrolytes::rates_line(fd, first),
-        ELECTROLYTE_NEW => electrolytes::new_line(fd, first),
-        ELECTROLYTE_NUMBERS => electrolytes::numbers_line(fd, first),
-        STEP_CONCENTRATION => electrolytes::step_line(fd, first),
-        ELECTROLYTE_DT_STABLE => electrolytes::dt_stable_line(fd, first),
+        _ => false,
+    }
+}
+
+// The same of the cells, the electrolyte and the equations.
+fn large_line(which: u64, fd: i32, first: u64) -> bool {
+    match which {
         READY_CELLS => cells::ready_line(fd, first),
         CELL_NEW => cells::new_line(fd, first),
         CELL_STEP => cells::step_line(fd, first),
         CELL_NUMBERS => cells::number_line(fd, first),
         SIMULATE_DISCHARGE => discharges::run_line(fd, first),
+        ELECTROLYTE_RATES => electrolytes::rates_line(fd, first),
+        ELECTROLYTE_NEW => electrolytes::new_line(fd, first),
+        ELECTROLYTE_NUMBERS => electrolytes::numbers_line(fd, first),
+        STEP_CONCENTRATION => electrolytes::step_line(fd, first),
+        ELECTROLYTE_DT_STABLE => electrolytes::dt_stable_line(fd, first),
+        SOLVE_DENSE => systems::line(fd, first),
         READY_PARAMETERS => porous::ready_line(fd, first),
         DFN_NEW => porous::new_line(fd, first),
         DFN_STEP => porous::step_line(fd, first),
         RUN_GALVANOSTATIC => porous::run_line(fd, first),
         _ => false,
     }
+}
+
+fn line(which: u64, fd: i32, first: u64) -> bool {
+    if which < READY_CELLS {
+        return small_line(which, fd, first);
+    }
+    large_line(which, fd, first)
 }
 
 fn write_counts(name: &[u8], agreed: u64, lines: u64) {
@@ -162,167 +178,41 @@ fn replay(which: u64, name: &[u8], calls: &[u8]) -> u64 {
     write_calls(calls, lines)
 }
 
-// The inner parts, which are no calls.
-fn replay_functions() {
-    replay(RANGES, b"ranges.txt", b"");
-    replay(ELEMENTARY, b"elementary.txt", b"");
-    replay(POWF, b"powf.txt", b"");
-    replay(SMALL, b"small.txt", b"");
-    replay(COUNTS, b"counts.txt", b"");
+// How long the calls of an argument are, up to the last '|'; its file is the rest.
+fn calls_length(text: &[u8]) -> usize
+    ensures { λ r. ⌜ r ≤ length (now (text .entry)) ⌝ }
+{
+    let mut k = text.len();
+    while k > 0 && text[k - 1] != b'|' {
+        k -= 1;
+    }
+    k
 }
 
-fn replay_sheets() -> u64 {
-    let n0 = replay(
-        READY_SHEETS,
-        b"ready_sheets.txt",
-        b"ElectrodeParams::graphite_anode|ElectrodeParams::lfp_cathode|ElectrodeParams::nmc_cathode|",
-    );
-    let n1 = replay(D_S, b"d_s.txt", b"ElectrodeParams::d_s|");
-    let n2 = replay(
-        SPECIFIC_AREA,
-        b"specific_area.txt",
-        b"ElectrodeParams::specific_area|",
-    );
-    let n3 = replay(
-        OCP,
-        b"ocp.txt",
-        b"ElectrodeParams::ocp|ElectrodeParams::docp_dtheta|",
-    );
-    let n4 = replay(SPHERE_VOLUME, b"sphere_volume.txt", b"sphere_volume|");
-    std::num::wrapping_add_u64(
-        n0,
-        std::num::wrapping_add_u64(
-            n1,
-            std::num::wrapping_add_u64(n2, std::num::wrapping_add_u64(n3, n4)),
-        ),
-    )
+fn replay_text(which: u64, text: &[u8]) -> u64 {
+    let k = calls_length(text);
+    replay(which, &text[k..], &text[..k])
 }
 
-fn replay_particles() -> u64 {
-    let n0 = replay(
-        PARTICLE_NEW,
-        b"particle_new.txt",
-        b"ParticleDiffusion::new|",
-    );
-    let n1 = replay(
-        PARTICLE_STEP,
-        b"particle_step.txt",
-        b"ParticleDiffusion::step|",
-    );
-    let n2 = replay(
-        PARTICLE_DT_STABLE,
-        b"particle_dt_stable.txt",
-        b"ParticleDiffusion::dt_stable|",
-    );
-    let n3 = replay(
-        PARTICLE_NUMBERS,
-        b"particle_numbers.txt",
-        b"ParticleDiffusion::theta_surface|ParticleDiffusion::theta_avg|ParticleDiffusion::c_avg|ParticleDiffusion::ocp_surface|",
-    );
-    std::num::wrapping_add_u64(
-        n0,
-        std::num::wrapping_add_u64(n1, std::num::wrapping_add_u64(n2, n3)),
-    )
+// Replays the list of an argument; the first argument is number 1.
+fn replay_argument(which: usize) -> u64 {
+    let mut text = io::buffer();
+    let n = os::arg(std::num::wrapping_add_usize(which, 1), &mut text);
+    replay_text(which as u64, &text[..n])
 }
 
-fn replay_cells() -> u64 {
-    let n0 = replay(
-        READY_CELLS,
-        b"ready_cells.txt",
-        b"SpmSolver::graphite_lfp|SpmSolver::graphite_nmc|",
-    );
-    let n1 = replay(CELL_NEW, b"cell_new.txt", b"SpmSolver::new|");
-    let n2 = replay(CELL_STEP, b"cell_step.txt", b"SpmSolver::step|");
-    let n3 = replay(
-        CELL_NUMBERS,
-        b"cell_numbers.txt",
-        b"SpmSolver::ocv|SpmSolver::soc_estimate|",
-    );
-    let n4 = replay(
-        SIMULATE_DISCHARGE,
-        b"simulate_discharge.txt",
-        b"simulate_discharge|",
-    );
-    std::num::wrapping_add_u64(
-        n0,
-        std::num::wrapping_add_u64(
-            n1,
-            std::num::wrapping_add_u64(n2, std::num::wrapping_add_u64(n3, n4)),
-        ),
-    )
-}
-
-fn replay_electrolyte() -> u64 {
-    let n0 = replay(
-        ELECTROLYTE_RATES,
-        b"electrolyte_rates.txt",
-        b"ElectrolyteParams::d_e|ElectrolyteParams::kappa|ElectrolyteParams::d_e_eff|ElectrolyteParams::kappa_eff|",
-    );
-    let n1 = replay(
-        ELECTROLYTE_NEW,
-        b"electrolyte_new.txt",
-        b"ElectrolyteState::new|",
-    );
-    let n2 = replay(
-        ELECTROLYTE_NUMBERS,
-        b"electrolyte_numbers.txt",
-        b"ElectrolyteState::n_total|ElectrolyteState::c_avg|",
-    );
-    let n3 = replay(
-        STEP_CONCENTRATION,
-        b"step_concentration.txt",
-        b"ElectrolyteState::step_concentration|",
-    );
-    let n4 = replay(
-        ELECTROLYTE_DT_STABLE,
-        b"electrolyte_dt_stable.txt",
-        b"ElectrolyteState::dt_stable|",
-    );
-    std::num::wrapping_add_u64(
-        n0,
-        std::num::wrapping_add_u64(
-            n1,
-            std::num::wrapping_add_u64(n2, std::num::wrapping_add_u64(n3, n4)),
-        ),
-    )
-}
-
-fn replay_porous() -> u64 {
-    let n0 = replay(SOLVE_DENSE, b"solve_dense.txt", b"solve_dense|");
-    let n1 = replay(
-        READY_PARAMETERS,
-        b"ready_parameters.txt",
-        b"ElectrolyteParams::lipf6_ec_dmc|DfnParams::nmc_graphite|DfnParams::lfp_graphite|",
-    );
-    let n2 = replay(DFN_NEW, b"dfn_new.txt", b"DfnSolver::new|");
-    let n3 = replay(DFN_STEP, b"dfn_step.txt", b"DfnSolver::step|");
-    let n4 = replay(
-        RUN_GALVANOSTATIC,
-        b"run_galvanostatic.txt",
-        b"run_galvanostatic|",
-    );
-    std::num::wrapping_add_u64(
-        n0,
-        std::num::wrapping_add_u64(
-            n1,
-            std::num::wrapping_add_u64(n2, std::num::wrapping_add_u64(n3, n4)),
-        ),
-    )
+fn replay_all() -> u64 {
+    let mut answers: u64 = 0;
+    for which in 0..29 {
+        answers = std::num::wrapping_add_u64(answers, replay_argument(which));
+    }
+    answers
 }
 
 fn main() {
-    replay_functions();
-    let sheets = replay_sheets();
-    let particles = replay_particles();
-    let cells = replay_cells();
-    let electrolyte = replay_electrolyte();
-    let porous = replay_porous();
+    let answers = replay_all();
     run_only::particles();
     run_only::salty_steps();
-    let single = std::num::wrapping_add_u64(sheets, std::num::wrapping_add_u64(particles, cells));
     io::write_all(STDOUT_FILENO, b"total");
-    write_answers(std::num::wrapping_add_u64(
-        single,
-        std::num::wrapping_add_u64(electrolyte, porous),
-    ));
+    write_answers(answers);
 }
