@@ -17,9 +17,10 @@ use Rattle.turns.specs.Turns.{firstBy, allBelow}
 use Rattle.places.specs.Places.{placesBy}
 use Rattle.profile.specs.Weights.{innerWeight, weight}
 use Rattle.dense.specs.declared.Solved.{Solved}
-use Rattle.dense_elimination.specs.Loops.{turnsFrom, forRange, unlessRefused, tryRange}
-use Rattle.dense_elimination.specs.Places.{zeros, firstFinite, allFinite}
-use Rattle.dense_elimination.specs.Elimination.{candidate, larger, pivotOf, swapped, rowsSwapped, rowReduced, rowLess, rowCleared, columnCleared, pivotTaken, columnWith, columnDone, eliminated}
+use Rattle.matrix_rows.specs.Loops.{turnsFrom, forRange, unlessRefused, tryRange}
+use Rattle.matrix_rows.specs.Places.{zeros, firstFinite, allFinite}
+use Rattle.matrix_rows.specs.Rows.{swapped, rowsSwapped, rowReduced, rowLess, rowCleared, columnCleared, pivotTaken}
+use Rattle.dense_elimination.specs.Elimination.{candidate, larger, pivotOf, columnWith, columnDone, eliminated}
 use Rattle.dense.specs.Substitution.{takenOut, columnSolved, substituted}
 use Rattle.dense.specs.Solve.{placeLoaded, rowLoaded, matrixLoaded, loaded, reduced, solution, inputRefusal, solutionRefusal, answer, solved}
 use Rattle.dfn_solid.specs.declared.Grain.{Grain}

@@ -14,9 +14,10 @@ use Rattle.elementary.specs.Choice.{absOf}
 use Rattle.refusal.specs.Numbers.{none-met, passed}
 use Rattle.refusal.specs.Ranges.{finite}
 use Rattle.turns.specs.Turns.{firstBy, first-above, all-at}
-use Rattle.dense_elimination.specs.Loops.{Tried, either, range-keeps, try-keeps}
-use Rattle.dense_elimination.specs.Places.{at, entry, zeros, firstFinite}
-use Rattle.dense_elimination.specs.Elimination.{System, swapped, rowLess, rowCleared, columnCleared, pivotTaken, pivotOf, columnWith, columnDone, eliminated, tiny}
+use Rattle.matrix_rows.specs.Loops.{Tried, either, range-keeps, try-keeps}
+use Rattle.matrix_rows.specs.Places.{at, entry, zeros, firstFinite}
+use Rattle.matrix_rows.specs.Rows.{System, swapped, rowLess, rowCleared, columnCleared, pivotTaken}
+use Rattle.dense_elimination.specs.Elimination.{pivotOf, columnWith, columnDone, eliminated, tiny}
 use Rattle.dense.specs.Substitution.{takenOut, columnSolved, substituted}
 use Rattle.dense.specs.Solve.{loaded, reduced, solution, solutionRefusal, answer, solved}
 use Rattle.dense_elimination.proofs.Pivots.{pivot-row}

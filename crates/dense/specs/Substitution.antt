@@ -7,8 +7,8 @@ use lib.Ieee.{Float}
 use Rattle.binary64.specs.Operators.{_⊖_, _⊗_, _⊘_}
 use Rattle.elementary.specs.Choice.{absOf}
 use Rattle.refusal.specs.Numbers.{singular}
-use Rattle.dense_elimination.specs.Loops.{forRange, Tried, outcome, tryRange}
-use Rattle.dense_elimination.specs.Places.{at, entry}
+use Rattle.matrix_rows.specs.Loops.{forRange, Tried, outcome, tryRange}
+use Rattle.matrix_rows.specs.Places.{at, entry}
 use Rattle.dense_elimination.specs.Elimination.{tiny}
 
 -- `x[row] -= a[row][col] * x[col]`

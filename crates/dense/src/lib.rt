@@ -7,8 +7,8 @@ ghost use mathlib.Core.Path.{_≡_};
 ghost use Prim.Native.Nat.{_+_, _*_, _<_, _≤_};
 ghost use lib.ListN.{length};
 ghost use Rattle.turns.specs.Turns.{firstBy};
-ghost use Rattle.dense_elimination.specs.Loops.{forRange, outcome};
-ghost use Rattle.dense_elimination.specs.Places.{at, firstFinite, allFinite};
+ghost use Rattle.matrix_rows.specs.Loops.{forRange, outcome};
+ghost use Rattle.matrix_rows.specs.Places.{at, firstFinite, allFinite};
 ghost use Rattle.dense.specs.Substitution.{takenOut, substituted};
 ghost use Rattle.dense.specs.Solve.{rowLoaded, matrixLoaded, inputRefusal, solution, solutionRefusal, answer, solved};
 

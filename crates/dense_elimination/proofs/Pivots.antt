@@ -10,8 +10,9 @@ use lib.Ieee.{Float, nan, inf, fin, lt, up, down}
 use borrow.Author.Tests.{le-ltb}
 use Rattle.refusal.specs.Numbers.{singular}
 use Rattle.dense_elimination.specs.declared.Pivot.{Pivot}
-use Rattle.dense_elimination.specs.Loops.{turnsFrom, forRange, range-none, range-next, range-keeps, either, outcome}
-use Rattle.dense_elimination.specs.Elimination.{candidate, larger, pivotOf, tiny, System, pivotTaken, columnWith, columnDone}
+use Rattle.matrix_rows.specs.Loops.{turnsFrom, forRange, range-none, range-next, range-keeps, either, outcome}
+use Rattle.matrix_rows.specs.Rows.{System, pivotTaken}
+use Rattle.dense_elimination.specs.Elimination.{candidate, larger, pivotOf, tiny, columnWith, columnDone}
 
 -- nothing is below itself
 lt-self : (v : Float) → lt v v ≡ false

@@ -6,7 +6,7 @@ use native.Mathlib.Numerals.{add-one}
 use lib.ListN.{length}
 use borrow.Author.Needs.{needs}
 use Rattle.turns.specs.Turns.{allBelow}
-use Rattle.dense_elimination.specs.Places.{firstFinite, allFinite}
+use Rattle.matrix_rows.specs.Places.{firstFinite, allFinite}
 use Rattle.dense.proofs.entries_finite.Statement.{statement}
 use Rattle.dense.proofs.entries_finite.Tie as tie
 

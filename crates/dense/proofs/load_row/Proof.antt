@@ -3,7 +3,7 @@ use Prim.Native.Nat.{_≤_, _-_}
 use mathlib.Core.Path.{_≡_}
 use native.Mathlib.Omega.{arith}
 use borrow.Author.Needs.{needs}
-use Rattle.dense_elimination.specs.Loops.{forRange, range-none, range-next}
+use Rattle.matrix_rows.specs.Loops.{forRange, range-none, range-next}
 use Rattle.dense.specs.Solve.{placeLoaded, rowLoaded}
 use Rattle.dense.proofs.load_row.Statement.{statement}
 use Rattle.dense.proofs.load_row.Tie as tie

@@ -3,7 +3,7 @@ use Prim.Native.Nat.{_≤_, _-_}
 use mathlib.Core.Path.{_≡_}
 use native.Mathlib.Omega.{arith}
 use borrow.Author.Needs.{needs}
-use Rattle.dense_elimination.specs.Loops.{outcome, tryRange, try-none, try-next, try-ends}
+use Rattle.matrix_rows.specs.Loops.{outcome, tryRange, try-none, try-next, try-ends}
 use Rattle.dense.specs.Substitution.{columnSolved, substituted}
 use Rattle.dense.proofs.substitute.Statement.{statement}
 use Rattle.dense.proofs.substitute.Tie as tie

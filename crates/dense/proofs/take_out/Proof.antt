@@ -3,7 +3,7 @@ use Prim.Native.Nat.{_≤_, _-_}
 use mathlib.Core.Path.{_≡_}
 use native.Mathlib.Omega.{arith}
 use borrow.Author.Needs.{needs}
-use Rattle.dense_elimination.specs.Loops.{forRange, range-none, range-next}
+use Rattle.matrix_rows.specs.Loops.{forRange, range-none, range-next}
 use Rattle.dense.specs.Substitution.{takenOut}
 use Rattle.dense.proofs.take_out.Statement.{statement}
 use Rattle.dense.proofs.take_out.Tie as tie

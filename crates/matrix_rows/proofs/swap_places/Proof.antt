@@ -1,10 +1,10 @@
--- `dense_elimination::swap_places` meets its contract. Assumes nothing.
+-- `matrix_rows::swap_places` meets its contract. Assumes nothing.
 use mathlib.Core.Path.{refl}
 use borrow.Author.Needs.{needs}
 use native.Mathlib.Omega.{arith}
-use Rattle.dense_elimination.specs.Elimination.{swapped}
-use Rattle.dense_elimination.proofs.swap_places.Statement.{statement}
-use Rattle.dense_elimination.proofs.swap_places.Tie as tie
+use Rattle.matrix_rows.specs.Rows.{swapped}
+use Rattle.matrix_rows.proofs.swap_places.Statement.{statement}
+use Rattle.matrix_rows.proofs.swap_places.Tie as tie
 
 mul-held : tie.Need-mul-held
 mul-held c = omega arith

@@ -1,12 +1,12 @@
--- `dense_elimination::swap_rows` meets its contract: before turn k, k places of both rows are swapped. Assumes nothing.
+-- `matrix_rows::swap_rows` meets its contract: before turn k, k places of both rows are swapped. Assumes nothing.
 use Prim.Native.Nat.{_≤_, _-_}
 use mathlib.Core.Path.{_≡_}
 use native.Mathlib.Omega.{arith}
 use borrow.Author.Needs.{needs}
-use Rattle.dense_elimination.specs.Loops.{range-none, range-next}
-use Rattle.dense_elimination.specs.Elimination.{swapped, rowsSwapped}
-use Rattle.dense_elimination.proofs.swap_rows.Statement.{statement}
-use Rattle.dense_elimination.proofs.swap_rows.Tie as tie
+use Rattle.matrix_rows.specs.Loops.{range-none, range-next}
+use Rattle.matrix_rows.specs.Rows.{swapped, rowsSwapped}
+use Rattle.matrix_rows.proofs.swap_rows.Statement.{statement}
+use Rattle.matrix_rows.proofs.swap_rows.Tie as tie
 
 abbrev Inv-loop : tie.InvT-loop
 Inv-loop a₀ p q n k₀ a k = (k ≤ n) × (a ≡ rowsSwapped p q k a₀)
@@ -18,14 +18,20 @@ loop-holds : tie.Need-loop-holds Inv-loop μ-loop
 unfolding rowsSwapped
 loop-holds c = (search needs, rw (range-none 0))
 
+mul-i : tie.Need-mul-i Inv-loop μ-loop
+mul-i c = omega arith
+
+add-i : tie.Need-add-i Inv-loop μ-loop
+add-i c = omega arith
+
+mul-j : tie.Need-mul-j Inv-loop μ-loop
+mul-j c = omega arith
+
+add-j : tie.Need-add-j Inv-loop μ-loop
+add-j c = omega arith
+
 mul-held : tie.Need-mul-held Inv-loop μ-loop
 mul-held c = omega arith
-
-add-held : tie.Need-add-held Inv-loop μ-loop
-add-held c = omega arith
-
-mul-held-2 : tie.Need-mul-held-2 Inv-loop μ-loop
-mul-held-2 c = omega arith
 
 element-copy-out-held : tie.Need-element-copy-out-held Inv-loop μ-loop
 element-copy-out-held c = omega arith
@@ -33,35 +39,17 @@ element-copy-out-held c = omega arith
 mul-a : tie.Need-mul-a Inv-loop μ-loop
 mul-a c = omega arith
 
-add-a : tie.Need-add-a Inv-loop μ-loop
-add-a c = omega arith
+element-copy-out-a : tie.Need-element-copy-out-a Inv-loop μ-loop
+element-copy-out-a c = omega arith
 
 mul-a-2 : tie.Need-mul-a-2 Inv-loop μ-loop
 mul-a-2 c = omega arith
 
-element-copy-out-a : tie.Need-element-copy-out-a Inv-loop μ-loop
-element-copy-out-a c = omega arith
-
-mul-a-3 : tie.Need-mul-a-3 Inv-loop μ-loop
-mul-a-3 c = omega arith
-
-add-a-2 : tie.Need-add-a-2 Inv-loop μ-loop
-add-a-2 c = omega arith
-
-mul-a-4 : tie.Need-mul-a-4 Inv-loop μ-loop
-mul-a-4 c = omega arith
-
 element-write-a : tie.Need-element-write-a Inv-loop μ-loop
 element-write-a c = omega arith
 
-mul-a-5 : tie.Need-mul-a-5 Inv-loop μ-loop
-mul-a-5 c = omega arith
-
-add-a-3 : tie.Need-add-a-3 Inv-loop μ-loop
-add-a-3 c = omega arith
-
-mul-a-6 : tie.Need-mul-a-6 Inv-loop μ-loop
-mul-a-6 c = omega arith
+mul-a-3 : tie.Need-mul-a-3 Inv-loop μ-loop
+mul-a-3 c = omega arith
 
 element-write-a-2 : tie.Need-element-write-a-2 Inv-loop μ-loop
 element-write-a-2 c = omega arith
@@ -88,21 +76,17 @@ swap-rows-spec =
     Inv-loop
     μ-loop
     loop-holds
+    mul-i
+    add-i
+    mul-j
+    add-j
     mul-held
-    add-held
-    mul-held-2
     element-copy-out-held
     mul-a
-    add-a
-    mul-a-2
     element-copy-out-a
-    mul-a-3
-    add-a-2
-    mul-a-4
+    mul-a-2
     element-write-a
-    mul-a-5
-    add-a-3
-    mul-a-6
+    mul-a-3
     element-write-a-2
     add-k
     loop-less
