@@ -1,7 +1,7 @@
 -- The electrode sheet, from document 01 and electrode.rs.
 --
 -- Sheet: the record's ranges, the three ready sheets, the diffusivity at a temperature, the interfacial area.
--- Curves: the open-circuit potential of each chemistry, and its slope.
+-- Curves: the open-circuit potential of the chemistry, and its slope.
 -- Literals: each bit pattern above is its decimal rounded once.
 -- Calls: what each public call says, refusals included.
 pub mod Sheet

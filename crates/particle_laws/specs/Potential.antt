@@ -17,7 +17,8 @@ use Rattle.elementary.proofs.ChoiceLaws.{clamp-in}
 use Rattle.elementary.proofs.ExpRange.{exp-20, exp-96}
 use Rattle.elementary.proofs.PowRange.{powf-within}
 use Rattle.refusal.specs.Answers.{outcome}
-use Rattle.electrode.specs.Curves.{graphiteCurve, lfpCurve, nmcCurve, openCircuit}
+use Rattle.curves.specs.Curves.{graphiteCurve, lfpCurve, nmcCurve, chemistryCurve}
+use Rattle.electrode.specs.Curves.{openCircuit}
 use Rattle.electrode.specs.declared.ElectrodeParams.{ElectrodeParams}
 use Rattle.particle.specs.declared.ParticleDiffusion.{ParticleDiffusion}
 use Rattle.particle.specs.Checks.{particleRefusal}
@@ -81,7 +82,7 @@ nmc-sized x0 n =
 
 -- ---- the curve of any sheet
 pub open-circuit-sized : (s : ElectrodeParams) (theta : Float) → isNan theta ≡ false → Sized (openCircuit s theta) (2 ^ 150) 1
-unfolding openCircuit ofBits le
+unfolding openCircuit chemistryCurve ofBits le
 open-circuit-sized s theta n =
     let x = clampOf theta (f64 0x3f84_7ae1_47ae_147b) (f64 0x3fef_ae14_7ae1_47ae) in
     let w = wider (clamped theta (f64 0x3f84_7ae1_47ae_147b) (f64 0x3fef_ae14_7ae1_47ae) n tt tt tt tt tt) 1 1 1 100 tt tt tt tt in

@@ -4,19 +4,12 @@ use Rattle.electrode.specs.Curves.{openCircuitSlope}
 use Rattle.electrode.proofs.ElectrodeParams.open_circuit_slope.Statement.{statement}
 use Rattle.electrode.proofs.ElectrodeParams.open_circuit_slope.Tie as tie
 
-clamp-requires : tie.Need-clamp-requires
-clamp-requires c κs = search needs
-
-open-circuit-requires : tie.Need-open-circuit-requires
-open-circuit-requires c κs = search needs
-
-open-circuit-requires-2 : tie.Need-open-circuit-requires-2
-open-circuit-requires-2 c κs = search needs
+open-circuit-slope-requires : tie.Need-open-circuit-slope-requires
+open-circuit-slope-requires c κs = search needs
 
 returns : tie.Need-returns
 unfolding openCircuitSlope
-returns c = rw (c .open-circuit2 .ensures, c .before .open-circuit .ensures, c .before .before .clamp .ensures)
+returns c = c .open-circuit-slope .ensures
 
 pub open-circuit-slope-spec : {M : Type 1} → statement M
-open-circuit-slope-spec =
-    tie.close (tie.spec clamp-requires open-circuit-requires open-circuit-requires-2 returns)
+open-circuit-slope-spec = tie.close (tie.spec open-circuit-slope-requires returns)

@@ -1,8 +1,8 @@
--- `electrode::ocp_graphite` meets its contract. Assumes nothing.
+-- `curves::ocp_graphite` meets its contract. Assumes nothing.
 use borrow.Author.Needs.{needs}
-use Rattle.electrode.specs.Curves.{graphiteCurve}
-use Rattle.electrode.proofs.ocp_graphite.Statement.{statement}
-use Rattle.electrode.proofs.ocp_graphite.Tie as tie
+use Rattle.curves.specs.Curves.{graphiteCurve}
+use Rattle.curves.proofs.ocp_graphite.Statement.{statement}
+use Rattle.curves.proofs.ocp_graphite.Tie as tie
 
 powf-requires : tie.Need-powf-requires
 powf-requires c κs = search needs

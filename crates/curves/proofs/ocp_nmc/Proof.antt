@@ -1,8 +1,8 @@
--- `electrode::ocp_nmc` meets its contract. Assumes nothing.
+-- `curves::ocp_nmc` meets its contract. Assumes nothing.
 use borrow.Author.Needs.{needs}
-use Rattle.electrode.specs.Curves.{nmcCurve}
-use Rattle.electrode.proofs.ocp_nmc.Statement.{statement}
-use Rattle.electrode.proofs.ocp_nmc.Tie as tie
+use Rattle.curves.specs.Curves.{nmcCurve}
+use Rattle.curves.proofs.ocp_nmc.Statement.{statement}
+use Rattle.curves.proofs.ocp_nmc.Tie as tie
 
 clamp-requires : tie.Need-clamp-requires
 clamp-requires c κs = search needs

@@ -1,8 +1,8 @@
--- `electrode::ocp_lfp` meets its contract. Assumes nothing.
+-- `curves::ocp_lfp` meets its contract. Assumes nothing.
 use borrow.Author.Needs.{needs}
-use Rattle.electrode.specs.Curves.{lfpCurve}
-use Rattle.electrode.proofs.ocp_lfp.Statement.{statement}
-use Rattle.electrode.proofs.ocp_lfp.Tie as tie
+use Rattle.curves.specs.Curves.{lfpCurve}
+use Rattle.curves.proofs.ocp_lfp.Statement.{statement}
+use Rattle.curves.proofs.ocp_lfp.Tie as tie
 
 clamp-requires : tie.Need-clamp-requires
 clamp-requires c κs = search needs
