@@ -20,7 +20,7 @@ use Rattle.dfn.specs.Step as D
 use Rattle.dense.specs.declared.Solved.{Solved}
 use Rattle.dense.specs.Solve.{solved}
 use Rattle.cell_images.specs.Images.{particleAt, putParticle, cellAt, putCell, putReport}
-use Rattle.porous_images.specs.Images.{electrolyteAt, putElectrolyte}
+use Rattle.electrolyte_images.specs.Images.{electrolyteAt, putElectrolyte}
 use Rattle.porous_images.specs.Images as I
 use Rattle.image_numbers.specs.Numbers.{numberSaid, numberLength}
 use Rattle.image_builds.specs.Written.{written}

@@ -214,7 +214,7 @@ pub extern "C" fn pj_electrolyte_step(
     if !lengths_fit(electrolyte.len(), 896, answer.len(), 896) {
         return refusal::LENGTH;
     }
-    let out = porous_images::electrolyte_at(electrolyte).step_concentration(
+    let out = electrolyte_images::electrolyte_at(electrolyte).step_concentration(
         j_n_neg,
         j_n_pos,
         dt,
@@ -223,7 +223,7 @@ pub extern "C" fn pj_electrolyte_step(
     let refusal = out.refusal;
     if refusal == 0 {
         let new = out.state;
-        porous_images::put_electrolyte(answer, new);
+        electrolyte_images::put_electrolyte(answer, new);
     }
     refusal
 }

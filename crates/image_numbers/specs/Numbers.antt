@@ -17,7 +17,7 @@ use Rattle.electrolyte.specs.declared.ElectrolyteState.{ElectrolyteState}
 use Rattle.electrolyte_parameters.specs.Calls as R
 use Rattle.electrolyte.specs.Calls as E
 use Rattle.cell_images.specs.Images.{sheetAt, particleAt, cellAt}
-use Rattle.porous_images.specs.Images.{saltAt, electrolyteAt}
+use Rattle.electrolyte_images.specs.Images.{saltAt, electrolyteAt}
 
 -- 1 d_s, 2 specific_area, 3 ocp, 4 docp_dtheta, 5 sphere_volume
 unfoldable pub sheetNumber : ℕ → ElectrodeParams → Float → Said

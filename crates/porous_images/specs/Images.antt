@@ -1,61 +1,14 @@
--- The images of an electrolyte's parameters (7 words), an electrolyte (112), a Doyle-Fuller-Newman cell's parameters (59) and grid (5), and such a
--- cell (1126); and what a step adds to its cell's.
+-- The images of a Doyle-Fuller-Newman cell's parameters (59 words) and grid (5), and of such a cell (1126); and what a step adds to its cell's.
 use Prim.Native.Nat.{ℕ, _+_}
 use mathlib.Core.Bool.{cond}
 use mathlib.Core.List.{List, [], _∷_}
 use lib.ListN.{length, getD, replicate}
 use lib.Ieee.{Float, nan}
 use Rattle.codec.specs.Words.{wordAt, putWord, floatAt, putFloat, placesAt, putRow, putPlaces}
-use Rattle.electrolyte_parameters.specs.declared.ElectrolyteParams.{ElectrolyteParams}
-use Rattle.electrolyte.specs.declared.ElectrolyteState.{ElectrolyteState}
 use Rattle.dfn_parameters.specs.declared.DfnParams.{DfnParams}
 use Rattle.dfn_parameters.specs.declared.DfnConfig.{DfnConfig}
 use Rattle.dfn.specs.declared.DfnSolver.{DfnSolver}
 use Rattle.dfn.specs.declared.DfnStep.{DfnStep}
-
--- ---- the electrolyte's seven parameters
-
-unfoldable pub saltAt : List ℕ → ElectrolyteParams
-saltAt s = record {
-  «d_e_ref» = floatAt s 0;
-  «kappa_ref» = floatAt s 1;
-  «t_plus» = floatAt s 2;
-  bruggeman = floatAt s 3;
-  «c_e_init» = floatAt s 4;
-  «e_a_de» = floatAt s 5;
-  «e_a_kappa» = floatAt s 6;
-}
-
-unfoldable pub putSalt : List ℕ → ElectrolyteParams → List ℕ
-putSalt s p =
-    putRow s 0 (p .«d_e_ref» ∷ p .«kappa_ref» ∷ p .«t_plus» ∷ p .bruggeman ∷ p .«c_e_init» ∷ p .«e_a_de» ∷ p .«e_a_kappa» ∷ [])
-
--- ---- an electrolyte: parameters, lengths, porosities, counts of nodes, 96 places
-
-unfoldable pub electrolyteAt : List ℕ → ElectrolyteState
-electrolyteAt s = record {
-  params = saltAt s;
-  «l_neg» = floatAt s 7;
-  «l_sep» = floatAt s 8;
-  «l_pos» = floatAt s 9;
-  «eps_neg» = floatAt s 10;
-  «eps_sep» = floatAt s 11;
-  «eps_pos» = floatAt s 12;
-  «n_neg» = wordAt s 13;
-  «n_sep» = wordAt s 14;
-  «n_pos» = wordAt s 15;
-  «c_e» = placesAt 96 s 16;
-}
-
-abbrev pub regionNumbers : ElectrolyteState → List Float
-regionNumbers e = e .«l_neg» ∷ e .«l_sep» ∷ e .«l_pos» ∷ e .«eps_neg» ∷ e .«eps_sep» ∷ e .«eps_pos» ∷ []
-
-unfoldable pub putElectrolyte : List ℕ → ElectrolyteState → List ℕ
-putElectrolyte s e =
-    putRow
-    (putWord (putWord (putWord (putRow (putSalt s (e .params)) 7 (regionNumbers e)) 13 (e .«n_neg»)) 14 (e .«n_sep»)) 15 (e .«n_pos»))
-    16
-    (e .«c_e»)
 
 -- ---- a Doyle-Fuller-Newman cell's parameters: 25 numbers, then for the anode and for the cathode a count and 16 coefficients
 
@@ -96,7 +49,7 @@ paramsOf x negCount neg posCount pos = record {
 unfoldable pub paramsAt : List ℕ → DfnParams
 paramsAt s = paramsOf (placesAt 25 s 0) (wordAt s 25) (placesAt 16 s 26) (wordAt s 42) (placesAt 16 s 43)
 
-abbrev pub paramsNumbers : DfnParams → List Float
+unfoldable pub paramsNumbers : DfnParams → List Float
 paramsNumbers p =
     p .«l_neg» ∷ p .«l_sep» ∷ p .«l_pos» ∷ p .area ∷ p .«r_neg» ∷ p .«d_s_neg_ref» ∷ p .«c_s_neg_max» ∷ p .«eps_neg» ∷ p .«theta_neg_0» ∷ p .«k_neg»
     ∷ p .«r_pos» ∷ p .«d_s_pos_ref» ∷ p .«c_s_pos_max» ∷ p .«eps_pos» ∷ p .«theta_pos_0» ∷ p .«k_pos» ∷ p .«c_e0» ∷ p .«d_e0» ∷ p .«gamma_e»

@@ -1,2 +1,2 @@
--- Electrolytes and Doyle-Fuller-Newman cells as images.
+-- Doyle-Fuller-Newman cells as images.
 pub mod Images

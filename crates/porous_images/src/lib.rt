@@ -1,4 +1,4 @@
-// Electrolytes and Doyle-Fuller-Newman cells as images: words in a string of bytes, in the order of the records' fields.
+// Doyle-Fuller-Newman cells as images: words in a string of bytes, in the order of the records' fields.
 use codec::flag;
 use codec::read_word;
 use codec::write_word;
@@ -6,82 +6,12 @@ use dfn::DfnSolver;
 use dfn::DfnStep;
 use dfn_parameters::DfnConfig;
 use dfn_parameters::DfnParams;
-use electrolyte::ElectrolyteState;
-use electrolyte_parameters::ElectrolyteParams;
 use image_rows::fill_33;
 use image_rows::fill_512;
 use image_rows::read_places;
 use image_rows::write_places;
 ghost use mathlib.Core.Path.{_≡_};
-ghost use Rattle.porous_images.specs.Images.{saltAt, putSalt, electrolyteAt, putElectrolyte, paramsOf, paramsAt, putParams, configAt, putConfig, cellAt, putCellPlaces, putLast, putCell, putReport};
-
-// The electrolyte's parameters in the first seven words.
-pub fn salt_at(s: &[u8]) -> ElectrolyteParams
-    ensures { λ r. ⌜ r ≡ saltAt (now (s .entry)) ⌝ }
-{
-    let mut x = [0.0; 7];
-    read_places(s, 0, &mut x);
-    ElectrolyteParams {
-        d_e_ref: x[0],
-        kappa_ref: x[1],
-        t_plus: x[2],
-        bruggeman: x[3],
-        c_e_init: x[4],
-        e_a_de: x[5],
-        e_a_kappa: x[6],
-    }
-}
-
-pub fn put_salt(s: &mut [u8], p: ElectrolyteParams)
-    ensures { λ _. ⌜ now (s .exit) ≡ putSalt (now (s .entry)) p ⌝ }
-{
-    let x = [
-        p.d_e_ref,
-        p.kappa_ref,
-        p.t_plus,
-        p.bruggeman,
-        p.c_e_init,
-        p.e_a_de,
-        p.e_a_kappa,
-    ];
-    write_places(s, 0, &x);
-}
-
-// The electrolyte in the first 112 words.
-pub fn electrolyte_at(s: &[u8]) -> ElectrolyteState
-    ensures { λ r. ⌜ r ≡ electrolyteAt (now (s .entry)) ⌝ }
-{
-    let params = salt_at(s);
-    let mut x = [0.0; 6];
-    read_places(s, 7, &mut x);
-    let mut c_e = [0.0; 96];
-    read_places(s, 16, &mut c_e);
-    ElectrolyteState {
-        params,
-        l_neg: x[0],
-        l_sep: x[1],
-        l_pos: x[2],
-        eps_neg: x[3],
-        eps_sep: x[4],
-        eps_pos: x[5],
-        n_neg: read_word(s, 13) as usize,
-        n_sep: read_word(s, 14) as usize,
-        n_pos: read_word(s, 15) as usize,
-        c_e,
-    }
-}
-
-pub fn put_electrolyte(s: &mut [u8], e: ElectrolyteState)
-    ensures { λ _. ⌜ now (s .exit) ≡ putElectrolyte (now (s .entry)) e ⌝ }
-{
-    let x = [e.l_neg, e.l_sep, e.l_pos, e.eps_neg, e.eps_sep, e.eps_pos];
-    put_salt(s, e.params);
-    write_places(s, 7, &x);
-    write_word(s, 13, e.n_neg as u64);
-    write_word(s, 14, e.n_sep as u64);
-    write_word(s, 15, e.n_pos as u64);
-    write_places(s, 16, &e.c_e);
-}
+ghost use Rattle.porous_images.specs.Images.{paramsOf, paramsAt, paramsNumbers, putParams, configAt, putConfig, cellAt, putCellPlaces, putLast, putCell, putReport};
 
 // The parameters from their 25 numbers in the record's order, and each electrode's coefficients with their count.
 fn params_of(
@@ -145,10 +75,11 @@ pub fn params_at(s: &[u8]) -> DfnParams
     )
 }
 
-pub fn put_params(s: &mut [u8], p: DfnParams)
-    ensures { λ _. ⌜ now (s .exit) ≡ putParams (now (s .entry)) p ⌝ }
+// Those 25 numbers.
+fn numbers_of(p: DfnParams) -> [f64; 25]
+    ensures { λ r. ⌜ r ≡ paramsNumbers p ⌝ }
 {
-    let x = [
+    [
         p.l_neg,
         p.l_sep,
         p.l_pos,
@@ -174,7 +105,13 @@ pub fn put_params(s: &mut [u8], p: DfnParams)
         p.eps_e_sep,
         p.brugg,
         p.temperature_k,
-    ];
+    ]
+}
+
+pub fn put_params(s: &mut [u8], p: DfnParams)
+    ensures { λ _. ⌜ now (s .exit) ≡ putParams (now (s .entry)) p ⌝ }
+{
+    let x = numbers_of(p);
     write_places(s, 0, &x);
     write_word(s, 25, p.ocv_neg_count as u64);
     write_places(s, 26, &p.ocv_neg_coeffs);

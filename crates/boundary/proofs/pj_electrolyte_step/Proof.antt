@@ -1,6 +1,6 @@
 -- `boundary::pj_electrolyte_step` meets its contract. Assumes nothing.
 use Rattle.electrolyte.specs.declared.StateAnswer.{StateAnswer}
-use Rattle.porous_images.specs.Images.{putElectrolyte}
+use Rattle.electrolyte_images.specs.Images.{putElectrolyte}
 use Rattle.boundary.specs.Calls.{electrolyteNumber, electrolyteAfter}
 use Rattle.boundary.proofs.Answers.{on, off, short, taken, left}
 use borrow.Author.Needs.{needs}

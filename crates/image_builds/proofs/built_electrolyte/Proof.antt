@@ -1,5 +1,5 @@
 -- `image_builds::built_electrolyte` meets its contract. Assumes nothing.
-use Rattle.porous_images.specs.Images.{electrolyteAt}
+use Rattle.electrolyte_images.specs.Images.{electrolyteAt}
 use borrow.Author.Needs.{needs}
 use Rattle.image_builds.specs.Builds.{electrolyteBuilt}
 use Rattle.image_builds.proofs.built_electrolyte.Statement.{statement}

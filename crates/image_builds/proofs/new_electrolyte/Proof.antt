@@ -1,7 +1,7 @@
 -- `image_builds::new_electrolyte` meets its contract. Assumes nothing.
 use borrow.Author.Needs.{needs}
 use Rattle.electrolyte.specs.declared.StateAnswer.{StateAnswer}
-use Rattle.porous_images.specs.Images.{putElectrolyte}
+use Rattle.electrolyte_images.specs.Images.{putElectrolyte}
 use Rattle.image_builds.specs.Written.{accepted, refused}
 use Rattle.image_builds.specs.Builds.{electrolyteBuilt}
 use Rattle.image_builds.proofs.new_electrolyte.Statement.{statement}

@@ -15,8 +15,8 @@ use Rattle.image_numbers.proofs.electrolyte_number.Reads as electrolyte
 use Rattle.image_numbers.proofs.particle_number.Reads as particle-number-reads
 use Rattle.image_numbers.proofs.rate_number.Reads as rate-number-reads
 use Rattle.image_numbers.proofs.sheet_number.Reads as sheet-number-reads
-use Rattle.porous_images.proofs.electrolyte_at.Reads as electrolyte-at-reads
-use Rattle.porous_images.proofs.salt_at.Reads as salt-at-reads
+use Rattle.electrolyte_images.proofs.electrolyte_at.Reads as electrolyte-at-reads
+use Rattle.electrolyte_images.proofs.salt_at.Reads as salt-at-reads
 
 sheet-at-requires : tie.Need-sheet-at-requires
 sheet-at-requires c κs = search needs

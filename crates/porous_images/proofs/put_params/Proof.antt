@@ -4,6 +4,9 @@ use borrow.Author.Needs.{needs}
 use Rattle.porous_images.proofs.put_params.Statement.{statement}
 use Rattle.porous_images.proofs.put_params.Tie as tie
 
+numbers-of-requires : tie.Need-numbers-of-requires
+numbers-of-requires c κs = search needs
+
 slice-aggregate-write-places : tie.Need-slice-aggregate-write-places
 slice-aggregate-write-places c = search needs
 
@@ -27,19 +30,13 @@ same-length c = search needs depth 32
 
 returns : tie.Need-returns
 unfolding putParams
-returns c =
-    rw (
-      c .before .before .write-places3 .ensures,
-      c .before .before .before .before .before .before .before .before .before .write-word2 .ensures,
-      c .before .before .before .before .before .before .before .before .before .before .before .before .before .write-places2 .ensures,
-      c .before .before .before .before .before .before .before .before .before .before .before .before .before .before .before .before .before .before .before .before .write-word .ensures,
-      c .before .before .before .before .before .before .before .before .before .before .before .before .before .before .before .before .before .before .before .before .before .before .before .before .write-places .ensures,
-    )
+returns c = rw (c .before .before .write-places3 .ensures, c .before .before .before .before .before .before .before .before .before .write-word2 .ensures, c .before .before .before .before .before .before .before .before .before .before .before .before .before .write-places2 .ensures, c .before .before .before .before .before .before .before .before .before .before .before .before .before .before .before .before .before .before .before .before .write-word .ensures, c .before .before .before .before .before .before .before .before .before .before .before .before .before .before .before .before .before .before .before .before .before .before .before .before .write-places .ensures, c .before .before .before .before .before .before .before .before .before .before .before .before .before .before .before .before .before .before .before .before .before .before .before .before .before .before .before .numbers-of .ensures)
 
 pub put-params-spec : {M : Type 1} → statement M
 put-params-spec =
     tie.close
     (tie.spec
+    numbers-of-requires
     slice-aggregate-write-places
     write-places-requires
     write-word-requires

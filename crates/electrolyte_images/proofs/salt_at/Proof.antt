@@ -1,9 +1,9 @@
--- `porous_images::salt_at` meets its contract. Assumes nothing.
-use Rattle.porous_images.specs.Images.{saltAt}
+-- `electrolyte_images::salt_at` meets its contract. Assumes nothing.
+use Rattle.electrolyte_images.specs.Images.{saltAt}
 use Rattle.turns.specs.Turns.{firstBy}
 use borrow.Author.Needs.{needs}
-use Rattle.porous_images.proofs.salt_at.Statement.{statement}
-use Rattle.porous_images.proofs.salt_at.Tie as tie
+use Rattle.electrolyte_images.proofs.salt_at.Statement.{statement}
+use Rattle.electrolyte_images.proofs.salt_at.Tie as tie
 
 slice-aggregate-read-places : tie.Need-slice-aggregate-read-places
 slice-aggregate-read-places c = search needs

@@ -1,8 +1,8 @@
--- `porous_images::put_salt` meets its contract. Assumes nothing.
-use Rattle.porous_images.specs.Images.{putSalt}
+-- `electrolyte_images::put_salt` meets its contract. Assumes nothing.
+use Rattle.electrolyte_images.specs.Images.{putSalt}
 use borrow.Author.Needs.{needs}
-use Rattle.porous_images.proofs.put_salt.Statement.{statement}
-use Rattle.porous_images.proofs.put_salt.Tie as tie
+use Rattle.electrolyte_images.proofs.put_salt.Statement.{statement}
+use Rattle.electrolyte_images.proofs.put_salt.Tie as tie
 
 slice-aggregate-write-places : tie.Need-slice-aggregate-write-places
 slice-aggregate-write-places c = search needs

@@ -1,9 +1,9 @@
--- `porous_images::electrolyte_at` meets its contract. Assumes nothing.
-use Rattle.porous_images.specs.Images.{electrolyteAt}
+-- `electrolyte_images::electrolyte_at` meets its contract. Assumes nothing.
+use Rattle.electrolyte_images.specs.Images.{electrolyteAt}
 use Rattle.turns.specs.Turns.{firstBy}
 use borrow.Author.Needs.{needs}
-use Rattle.porous_images.proofs.electrolyte_at.Statement.{statement}
-use Rattle.porous_images.proofs.electrolyte_at.Tie as tie
+use Rattle.electrolyte_images.proofs.electrolyte_at.Statement.{statement}
+use Rattle.electrolyte_images.proofs.electrolyte_at.Tie as tie
 
 salt-at-requires : tie.Need-salt-at-requires
 salt-at-requires c κs = search needs

@@ -1,0 +1,52 @@
+-- The images of an electrolyte's parameters (7 words) and of an electrolyte (112).
+use Prim.Native.Nat.{ℕ, _+_}
+use mathlib.Core.List.{List, [], _∷_}
+use lib.ListN.{length, replicate}
+use lib.Ieee.{Float}
+use Rattle.codec.specs.Words.{wordAt, putWord, floatAt, placesAt, putRow, putPlaces}
+use Rattle.electrolyte_parameters.specs.declared.ElectrolyteParams.{ElectrolyteParams}
+use Rattle.electrolyte.specs.declared.ElectrolyteState.{ElectrolyteState}
+
+-- ---- the electrolyte's seven parameters
+
+unfoldable pub saltAt : List ℕ → ElectrolyteParams
+saltAt s = record {
+  «d_e_ref» = floatAt s 0;
+  «kappa_ref» = floatAt s 1;
+  «t_plus» = floatAt s 2;
+  bruggeman = floatAt s 3;
+  «c_e_init» = floatAt s 4;
+  «e_a_de» = floatAt s 5;
+  «e_a_kappa» = floatAt s 6;
+}
+
+unfoldable pub putSalt : List ℕ → ElectrolyteParams → List ℕ
+putSalt s p =
+    putRow s 0 (p .«d_e_ref» ∷ p .«kappa_ref» ∷ p .«t_plus» ∷ p .bruggeman ∷ p .«c_e_init» ∷ p .«e_a_de» ∷ p .«e_a_kappa» ∷ [])
+
+-- ---- an electrolyte: parameters, lengths, porosities, counts of nodes, 96 places
+
+unfoldable pub electrolyteAt : List ℕ → ElectrolyteState
+electrolyteAt s = record {
+  params = saltAt s;
+  «l_neg» = floatAt s 7;
+  «l_sep» = floatAt s 8;
+  «l_pos» = floatAt s 9;
+  «eps_neg» = floatAt s 10;
+  «eps_sep» = floatAt s 11;
+  «eps_pos» = floatAt s 12;
+  «n_neg» = wordAt s 13;
+  «n_sep» = wordAt s 14;
+  «n_pos» = wordAt s 15;
+  «c_e» = placesAt 96 s 16;
+}
+
+abbrev pub regionNumbers : ElectrolyteState → List Float
+regionNumbers e = e .«l_neg» ∷ e .«l_sep» ∷ e .«l_pos» ∷ e .«eps_neg» ∷ e .«eps_sep» ∷ e .«eps_pos» ∷ []
+
+unfoldable pub putRegions : List ℕ → List Float → ℕ → ℕ → ℕ → List ℕ
+putRegions s x nNeg nSep nPos = putWord (putWord (putWord (putRow s 7 x) 13 nNeg) 14 nSep) 15 nPos
+
+unfoldable pub putElectrolyte : List ℕ → ElectrolyteState → List ℕ
+putElectrolyte s e =
+    putRow (putRegions (putSalt s (e .params)) (regionNumbers e) (e .«n_neg») (e .«n_sep») (e .«n_pos»)) 16 (e .«c_e»)

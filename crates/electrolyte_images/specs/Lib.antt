@@ -1,0 +1,2 @@
+-- An electrolyte and its parameters as images.
+pub mod Images
