@@ -27,13 +27,13 @@ pub(crate) fn small_line(fd: i32, first: u64) -> bool {
     let powers = is_f64(fd, elementary::square(x))
         & is_f64(fd, elementary::cube(x))
         & is_f64(fd, elementary::fourth(x));
-    let choices = is_f64(fd, elementary::clamp(x, low, high))
-        & is_f64(fd, elementary::max(x, y))
-        & is_f64(fd, elementary::min(x, y));
-    let signs = is_f64(fd, elementary::signum(x)) & is_f64(fd, elementary::abs(x));
+    let choices = is_f64(fd, choice::clamp(x, low, high))
+        & is_f64(fd, choice::max(x, y))
+        & is_f64(fd, choice::min(x, y));
+    let signs = is_f64(fd, choice::signum(x)) & is_f64(fd, choice::abs(x));
     powers & choices & signs
 }
 
 pub(crate) fn count_line(fd: i32, first: u64) -> bool {
-    elementary::ceil_count(words::from_bits(first)) == next_u64(fd)
+    choice::ceil_count(words::from_bits(first)) == next_u64(fd)
 }

@@ -11,7 +11,7 @@ use Rattle.square_root.specs.Root.{sqrtOf, rounded, wholeRoot, rootBelow}
 use Rattle.elementary.specs.Exp.{series, squarings, powered, expOf}
 use Rattle.elementary.specs.Ln.{terms, lnParts, lnSplit, lnOf}
 use Rattle.elementary.specs.Asinh.{asinhOf}
-use Rattle.elementary.specs.Count.{ceilOf}
+use Rattle.choice.specs.Count.{ceilOf}
 use Rattle.refusal.specs.Numbers.{refusalUnless, firstMet}
 use Rattle.turns.specs.Turns.{firstBy, allBelow}
 use Rattle.places.specs.Places.{placesBy}

@@ -10,7 +10,7 @@ use lib.Seq.{getD-set-other}
 use lib.Ieee.{Float, nan, ofBits}
 use borrow.Author.Tests.{ne-eqb}
 use Rattle.binary64.specs.Operators.{f64}
-use Rattle.elementary.specs.Choice.{absOf}
+use Rattle.choice.specs.Choice.{absOf}
 use Rattle.refusal.specs.Numbers.{none-met, passed}
 use Rattle.refusal.specs.Ranges.{finite}
 use Rattle.turns.specs.Turns.{firstBy, first-above, all-at}

@@ -36,7 +36,7 @@ fn substitute(a: &[f64; 1024], x: &mut [f64; 32], n: usize) -> u64
     for k in 0..n {
         let col = n - 1 - k;
         let pivot = a[col * 32 + col];
-        if elementary::abs(pivot) < 1e-14 {
+        if choice::abs(pivot) < 1e-14 {
             return refusal::SINGULAR;
         }
         x[col] = x[col] / pivot;

@@ -20,7 +20,7 @@ fn candidate(a: &[f64; 1024], row: usize, col: usize) -> Pivot
 {
     Pivot {
         row,
-        val: elementary::abs(a[row * 32 + col]),
+        val: choice::abs(a[row * 32 + col]),
     }
 }
 

@@ -13,7 +13,7 @@ use lib.Ieee.{Float, nan, le, toBits, ofBits}
 use lib.Ieee.Scale.{finite}
 use lib.Ieee.Fits.{and-i, and-l, and-r}
 use Rattle.binary64.specs.Operators.{f64}
-use Rattle.elementary.specs.Choice.{clampOf}
+use Rattle.choice.specs.Choice.{clampOf}
 use Rattle.refusal.specs.Ranges.{inRange, plusZero}
 use Rattle.turns.specs.Turns.{firstBy, allBelow, all-at, all-of, first-below, first-above}
 use Rattle.places.specs.Places.{placesBy, places-length, places-inside, places-before, places-after}

@@ -10,7 +10,7 @@ use Rattle.binary64.specs.Operators.{_⊕_, f64}
 use Rattle.binary64.specs.Value.{val, le-val, val-le, lt-val}
 use Rattle.binary64.specs.Order.{not→lt}
 use Rattle.binary64.specs.OrderLaws.{add-le}
-use Rattle.elementary.specs.Choice.{clampOf}
+use Rattle.choice.specs.Choice.{clampOf}
 
 decide : {P : Type 0} (b : Bool) → (T b → P) → (T (not b) → P) → P
 decide true f g = f tt

@@ -8,7 +8,7 @@ use lib.Ieee.{Float, nan, neg}
 use Rattle.binary64.specs.Operators.{_⊕_, _⊖_, _⊗_, _⊘_, f64, count}
 use Rattle.elementary.specs.Exp.{one, expOf}
 use Rattle.elementary.specs.Power.{powfOf}
-use Rattle.elementary.specs.Choice.{clampOf}
+use Rattle.choice.specs.Choice.{clampOf}
 use Rattle.turns.specs.Turns.{firstBy}
 use Rattle.dfn_parameters.specs.Sides.{anodeOf, cathodeOf, areaOf, faraday, poreFlux}
 use Rattle.dfn_parameters.specs.declared.DfnParams.{DfnParams}

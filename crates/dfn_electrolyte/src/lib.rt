@@ -105,7 +105,7 @@ fn nodes(neg: Region, pos: Region, c: &[f64; 33], d: &[f64; 33]) -> [f64; 33]
     let n = neg.n + 1 + pos.n;
     let mut out = *c;
     for i in 0..n {
-        out[i] = elementary::clamp(node(neg, pos, c, d, i), 100.0, 3000.0);
+        out[i] = choice::clamp(node(neg, pos, c, d, i), 100.0, 3000.0);
     }
     out
 }

@@ -6,7 +6,7 @@ use lib.Dec.{ltb}
 use lib.ListN.{getD, replicate}
 use lib.Ieee.{Float, nan}
 use Rattle.binary64.specs.Operators.{_⊖_, f64}
-use Rattle.elementary.specs.Choice.{absOf, maxOf}
+use Rattle.choice.specs.Choice.{absOf, maxOf}
 use Rattle.refusal.specs.Ranges.{inRange, finite, plusZero}
 use Rattle.turns.specs.Turns.{firstBy, allBelow}
 

@@ -7,7 +7,7 @@ use lib.ListN.{getD, replicate}
 use lib.Ieee.{Float, nan}
 use Rattle.binary64.specs.Operators.{_⊕_, _⊖_, _⊗_, _⊘_, f64, count}
 use Rattle.elementary.specs.Exp.{one}
-use Rattle.elementary.specs.Choice.{clampOf, maxOf}
+use Rattle.choice.specs.Choice.{clampOf, maxOf}
 use Rattle.turns.specs.Turns.{firstBy}
 use Rattle.places.specs.Places.{placesBy}
 use Rattle.dfn_solid.specs.declared.Grain.{Grain}

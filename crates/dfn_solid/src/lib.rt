@@ -19,7 +19,7 @@ pub struct Grain {
 pub fn d_s(v: Grain, c: f64) -> f64
     ensures { λ r. ⌜ r ≡ dSolid v c ⌝ }
 {
-    let x = c / elementary::max(v.c_max, 1e-3) - 0.5;
+    let x = c / choice::max(v.c_max, 1e-3) - 0.5;
     v.d_ref * (1.0 + 0.3 * x * x)
 }
 
@@ -42,7 +42,7 @@ fn inner_node(v: Grain, c: &[f64; 512], d: &[f64; 512], k: usize, i: usize) -> f
 {
     let r = std::num::nearest_u64_to_f64(i as u64) * v.dr;
     let up = r + 0.5 * v.dr;
-    let down = elementary::max(r - 0.5 * v.dr, 0.0);
+    let down = choice::max(r - 0.5 * v.dr, 0.0);
     let out = up * up * 0.5 * (d[k] + d[k + 1]) * (c[k + 1] - c[k]) / v.dr;
     let into = down * down * 0.5 * (d[k - 1] + d[k]) * (c[k] - c[k - 1]) / v.dr;
     c[k] + v.dt / (r * r * v.dr) * (out - into)
@@ -53,7 +53,7 @@ fn surface_node(v: Grain, c: &[f64; 512], d: &[f64; 512], k: usize) -> f64
     requires { ⌜ k < 512 ⌝ }
     ensures { λ r. ⌜ r ≡ surfaceWith v (now (c .entry)) (now (d .entry)) k ⌝ }
 {
-    c[k] - v.dt * d[k] * (v.flux / elementary::max(d[k], 1e-30)) / v.dr
+    c[k] - v.dt * d[k] * (v.flux / choice::max(d[k], 1e-30)) / v.dr
 }
 
 // The centre of the particle at `base`: its neighbour's new value; where that is the surface, the surface's old one.
@@ -88,7 +88,7 @@ fn move_particle(v: Grain, c: &[f64; 512], d: &[f64; 512], base: usize, out: &mu
 {
     let n = v.n;
     for i in 0..n {
-        out[base + i] = elementary::clamp(node(v, c, d, base, i), 0.0, v.c_max);
+        out[base + i] = choice::clamp(node(v, c, d, base, i), 0.0, v.c_max);
     }
 }
 

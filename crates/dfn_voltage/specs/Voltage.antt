@@ -8,7 +8,7 @@ use Rattle.elementary.specs.Exp.{one}
 use Rattle.elementary.specs.Ln.{lnOf}
 use Rattle.elementary.specs.Asinh.{asinhOf}
 use Rattle.elementary.specs.Power.{powfOf}
-use Rattle.elementary.specs.Choice.{clampOf, maxOf}
+use Rattle.choice.specs.Choice.{clampOf, maxOf}
 use Rattle.dfn_parameters.specs.Sides.{anodeOf, cathodeOf, areaOf, faraday, horner}
 use Rattle.dfn_parameters.specs.declared.DfnParams.{DfnParams}
 use Rattle.dfn_parameters.specs.declared.Side.{Side}

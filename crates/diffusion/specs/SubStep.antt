@@ -6,7 +6,7 @@ use lib.Dec.{ltb, eqb}
 use lib.ListN.{getD}
 use lib.Ieee.{Float, nan}
 use Rattle.binary64.specs.Operators.{_⊕_, _⊖_, _⊗_, _⊘_, f64, count}
-use Rattle.elementary.specs.Choice.{clampOf}
+use Rattle.choice.specs.Choice.{clampOf}
 use Rattle.turns.specs.Turns.{firstBy}
 
 -- 2 and 6

@@ -117,7 +117,7 @@ pub(crate) fn all_given(v: &[f64; 30]) -> bool {
 
 // What is no whole number counts as 0.
 fn whole(x: f64) -> u64 {
-    let n = elementary::ceil_count(x);
+    let n = choice::ceil_count(x);
     if std::num::nearest_u64_to_f64(n) == x {
         return n;
     }

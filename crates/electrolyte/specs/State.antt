@@ -6,7 +6,7 @@ use lib.Dec.{leb}
 use lib.Ieee.{Float, le}
 use Rattle.binary64.specs.Operators.{_⊖_, _⊗_, _⊘_, f64, count}
 use Rattle.elementary.specs.Exp.{one}
-use Rattle.elementary.specs.Choice.{minOf}
+use Rattle.choice.specs.Choice.{minOf}
 use Rattle.electrolyte_parameters.specs.declared.ElectrolyteParams.{ElectrolyteParams}
 use Rattle.electrolyte_parameters.specs.Params.{diffusivityEff}
 use Rattle.electrolyte_profile.specs.declared.Region.{Region}

@@ -57,7 +57,7 @@ fn per_node(x: f64, n: usize) -> f64
 fn least(a: f64, b: f64, c: f64) -> f64
     ensures { λ r. ⌜ r ≡ leastOf a b c ⌝ }
 {
-    elementary::min(elementary::min(a, b), c)
+    choice::min(choice::min(a, b), c)
 }
 
 // What a step works with in a region of the length l with n nodes.

@@ -11,7 +11,7 @@ use lib.Ieee.{Float, nan, inf, fin, le, lt, isNan, toBits, ofBits}
 use borrow.Author.Tests.{leb-true, leb-false, ltb-true, ltb-false}
 use Rattle.binary64.specs.Operators.{f64}
 use Rattle.binary64.specs.Order.{not→lt}
-use Rattle.elementary.specs.Choice.{maxOf}
+use Rattle.choice.specs.Choice.{maxOf}
 use Rattle.refusal.specs.Ranges.{finite, plusZero}
 use Rattle.turns.specs.Turns.{first-below, first-above, all-at, all-of}
 use Rattle.electrolyte_profile.specs.declared.Drive.{Drive}

@@ -6,7 +6,7 @@ use lib.Dec.{eqb, ltb}
 use lib.ListN.{getD}
 use lib.Ieee.{Float, nan}
 use Rattle.binary64.specs.Operators.{_⊕_, _⊖_, _⊗_, _⊘_, f64}
-use Rattle.elementary.specs.Choice.{maxOf}
+use Rattle.choice.specs.Choice.{maxOf}
 use Rattle.turns.specs.Turns.{firstBy}
 use Rattle.electrolyte_profile.specs.declared.Region.{Region}
 use Rattle.electrolyte_profile.specs.declared.Drive.{Drive}

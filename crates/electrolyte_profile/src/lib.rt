@@ -125,7 +125,7 @@ fn moved(r: Region, dt: f64, left: f64, here: f64, right: f64) -> f64
 {
     let d2c = (left - 2.0 * here + right) / (r.dx * r.dx);
     let dc = (r.d_eff * d2c + r.src) / r.eps;
-    elementary::max(here + dt * dc, 1e-10)
+    choice::max(here + dt * dc, 1e-10)
 }
 
 // The node i after the step, from the old profile.

@@ -1,9 +1,6 @@
-pub mod Format
 pub mod ExpLaws
 pub mod LnLaws
 pub mod LnSplits
-pub mod SignLaws
-pub mod CountLaws
 pub mod Literals
 pub mod Constants
 pub mod ExpRange
@@ -12,5 +9,4 @@ pub mod PowRange
 pub mod AsinhRange
 pub mod ArrheniusRange
 pub mod Specials
-pub mod ChoiceLaws
 pub mod ExpTotal

@@ -22,7 +22,7 @@ use Rattle.binary64.specs.RangeOps.{mul-most, div-most, div-between, div-count,
 use Rattle.binary64.specs.RangeTests.{int-between, within-positive}
 use Rattle.elementary.specs.Exp.{one}
 use Rattle.elementary.specs.Ln.{two, ln2, terms, lnParts, raise, lnSplit, mant, expo, lnOf, threeHalves, twentyThree}
-use Rattle.elementary.proofs.Format.{held, lead-le, lead-lt, minus-up, minus-down}
+use Rattle.choice.proofs.Format.{held, lead-le, lead-lt, minus-up, minus-down}
 use Rattle.elementary.proofs.LnLaws.{parts-is}
 use Rattle.elementary.proofs.Constants.{at-1, at-2, at-23, ln2-most}
 

@@ -17,7 +17,7 @@ use Rattle.square_root.specs.Parts.{Normal}
 use Rattle.square_root.specs.Standard.{belowZero}
 use Rattle.square_root.proofs.Patterns.{low-bits}
 use Rattle.elementary.specs.Ln.{mant, expo, lnSplit, lnOf}
-use Rattle.elementary.proofs.Format.{held, size-pos, lead-le, minus-up}
+use Rattle.choice.proofs.Format.{held, size-pos, lead-le, minus-up}
 use Rattle.elementary.proofs.LnLaws.{minus-same}
 
 -- ---- an odd number with i zeros after it is written as itself (private in the logic's `Lib/Ieee/Bits.antt`)

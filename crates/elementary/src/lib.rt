@@ -1,16 +1,13 @@
 // The elementary functions of the cell models, each with a result for every f64. They stand in for the library's, to
-// the last bit: each operation rounds once, in the order of the definitions in specs/. The square root has a crate of
-// its own, square_root.
+// the last bit: each operation rounds once, in the order of the definitions in specs/. The square root and what does
+// not round have crates of their own, square_root and choice.
 ghost use mathlib.Core.Path.{_≡_};
 ghost use Prim.Native.Nat.{_≤_};
 ghost use lib.Ieee.{binary64, ofInt, minus};
-ghost use Rattle.binary64.specs.Operators.{negative};
 ghost use Rattle.elementary.specs.Exp.{one, series, squarings, expOf};
 ghost use Rattle.elementary.specs.Ln.{lnParts, lnOf};
-ghost use Rattle.elementary.specs.Choice.{absOf, signumOf, clampOf, maxOf, minOf};
 ghost use Rattle.elementary.specs.Asinh.{asinhOf};
 ghost use Rattle.elementary.specs.Power.{powfOf, squareOf, cubeOf, fourthOf};
-ghost use Rattle.elementary.specs.Count.{ceilOf};
 
 // The series of the exponential of y, to the term of y ^ 18.
 fn exp_series(y: f64) -> f64
@@ -111,46 +108,13 @@ pub fn ln(x: f64) -> f64
     ln_parts(m, exponent(w))
 }
 
-// Whether the sign is negative, as it is for -0.
-fn is_negative(x: f64) -> bool
-    ensures { λ r. ⌜ r ≡ negative x ⌝ }
-{
-    if x != x {
-        return false;
-    }
-    f64::to_bits(x) >= 0x8000_0000_0000_0000
-}
-
-// The absolute value of x.
-pub fn abs(x: f64) -> f64
-    ensures { λ r. ⌜ r ≡ absOf x ⌝ }
-{
-    if is_negative(x) {
-        return -x;
-    }
-    x
-}
-
-// 1 with the sign of x.
-pub fn signum(x: f64) -> f64
-    ensures { λ r. ⌜ r ≡ signumOf x ⌝ }
-{
-    if x != x {
-        return x;
-    }
-    if is_negative(x) {
-        return -1.0;
-    }
-    1.0
-}
-
 // H, the inverse hyperbolic sine of x.
 pub fn asinh(x: f64) -> f64
     ensures { λ r. ⌜ r ≡ asinhOf x ⌝ }
 {
-    let a = abs(x);
+    let a = choice::abs(x);
     let r = ln(a + square_root::sqrt(a * a + 1.0));
-    if is_negative(x) {
+    if choice::is_negative(x) {
         return -r;
     }
     r
@@ -179,55 +143,4 @@ pub fn fourth(x: f64) -> f64
     ensures { λ r. ⌜ r ≡ fourthOf x ⌝ }
 {
     (x * x) * (x * x)
-}
-
-// x, but lo where it is below lo, and then hi where that is above hi.
-pub fn clamp(x: f64, lo: f64, hi: f64) -> f64
-    ensures { λ r. ⌜ r ≡ clampOf x lo hi ⌝ }
-{
-    let mut y = x;
-    if y < lo {
-        y = lo;
-    }
-    if y > hi {
-        y = hi;
-    }
-    y
-}
-
-// The larger of a and b; of a NaN and a number, the number.
-pub fn max(a: f64, b: f64) -> f64
-    ensures { λ r. ⌜ r ≡ maxOf a b ⌝ }
-{
-    if (a != a) | (a < b) {
-        return b;
-    }
-    a
-}
-
-// The smaller of a and b; of a NaN and a number, the number.
-pub fn min(a: f64, b: f64) -> f64
-    ensures { λ r. ⌜ r ≡ minOf a b ⌝ }
-{
-    if (a != a) | (b < a) {
-        return b;
-    }
-    a
-}
-
-// The least whole number not below q.
-pub fn ceil_count(q: f64) -> u64
-    ensures { λ r. ⌜ r ≡ ceilOf q ⌝ }
-{
-    if !(q > 0.0) {
-        return 0;
-    }
-    if q >= 18446744073709551616.0 {
-        return 0xffff_ffff_ffff_ffff;
-    }
-    let whole = std::num::truncating_f64_to_u64(q);
-    if std::num::nearest_u64_to_f64(whole) < q {
-        return whole + 1;
-    }
-    whole
 }

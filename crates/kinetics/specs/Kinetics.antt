@@ -4,7 +4,7 @@ use mathlib.Core.Bool.{Bool, cond, _&&_}
 use lib.Ieee.{Float, le, lt, neg}
 use Rattle.binary64.specs.Operators.{_⊕_, _⊖_, _⊗_, _⊘_, f64}
 use Rattle.square_root.specs.Root.{sqrtOf}
-use Rattle.elementary.specs.Choice.{clampOf, signumOf}
+use Rattle.choice.specs.Choice.{clampOf, signumOf}
 use Rattle.elementary.specs.Asinh.{asinhOf}
 use Rattle.electrode.specs.declared.ElectrodeParams.{ElectrodeParams}
 use Rattle.electrode.specs.Sheet.{specificArea}

@@ -51,7 +51,7 @@ fn exchange_current(params: ElectrodeParams, n: usize, c: &[f64; 64]) -> f64
     requires { ⌜ (3 ≤ n) × (n ≤ 64) ⌝ }
     ensures { λ r. ⌜ r ≡ exchange (particleOf params n (now (c .entry))) ⌝ }
 {
-    let theta_s = elementary::clamp(surface_theta(params, n, c), 0.01, 0.99);
+    let theta_s = choice::clamp(surface_theta(params, n, c), 0.01, 0.99);
     let c_ss = theta_s * params.c_s_max;
     params.k_bv * square_root::sqrt(c_ss * (params.c_s_max - c_ss) * 1000.0)
 }
@@ -87,5 +87,5 @@ pub fn terminal_voltage(
 ) -> f64
     ensures { λ r. ⌜ r ≡ terminalVoltage «u_neg» «u_pos» «eta_neg» «eta_pos» «v_ohm» «current_a» ⌝ }
 {
-    (u_pos + eta_pos) - (u_neg + eta_neg) - v_ohm * elementary::signum(current_a)
+    (u_pos + eta_pos) - (u_neg + eta_neg) - v_ohm * choice::signum(current_a)
 }

@@ -17,7 +17,7 @@ use Rattle.binary64.specs.RangeTests.{literal, count-within}
 use Rattle.binary64.specs.RangeOps.{mul-between, mul-most, div-most, add-most, sub-most}
 use Rattle.binary64.specs.Bounds.{within-scaled}
 use Rattle.binary64.specs.Value.{val, val-le}
-use Rattle.elementary.proofs.ChoiceLaws.{clamp-in}
+use Rattle.choice.proofs.ChoiceLaws.{clamp-in}
 use Rattle.refusal.specs.Ranges.{inRange}
 use Rattle.diffusion.specs.SubStep.{Drive, two, six, centreRate, shellRate, ghostNode, rate, node}
 use Rattle.diffusion.specs.Premises.{Held, zero-fine, zero-val}

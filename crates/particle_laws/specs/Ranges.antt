@@ -20,7 +20,7 @@ use Rattle.binary64.specs.Bounds.{within-scaled}
 use Rattle.binary64.specs.Value.{val, lt-val}
 use Rattle.elementary.specs.Exp.{one}
 use Rattle.elementary.proofs.ArrheniusRange.{arrhenius-298}
-use Rattle.elementary.proofs.ChoiceLaws.{lt-le}
+use Rattle.choice.proofs.ChoiceLaws.{lt-le}
 use Rattle.refusal.specs.Numbers.{grid, load, interval, temperature, none-met, passed}
 use Rattle.refusal.specs.Ranges.{loadFits, intervalFits, temperatureFits}
 use Rattle.electrode.specs.Sheet.{sheetFits, diffusivityAt}

@@ -8,7 +8,7 @@ use lib.Dec.{T, eqb, leb, leb→le, eqb→eq}
 use lib.Ieee.{Float}
 use lib.Ieee.Fits.{and-l, and-r}
 use Rattle.binary64.specs.Operators.{_⊖_, _⊘_, f64}
-use Rattle.elementary.specs.Choice.{clampOf}
+use Rattle.choice.specs.Choice.{clampOf}
 use Rattle.refusal.specs.Numbers.{firstMet, refusalUnless, grid, sheet, none-met, passed}
 use Rattle.refusal.specs.Ranges.{clockFits}
 use Rattle.refusal.specs.Answers.{Said, finiteOutcome}

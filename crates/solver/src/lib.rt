@@ -262,7 +262,7 @@ fn follow(
 {
     let old_neg = *c_neg;
     let old_pos = *c_pos;
-    let turns = elementary::ceil_count(p.q);
+    let turns = choice::ceil_count(p.q);
     let k = turns as usize;
     let h = dt / std::num::nearest_u64_to_f64(turns);
     advance(q.neg, q.n_neg, c_neg, p.d_neg, p.j_neg, h, k);
@@ -472,7 +472,7 @@ impl SpmSolver {
         let theta = average_theta(self.anode.params, self.anode.n_nodes, &self.anode.c_s);
         refusal::answered(
             number,
-            elementary::clamp((theta - 0.20) / (0.80 - 0.20), 0.0, 1.0),
+            choice::clamp((theta - 0.20) / (0.80 - 0.20), 0.0, 1.0),
         )
     }
 }

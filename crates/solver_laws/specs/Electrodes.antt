@@ -20,8 +20,8 @@ use Rattle.binary64.specs.Bounds.{within-scaled}
 use Rattle.binary64.specs.Order.{neg-le}
 use Rattle.binary64.specs.OrderLaws.{div-le}
 use Rattle.binary64.specs.Value.{val, val-is, ratio-nn, le-val}
-use Rattle.elementary.specs.Count.{ceilOf}
-use Rattle.elementary.proofs.CountLaws.{ceil-least}
+use Rattle.choice.specs.Count.{ceilOf}
+use Rattle.choice.proofs.CountLaws.{ceil-least}
 use Rattle.refusal.specs.Numbers.{firstMet, refusalUnless, grid, load, interval, temperature, subSteps, none-met, passed}
 use Rattle.refusal.specs.Ranges.{loadFits, intervalFits, temperatureFits, clockFits}
 use Rattle.electrode.specs.declared.ElectrodeParams.{ElectrodeParams}

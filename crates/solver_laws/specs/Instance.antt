@@ -17,10 +17,10 @@ use Rattle.binary64.specs.RangeTests.{literal}
 use Rattle.binary64.specs.RangeOps.{mul-between, mul-most, div-most, add-most, sub-most}
 use Rattle.binary64.specs.Value.{val}
 use Rattle.square_root.specs.Root.{sqrtOf, rounded, wholeRoot, rootBelow}
-use Rattle.elementary.specs.Choice.{clampOf, signumOf}
+use Rattle.choice.specs.Choice.{clampOf, signumOf}
 use Rattle.elementary.proofs.AsinhRange.{asinh-finite}
 use Rattle.elementary.specs.Exp.{one, expOf}
-use Rattle.elementary.specs.Count.{ceilOf}
+use Rattle.choice.specs.Count.{ceilOf}
 use Rattle.elementary.proofs.ExpLaws.{exp-0}
 use Rattle.refusal.specs.Numbers.{firstMet, refusalUnless}
 use Rattle.electrode.specs.declared.ElectrodeParams.{ElectrodeParams}

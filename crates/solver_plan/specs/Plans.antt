@@ -5,8 +5,8 @@ use mathlib.Core.Bool.{not, _&&_}
 use mathlib.Core.List.{List}
 use lib.Ieee.{Float, lt, neg}
 use Rattle.binary64.specs.Operators.{_⊗_, _⊘_, f64}
-use Rattle.elementary.specs.Choice.{minOf}
-use Rattle.elementary.specs.Count.{ceilOf}
+use Rattle.choice.specs.Choice.{minOf}
+use Rattle.choice.specs.Count.{ceilOf}
 use Rattle.refusal.specs.Numbers.{firstMet, refusalUnless, diffusivity, subSteps}
 use Rattle.refusal.specs.Ranges.{inRange}
 use Rattle.electrode.specs.declared.ElectrodeParams.{ElectrodeParams}

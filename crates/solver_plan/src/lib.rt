@@ -35,7 +35,7 @@ pub fn plan_for(
     let d_pos = pos.diffusivity_at(temp_k);
     let dt_neg = stable_step(neg, n_neg, d_neg) * 0.45;
     let dt_pos = stable_step(pos, n_pos, d_pos) * 0.45;
-    let dt_use = elementary::min(elementary::min(dt, dt_neg), dt_pos);
+    let dt_use = choice::min(choice::min(dt, dt_neg), dt_pos);
     Plan {
         d_neg,
         d_pos,

@@ -9,7 +9,7 @@ use lib.Dec.{ltb, eqb}
 use lib.ListN.{getD, set, replicate}
 use lib.Ieee.{Float, nan}
 use Rattle.binary64.specs.Operators.{_⊕_, _⊖_, _⊗_, _⊘_, f64, count}
-use Rattle.elementary.specs.Choice.{clampOf}
+use Rattle.choice.specs.Choice.{clampOf}
 use Rattle.turns.specs.Turns.{firstBy, first-suc}
 use Rattle.diffusion.specs.SubStep.{two, six}
 use Rattle.sub_step.specs.declared.Drive.{Drive}

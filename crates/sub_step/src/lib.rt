@@ -78,7 +78,7 @@ fn shell_rate(v: Drive, w: f64, before: f64, here: f64, after: f64) -> f64
 fn moved(v: Drive, here: f64, rate: f64) -> f64
     ensures { λ r. ⌜ r ≡ movedBy v here rate ⌝ }
 {
-    elementary::clamp(here + v.dt * rate, 0.0, v.c_max)
+    choice::clamp(here + v.dt * rate, 0.0, v.c_max)
 }
 
 // A node with w = 2 / r after the sub-step, from itself and its neighbours.

@@ -5,7 +5,7 @@ use mathlib.Core.Path.{_≡_, refl}
 use native.Mathlib.Omega.{arith}
 use native.Mathlib.Numerals.{add-one}
 use Rattle.binary64.specs.Operators.{f64}
-use Rattle.elementary.specs.Choice.{clampOf}
+use Rattle.choice.specs.Choice.{clampOf}
 use Rattle.turns.specs.Turns.{firstBy}
 use Rattle.dfn_electrolyte.specs.Electrolyte.{nodeWith, nodesWith}
 use borrow.Author.Needs.{needs}

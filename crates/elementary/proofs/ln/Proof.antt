@@ -12,7 +12,7 @@ use Rattle.binary64.specs.Operators.{_⊘_, f64}
 use Rattle.square_root.specs.Parts.{unitsOf, Normal}
 use Rattle.square_root.proofs.Patterns.{positive-value, positive-units, at-top, at-negative, no-nan-bits, not-nan, zero-by-zero}
 use Rattle.elementary.specs.Ln.{two, lnParts, lnSplit, lnOf}
-use Rattle.elementary.proofs.SignLaws.{is-nan}
+use Rattle.choice.proofs.SignLaws.{is-nan}
 use Rattle.elementary.proofs.LnLaws.{split-small, split-large}
 use Rattle.elementary.proofs.LnSplits.{ln-split, nan-ln, infinity-ln, zero-ln, negative-ln}
 use borrow.Author.Needs.{needs}

@@ -3,8 +3,8 @@ use mathlib.Core.Path.{_≡_, refl, _∙_}
 use mathlib.Core.Bool.{Bool, cond}
 use mathlib.Core.Logic.{⊎-elim}
 use lib.Ieee.{Float, lt}
-use Rattle.elementary.proofs.clamp.Statement.{statement}
-use Rattle.elementary.proofs.clamp.Tie as tie
+use Rattle.choice.proofs.clamp.Statement.{statement}
+use Rattle.choice.proofs.clamp.Tie as tie
 
 -- after the first test
 first : (c : tie.Joined1) → c .if1 .y ≡ cond (lt (c .before .args .x) (c .before .args .lo)) (c .before .args .lo) (c .before .args .x)

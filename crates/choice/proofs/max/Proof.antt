@@ -2,10 +2,10 @@
 use mathlib.Core.Path.{_≡_, sym, ap, _∙_}
 use mathlib.Core.Bool.{Bool, _||_, cond}
 use lib.Ieee.{Float, lt, ne}
-use Rattle.elementary.specs.Choice.{maxOf}
-use Rattle.elementary.proofs.SignLaws.{nan-ne}
-use Rattle.elementary.proofs.max.Statement.{statement}
-use Rattle.elementary.proofs.max.Tie as tie
+use Rattle.choice.specs.Choice.{maxOf}
+use Rattle.choice.proofs.SignLaws.{nan-ne}
+use Rattle.choice.proofs.max.Statement.{statement}
+use Rattle.choice.proofs.max.Tie as tie
 
 by-test : (a b : Float) (t : Bool) → (ne a a || lt a b) ≡ t → cond t b a ≡ maxOf a b
 by-test a b t h = ap (λ (z : Bool). cond z b a) (sym (ap (λ (z : Bool). z || lt a b) (nan-ne a) ∙ h))

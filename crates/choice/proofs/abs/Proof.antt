@@ -1,9 +1,9 @@
 -- `abs` meets its contract. Assumes nothing.
 use mathlib.Core.Path.{sym, _∙_}
-use Rattle.elementary.proofs.SignLaws.{abs-negative, abs-positive}
+use Rattle.choice.proofs.SignLaws.{abs-negative, abs-positive}
 use borrow.Author.Needs.{needs}
-use Rattle.elementary.proofs.abs.Statement.{statement}
-use Rattle.elementary.proofs.abs.Tie as tie
+use Rattle.choice.proofs.abs.Statement.{statement}
+use Rattle.choice.proofs.abs.Tie as tie
 
 is-negative-requires : tie.Need-is-negative-requires
 is-negative-requires c κs = search needs

@@ -17,8 +17,8 @@ use Rattle.square_root.proofs.Monotone.{positive-num}
 use Rattle.binary64.specs.Operators.{f64}
 use Rattle.binary64.specs.Order.{le→below, not→lt}
 use Rattle.binary64.specs.Held.{own-round}
-use Rattle.elementary.specs.Count.{ceilDiv, ceilOf}
-use Rattle.elementary.proofs.Format.{held}
+use Rattle.choice.specs.Count.{ceilDiv, ceilOf}
+use Rattle.choice.proofs.Format.{held}
 
 after : (n : ℕ) → n < n + 1
 after n = omega arith

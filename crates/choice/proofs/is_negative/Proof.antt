@@ -5,9 +5,9 @@ use lib.Dec.{T}
 use lib.Ieee.{binary64, fits}
 use Rattle.binary64.specs.Operators.{negative}
 use Rattle.square_root.proofs.Patterns.{not-nan}
-use Rattle.elementary.proofs.SignLaws.{is-nan, nan-test, sign-bit}
-use Rattle.elementary.proofs.is_negative.Statement.{statement}
-use Rattle.elementary.proofs.is_negative.Tie as tie
+use Rattle.choice.proofs.SignLaws.{is-nan, nan-test, sign-bit}
+use Rattle.choice.proofs.is_negative.Statement.{statement}
+use Rattle.choice.proofs.is_negative.Tie as tie
 
 returns : tie.Need-returns
 returns c = sym (ap negative (is-nan (c .before .args .x) (c .if1 .taken)))

@@ -2,10 +2,10 @@
 use mathlib.Core.Path.{_≡_, refl, sym, _∙_}
 use mathlib.Core.Bool.{true, false}
 use Rattle.binary64.specs.Operators.{negative}
-use Rattle.elementary.proofs.SignLaws.{is-nan, nan-test}
+use Rattle.choice.proofs.SignLaws.{is-nan, nan-test}
 use borrow.Author.Needs.{needs}
-use Rattle.elementary.proofs.signum.Statement.{statement}
-use Rattle.elementary.proofs.signum.Tie as tie
+use Rattle.choice.proofs.signum.Statement.{statement}
+use Rattle.choice.proofs.signum.Tie as tie
 
 returns : tie.Need-returns
 returns c = rw (nan-test (c .before .args .x) true (c .if1 .taken)) (is-nan (c .before .args .x) (c .if1 .taken))

@@ -5,10 +5,10 @@ use native.Mathlib.Omega.{arith}
 use borrow.Author.Tests.{not-true, not-false}
 use lib.Dec.{T}
 use lib.Ieee.{binary64, fits, toUnsigned}
-use Rattle.elementary.proofs.CountLaws.{Counted, CountedBy, ceil-zero, ceil-top, in-range, counted}
+use Rattle.choice.proofs.CountLaws.{Counted, CountedBy, ceil-zero, ceil-top, in-range, counted}
 use borrow.Author.Needs.{needs}
-use Rattle.elementary.proofs.ceil_count.Statement.{statement}
-use Rattle.elementary.proofs.ceil_count.Tie as tie
+use Rattle.choice.proofs.ceil_count.Statement.{statement}
+use Rattle.choice.proofs.ceil_count.Tie as tie
 
 returns : tie.Need-returns
 returns c = ceil-zero (c .before .args .q) (not-true _ (c .if1 .taken))

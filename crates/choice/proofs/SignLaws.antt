@@ -13,7 +13,7 @@ use Rattle.binary64.specs.Operators.{negative}
 use Rattle.binary64.specs.Order.{value-sign}
 use Rattle.square_root.specs.Parts.{unitsOf}
 use Rattle.square_root.proofs.Patterns.{ofBits-is, fields-value, ones-fields, not-nan}
-use Rattle.elementary.specs.Choice.{absOf}
+use Rattle.choice.specs.Choice.{absOf}
 
 pub is-nan : (x : Float) → ne x x ≡ true → x ≡ nan
 is-nan x h = differs-from-itself x (subst T (sym h) tt)

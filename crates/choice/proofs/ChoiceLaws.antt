@@ -8,7 +8,7 @@ use lib.Ieee.{Float, nan, inf, fin, up, down, lt, le, eq, isNan}
 use lib.Ieee.Bits.{is-true}
 use lib.Ieee.Scale.{finite}
 use Rattle.binary64.specs.Order.{below→le, not→lt, between-finite}
-use Rattle.elementary.specs.Choice.{clampOf, maxOf, minOf}
+use Rattle.choice.specs.Choice.{clampOf, maxOf, minOf}
 
 -- ---- the order of floats that are no NaN
 pub lt-le : (x y : Float) → lt x y ≡ true → T (le x y)

@@ -1,0 +1,4 @@
+pub mod Format
+pub mod SignLaws
+pub mod CountLaws
+pub mod ChoiceLaws
