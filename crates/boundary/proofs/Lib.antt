@@ -1,8 +1,2 @@
--- What a call of the boundary returns and leaves in its answer, over plain values.
---
--- Answers: by the answer of the call within.
--- Cells: a step of a Doyle-Fuller-Newman cell, on its parts.
--- Particles: a step of a single-particle cell, on its parts.
+-- Answers: the branches of a test, and the answer of a call for a number, over plain values.
 pub mod Answers
-pub mod Cells
-pub mod Particles

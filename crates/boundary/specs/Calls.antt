@@ -1,5 +1,5 @@
 -- What each call of the boundary returns and what it leaves in its answer, for every string of bytes of every length. A wrong length of the image
--- or of the answer is 10 before all else. Definitions only.
+-- or of the answer is 10 before all else and leaves the answer as it was. Definitions only.
 use Prim.Native.Nat.{ℕ}
 use mathlib.Core.Bool.{Bool, cond, _&&_}
 use mathlib.Core.List.{List, []}
@@ -9,22 +9,12 @@ use lib.Ieee.{Float}
 use Rattle.refusal.specs.Numbers as N
 use Rattle.refusal.specs.Answers.{Said}
 use Rattle.codec.specs.Words.{putRow}
-use Rattle.particle.specs.declared.ParticleAnswer.{ParticleAnswer}
-use Rattle.particle.specs.Calls as P
-use Rattle.solver.specs.declared.SpmStep.{SpmStep}
-use Rattle.solver.specs.Step as S
-use Rattle.electrolyte.specs.declared.StateAnswer.{StateAnswer}
-use Rattle.electrolyte.specs.Calls as E
-use Rattle.dfn.specs.declared.DfnAnswer.{DfnAnswer}
-use Rattle.dfn.specs.Step as D
-use Rattle.dense.specs.declared.Solved.{Solved}
 use Rattle.dense.specs.Solve.{solved}
-use Rattle.cell_images.specs.Images.{particleAt, putParticle, cellAt, putCell, putReport}
-use Rattle.electrolyte_images.specs.Images.{electrolyteAt, putElectrolyte}
-use Rattle.porous_images.specs.Images as I
 use Rattle.image_numbers.specs.Numbers.{numberSaid, numberLength}
-use Rattle.image_builds.specs.Written.{written}
+use Rattle.image_rows.specs.Written.{written}
 use Rattle.image_builds.specs.Builds.{readyPut, newNumber, newAfter, buildLength, builtLength}
+use Rattle.cell_calls.specs.Steps as C
+use Rattle.porous_calls.specs.Steps as P
 
 -- whether a call is listed: 1 to n
 abbrev pub listed : ℕ → ℕ → Bool
@@ -62,46 +52,29 @@ buildAfter call s a =
 
 -- ---- steps
 
-abbrev particleStep : List ℕ → Float → Float → Float → ParticleAnswer
-particleStep s j dt t = P.stepped (particleAt s 0) j dt t
-
 unfoldable pub particleNumber : List ℕ → Float → Float → Float → ℕ → ℕ
-particleNumber s j dt t answer = met (lengths (length s) 600 answer 600) (particleStep s j dt t .refusal)
+particleNumber s j dt t answer = met (lengths (length s) 600 answer 600) (C.particleNumber s j dt t)
 
 unfoldable pub particleAfter : List ℕ → Float → Float → Float → List ℕ → List ℕ
-particleAfter s j dt t a = written (particleNumber s j dt t (length a)) (putParticle a 0 (particleStep s j dt t .particle)) a
-
-abbrev cellStep : List ℕ → Float → Float → Float → SpmStep
-cellStep s i dt t = S.stepped (cellAt s) i dt t
+particleAfter s j dt t a = cond (lengths (length s) 600 (length a) 600) (C.particleAfter s j dt t a) a
 
 unfoldable pub cellNumber : List ℕ → Float → Float → Float → ℕ → ℕ
-cellNumber s i dt t answer = met (lengths (length s) 1256 answer 1328) (cellStep s i dt t .refusal)
+cellNumber s i dt t answer = met (lengths (length s) 1256 answer 1328) (C.cellNumber s i dt t)
 
 unfoldable pub cellAfter : List ℕ → Float → Float → Float → List ℕ → List ℕ
-cellAfter s i dt t a =
-    written (cellNumber s i dt t (length a))
-    (putReport (putCell a (cellStep s i dt t .solver)) (cellStep s i dt t .state) (cellStep s i dt t .«sub_steps»))
-    a
-
-abbrev electrolyteStep : List ℕ → Float → Float → Float → Float → StateAnswer
-electrolyteStep s jNeg jPos dt t = E.stepped (electrolyteAt s) jNeg jPos dt t
+cellAfter s i dt t a = cond (lengths (length s) 1256 (length a) 1328) (C.cellAfter s i dt t a) a
 
 unfoldable pub electrolyteNumber : List ℕ → Float → Float → Float → Float → ℕ → ℕ
-electrolyteNumber s jNeg jPos dt t answer = met (lengths (length s) 896 answer 896) (electrolyteStep s jNeg jPos dt t .refusal)
+electrolyteNumber s jNeg jPos dt t answer = met (lengths (length s) 896 answer 896) (P.electrolyteNumber s jNeg jPos dt t)
 
 unfoldable pub electrolyteAfter : List ℕ → Float → Float → Float → Float → List ℕ → List ℕ
-electrolyteAfter s jNeg jPos dt t a =
-    written (electrolyteNumber s jNeg jPos dt t (length a)) (putElectrolyte a (electrolyteStep s jNeg jPos dt t .state)) a
-
-abbrev dfnStep : List ℕ → Float → Float → DfnAnswer
-dfnStep s i dt = D.stepped (I.cellAt s) i dt
+electrolyteAfter s jNeg jPos dt t a = cond (lengths (length s) 896 (length a) 896) (P.electrolyteAfter s jNeg jPos dt t a) a
 
 unfoldable pub dfnNumber : List ℕ → Float → Float → ℕ → ℕ
-dfnNumber s i dt answer = met (lengths (length s) 9008 answer 9072) (dfnStep s i dt .refusal)
+dfnNumber s i dt answer = met (lengths (length s) 9008 answer 9072) (P.dfnNumber s i dt)
 
 unfoldable pub dfnAfter : List ℕ → Float → Float → List ℕ → List ℕ
-dfnAfter s i dt a =
-    written (dfnNumber s i dt (length a)) (I.putReport (I.putCell a (dfnStep s i dt .cell)) (dfnStep s i dt .report)) a
+dfnAfter s i dt a = cond (lengths (length s) 9008 (length a) 9072) (P.dfnAfter s i dt a) a
 
 -- ---- equations
 
@@ -109,4 +82,4 @@ unfoldable pub denseNumber : List Float → List Float → ℕ → ℕ → ℕ
 denseNumber a b n answer = met (lengths answer 256 answer 256) (solved a b n .refusal)
 
 unfoldable pub denseAfter : List Float → List Float → ℕ → List ℕ → List ℕ
-denseAfter a b n s = written (denseNumber a b n (length s)) (putRow s 0 (solved a b n .x)) s
+denseAfter a b n s = cond (lengths (length s) 256 (length s) 256) (written (solved a b n .refusal) (putRow s 0 (solved a b n .x)) s) s

@@ -1,24 +1,15 @@
 // The stepper for C: each call takes images and numbers, writes its answer's image and returns 0 or the number of a refusal. The layouts stand in
 // harness/c/persimmonjib.h.
-use cell_images::put_config;
-use cell_images::put_ending;
-use cell_images::put_parts;
+use image_builds::build_length;
+use image_builds::built_length;
 use image_builds::put_new;
 use image_builds::put_ready;
+use image_numbers::number_length;
 use image_numbers::number_of;
-use image_rows::fill_33;
-use image_rows::fill_64;
-use image_rows::fill_512;
-use porous_images::put_last;
-use porous_images::put_places;
 use refusal::Answer;
-use runs::Ending;
 ghost use mathlib.Core.Path.{_≡_};
 ghost use lib.ListN.{length};
 ghost use Rattle.codec.specs.Words.{putRow};
-ghost use Rattle.runs.specs.Endings.{endingSaid};
-ghost use Rattle.image_numbers.specs.Numbers.{numberLength};
-ghost use Rattle.image_builds.specs.Builds.{buildLength, builtLength};
 ghost use Rattle.boundary.specs.Calls.{listed, lengths, numberCall, buildNumber, buildAfter, particleNumber, particleAfter, cellNumber, cellAfter, electrolyteNumber, electrolyteAfter, dfnNumber, dfnAfter, denseNumber, denseAfter};
 ghost use Rattle.boundary.specs.Runs.{dischargeNumber, dischargeRows, dischargeAfter, galvanostaticNumber, galvanostaticRows, galvanostaticAfter};
 
@@ -34,65 +25,6 @@ fn lengths_fit(image: usize, m: usize, answer: usize, n: usize) -> bool
     ensures { λ r. ⌜ r ≡ lengths image m answer n ⌝ }
 {
     (image == m) & (answer == n)
-}
-
-// The length in bytes of the image that a number is worked out from.
-fn number_length(call: u64) -> usize
-    ensures { λ r. ⌜ r ≡ numberLength call ⌝ }
-{
-    if call <= 4 {
-        80
-    } else if call == 5 {
-        0
-    } else if call <= 10 {
-        600
-    } else if call <= 12 {
-        1256
-    } else if call <= 16 {
-        56
-    } else {
-        896
-    }
-}
-
-// The length in bytes of the image that a record is built from.
-fn build_length(call: u64) -> usize
-    ensures { λ r. ⌜ r ≡ buildLength call ⌝ }
-{
-    if call <= 6 {
-        0
-    } else if call == 7 {
-        88
-    } else if call <= 9 {
-        48
-    } else if call == 10 {
-        208
-    } else if call == 11 {
-        128
-    } else {
-        512
-    }
-}
-
-// The length in bytes of the record that is built.
-fn built_length(call: u64) -> usize
-    ensures { λ r. ⌜ r ≡ builtLength call ⌝ }
-{
-    if call <= 3 {
-        80
-    } else if call == 4 {
-        56
-    } else if call <= 6 {
-        472
-    } else if call == 7 {
-        600
-    } else if call <= 10 {
-        1256
-    } else if call == 11 {
-        896
-    } else {
-        9008
-    }
 }
 
 // A number from an image: numbers 1 to 19.
@@ -156,13 +88,7 @@ pub extern "C" fn pj_particle_step(
     if !lengths_fit(particle.len(), 600, answer.len(), 600) {
         return refusal::LENGTH;
     }
-    let out = cell_images::particle_at(particle, 0).step(j_n, dt, temp_k);
-    let refusal = out.refusal;
-    if refusal == 0 {
-        let new = out.particle;
-        cell_images::put_particle(answer, 0, new);
-    }
-    refusal
+    cell_calls::particle_step(particle, j_n, dt, temp_k, answer)
 }
 
 // A step of a single-particle cell.
@@ -180,22 +106,7 @@ pub extern "C" fn pj_cell_step(
     if !lengths_fit(cell.len(), 1256, answer.len(), 1328) {
         return refusal::LENGTH;
     }
-    let q = cell_images::parts_at(cell);
-    let mut c_neg = [0.0; 64];
-    fill_64(cell, 17, &mut c_neg);
-    let mut c_pos = [0.0; 64];
-    fill_64(cell, 92, &mut c_pos);
-    let out = solver::step_lent(q, &mut c_neg, &mut c_pos, current_a, dt, temp_k);
-    let refusal = out.refusal;
-    if refusal == 0 {
-        let state = out.state;
-        put_config(answer, q.config);
-        put_parts(answer, 6, q.neg, q.n_neg, &c_neg);
-        put_parts(answer, 81, q.pos, q.n_pos, &c_pos);
-        codec::write_f64(answer, 156, q.time_s + dt);
-        cell_images::put_report(answer, state, out.sub_steps);
-    }
-    refusal
+    cell_calls::cell_step(cell, current_a, dt, temp_k, answer)
 }
 
 // A step of an electrolyte.
@@ -214,21 +125,10 @@ pub extern "C" fn pj_electrolyte_step(
     if !lengths_fit(electrolyte.len(), 896, answer.len(), 896) {
         return refusal::LENGTH;
     }
-    let out = electrolyte_images::electrolyte_at(electrolyte).step_concentration(
-        j_n_neg,
-        j_n_pos,
-        dt,
-        temp_k,
-    );
-    let refusal = out.refusal;
-    if refusal == 0 {
-        let new = out.state;
-        electrolyte_images::put_electrolyte(answer, new);
-    }
-    refusal
+    porous_calls::electrolyte_step(electrolyte, j_n_neg, j_n_pos, dt, temp_k, answer)
 }
 
-// A step of a Doyle-Fuller-Newman cell, on its parts: the record of the cell is not built.
+// A step of a Doyle-Fuller-Newman cell.
 #[no_mangle]
 pub extern "C" fn pj_dfn_step(cell: &[u8], current_a: f64, dt_s: f64, answer: &mut [u8]) -> u64
     ensures number { λ r. ⌜ r ≡ dfnNumber (now (cell .entry)) «current_a» «dt_s» (length (now (answer .entry))) ⌝ }
@@ -237,55 +137,7 @@ pub extern "C" fn pj_dfn_step(cell: &[u8], current_a: f64, dt_s: f64, answer: &m
     if !lengths_fit(cell.len(), 9008, answer.len(), 9072) {
         return refusal::LENGTH;
     }
-    let p = porous_images::params_at(cell);
-    let g = porous_images::config_at(cell);
-    let t = codec::read_f64(cell, 1121);
-    let mut neg = [0.0; 512];
-    fill_512(cell, 64, &mut neg);
-    let mut pos = [0.0; 512];
-    fill_512(cell, 576, &mut pos);
-    let mut c_e = [0.0; 33];
-    fill_33(cell, 1088, &mut c_e);
-    let out = dfn::step_lent(p, g, t, &mut neg, &mut pos, &mut c_e, current_a, dt_s);
-    let refusal = out.refusal;
-    if refusal == 0 {
-        let r = out.report;
-        put_places(answer, p, g, &neg, &pos, &c_e);
-        put_last(
-            answer,
-            r.time_s,
-            r.voltage,
-            r.current,
-            r.theta_neg,
-            r.theta_pos,
-        );
-        porous_images::put_report(answer, r);
-    }
-    refusal
-}
-
-// The number of an ending: 1 voltage, 2 time, 3 full, 4 refused.
-fn ending_number(e: Ending) -> u64
-    ensures { λ r. ⌜ r ≡ endingSaid e .ending ⌝ }
-{
-    match e {
-        Ending::Voltage => 1,
-        Ending::Time => 2,
-        Ending::Full => 3,
-        Ending::Refused(_) => 4,
-    }
-}
-
-// The number of the refusal that ended a run, 0 for none.
-fn ending_refusal(e: Ending) -> u64
-    ensures { λ r. ⌜ r ≡ endingSaid e .refusal ⌝ }
-{
-    match e {
-        Ending::Voltage => 0,
-        Ending::Time => 0,
-        Ending::Full => 0,
-        Ending::Refused(k) => k,
-    }
+    porous_calls::dfn_step(cell, current_a, dt_s, answer)
 }
 
 // A run of a single-particle cell. The answer is written unless the run is refused before its first row.
@@ -306,23 +158,7 @@ pub extern "C" fn pj_simulate_discharge(
     if !lengths_fit(cell.len(), 1256, answer.len(), 1272) {
         return refusal::LENGTH;
     }
-    let run = discharge_run::simulate_discharge(
-        cell_images::cell_at(cell),
-        current_a,
-        dt,
-        temp_k,
-        max_time_s,
-        rows,
-    );
-    let ending = run.ending;
-    let refusal = ending_refusal(ending);
-    let made = run.rows;
-    if (refusal == 0) | (made != 0) {
-        let after = run.solver;
-        cell_images::put_cell(answer, after);
-        put_ending(answer, 157, ending_number(ending), made);
-    }
-    refusal
+    cell_calls::simulate_discharge(cell, current_a, dt, temp_k, max_time_s, rows, answer)
 }
 
 // A run of a Doyle-Fuller-Newman cell; its answer as in a run of a single-particle cell.
@@ -342,22 +178,7 @@ pub extern "C" fn pj_run_galvanostatic(
     if !lengths_fit(cell.len(), 9008, answer.len(), 9024) {
         return refusal::LENGTH;
     }
-    let run = galvanostatic_run::run_galvanostatic(
-        porous_images::cell_at(cell),
-        current_a,
-        dt_s,
-        max_time_s,
-        rows,
-    );
-    let ending = run.ending;
-    let refusal = ending_refusal(ending);
-    let made = run.rows;
-    if (refusal == 0) | (made != 0) {
-        let after = run.cell;
-        porous_images::put_cell(answer, after);
-        put_ending(answer, 1126, ending_number(ending), made);
-    }
-    refusal
+    porous_calls::run_galvanostatic(cell, current_a, dt_s, max_time_s, rows, answer)
 }
 
 // The solution of n equations.

@@ -22,7 +22,7 @@ use Rattle.cell_images.specs.Images.{sheetAt, configAt, putSheet, putParticle, 
 use Rattle.electrolyte_images.specs.Images.{saltAt, putSalt, putElectrolyte}
 use Rattle.porous_images.specs.Images.{paramsAt, putParams}
 use Rattle.porous_images.specs.Images as I
-use Rattle.image_builds.specs.Written.{written}
+use Rattle.image_rows.specs.Written.{written}
 
 -- ---- ready records: 1 graphite_anode, 2 lfp_cathode, 3 nmc_cathode, 4 lipf6_ec_dmc, 5 nmc_graphite, 6 lfp_graphite
 

@@ -1,3 +1,2 @@
 -- The calls that give a record.
-pub mod Written
 pub mod Builds

@@ -22,8 +22,8 @@ ghost use mathlib.Core.Path.{_≡_};
 ghost use Rattle.cell_images.specs.Images.{putParticle, putCell};
 ghost use Rattle.electrolyte_images.specs.Images.{putElectrolyte};
 ghost use Rattle.porous_images.specs.Images as P;
-ghost use Rattle.image_builds.specs.Written.{written};
-ghost use Rattle.image_builds.specs.Builds.{readySheet, readyParams, readyPut, particleMade, cellBuilt, electrolyteBuilt, dfnMade, newNumber, newAfter};
+ghost use Rattle.image_rows.specs.Written.{written};
+ghost use Rattle.image_builds.specs.Builds.{readySheet, readyParams, readyPut, particleMade, cellBuilt, electrolyteBuilt, dfnMade, newNumber, newAfter, buildLength, builtLength};
 
 fn ready_sheet(call: u64) -> ElectrodeParams
     ensures { λ r. ⌜ r ≡ readySheet call ⌝ }
@@ -155,4 +155,44 @@ pub fn put_new(call: u64, image: &[u8], answer: &mut [u8]) -> u64
         return new_electrolyte(image, answer);
     }
     new_dfn(image, answer)
+}
+
+// The length in bytes of the image that a record is built from.
+pub fn build_length(call: u64) -> usize
+    ensures { λ r. ⌜ r ≡ buildLength call ⌝ }
+{
+    if call <= 6 {
+        0
+    } else if call == 7 {
+        88
+    } else if call <= 9 {
+        48
+    } else if call == 10 {
+        208
+    } else if call == 11 {
+        128
+    } else {
+        512
+    }
+}
+
+// The length in bytes of the record that is built.
+pub fn built_length(call: u64) -> usize
+    ensures { λ r. ⌜ r ≡ builtLength call ⌝ }
+{
+    if call <= 3 {
+        80
+    } else if call == 4 {
+        56
+    } else if call <= 6 {
+        472
+    } else if call == 7 {
+        600
+    } else if call <= 10 {
+        1256
+    } else if call == 11 {
+        896
+    } else {
+        9008
+    }
 }

@@ -13,7 +13,7 @@ use refusal::Answer;
 use solver::SpmSolver;
 ghost use mathlib.Core.Path.{_≡_};
 ghost use Rattle.refusal.specs.Answers.{said};
-ghost use Rattle.image_numbers.specs.Numbers.{sheetNumber, particleNumber, cellNumber, rateNumber, nodesSaid, electrolyteNumber, numberSaid};
+ghost use Rattle.image_numbers.specs.Numbers.{sheetNumber, particleNumber, cellNumber, rateNumber, nodesSaid, electrolyteNumber, numberSaid, numberLength};
 
 fn sheet_number(call: u64, p: ElectrodeParams, x: f64) -> Answer
     ensures { λ r. ⌜ said r ≡ sheetNumber call p x ⌝ }
@@ -97,4 +97,23 @@ pub fn number_of(call: u64, image: &[u8], x: f64, y: f64) -> Answer
         return rate_number(call, salt_at(image), x, y);
     }
     electrolyte_number(call, electrolyte_at(image), x)
+}
+
+// The length in bytes of the image that a number is worked out from.
+pub fn number_length(call: u64) -> usize
+    ensures { λ r. ⌜ r ≡ numberLength call ⌝ }
+{
+    if call <= 4 {
+        80
+    } else if call == 5 {
+        0
+    } else if call <= 10 {
+        600
+    } else if call <= 12 {
+        1256
+    } else if call <= 16 {
+        56
+    } else {
+        896
+    }
 }

@@ -1,2 +1,3 @@
--- Which rows of numbers are copied as they are.
+-- Which rows of numbers are copied as they are, and what a call leaves in its answer.
 pub mod Rows
+pub mod Written

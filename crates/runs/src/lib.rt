@@ -36,6 +36,30 @@ pub fn ending_of(over: u64, refusal: u64) -> Ending
     }
 }
 
+// The number of an ending: 1 voltage, 2 time, 3 full, 4 refused.
+pub fn ending_number(e: Ending) -> u64
+    ensures { λ r. ⌜ r ≡ endingSaid e .ending ⌝ }
+{
+    match e {
+        Ending::Voltage => 1,
+        Ending::Time => 2,
+        Ending::Full => 3,
+        Ending::Refused(_) => 4,
+    }
+}
+
+// The number of the refusal that ended a run, 0 for none.
+pub fn ending_refusal(e: Ending) -> u64
+    ensures { λ r. ⌜ r ≡ endingSaid e .refusal ⌝ }
+{
+    match e {
+        Ending::Voltage => 0,
+        Ending::Time => 0,
+        Ending::Full => 0,
+        Ending::Refused(k) => k,
+    }
+}
+
 // Writes a row of eight places at `at`.
 pub fn put_row(out: &mut [f64], at: usize, row: [f64; 8])
     requires { ⌜ at + 8 ≤ length (now out) ⌝ }

@@ -38,7 +38,7 @@ enum-known-said-2 : tie.Need-enum-known-said-2
 enum-known-said-2 c = search needs
 
 same-length : tie.Need-same-length
-same-length c = search needs depth 24
+same-length c = c .before .before .write-f64 .kept .0
 
 returns-3 : tie.Need-returns-3
 unfolding numberCall

@@ -1,11 +1,8 @@
 -- `boundary::pj_run_galvanostatic` meets its contract. Assumes nothing.
-use mathlib.Core.Path.{refl, _∙_}
-use Rattle.galvanostatic_run.specs.Galvanostatic.{RunSaid}
-use Rattle.porous_images.specs.Images.{putCell}
-use Rattle.cell_images.specs.Images.{putEnding}
+use mathlib.Core.Path.{refl}
 use Rattle.boundary.specs.Calls.{met}
 use Rattle.boundary.specs.Runs.{galvanostaticNumber, galvanostaticRows, galvanostaticAfter}
-use Rattle.boundary.proofs.Answers.{on, off, run-told, run-kept}
+use Rattle.boundary.proofs.Answers.{on, off}
 use borrow.Author.Needs.{needs}
 use Rattle.boundary.proofs.pj_run_galvanostatic.Statement.{statement}
 use Rattle.boundary.proofs.pj_run_galvanostatic.Tie as tie
@@ -17,23 +14,8 @@ returns : tie.Need-returns
 unfolding met galvanostaticNumber galvanostaticRows galvanostaticAfter
 returns c = rw (← c .before .lengths-fit .ensures, off (c .before .lengths-fit .result) (c .if1 .taken)) (refl, (refl, refl))
 
-cell-at-requires : tie.Need-cell-at-requires
-cell-at-requires c κs = search needs
-
 run-galvanostatic-requires : tie.Need-run-galvanostatic-requires
 run-galvanostatic-requires c κs = search needs
-
-ending-refusal-requires : tie.Need-ending-refusal-requires
-ending-refusal-requires c κs = search needs
-
-put-cell-requires : tie.Need-put-cell-requires
-put-cell-requires c κs = search needs
-
-ending-number-requires : tie.Need-ending-number-requires
-ending-number-requires c κs = search needs
-
-put-ending-requires : tie.Need-put-ending-requires
-put-ending-requires c κs = search needs
 
 same-length : tie.Need-same-length
 same-length c = search needs depth 24
@@ -42,19 +24,8 @@ same-length-2 : tie.Need-same-length-2
 same-length-2 c = search needs depth 24
 
 returns-2 : tie.Need-returns-2
-unfolding galvanostaticNumber galvanostaticRows galvanostaticAfter
-returns-2 c =
-    let p = run-told (λ (t : RunSaid). t .ended .refusal) (λ (t : RunSaid). t .rows) _ _ (rw (c .before .before .before .before .before .before .before .before .before .before .before .before .before .before .before .before .cell-at .ensures) at (c .before .before .before .before .before .before .before .before .before .before .before .before .before .before .run-galvanostatic .ensures .0)) _ _ (c .before .before .before .before .before .before .before .before .before .before .before .before .before .before .before .before .before .before .lengths-fit .ensures) (on _ (c .before .before .before .before .before .before .before .before .before .before .before .before .before .before .before .before .before .if1 .left)) (λ (t : RunSaid). putEnding (putCell (c .before .before .before .before .before .before .before .before .before .before .before .before .before .before .before .before .before .before .before .before .before .before .args .answer .now) (t .cell)) 1126 (t .ended .ending) (t .rows)) _ _ (rw (c .before .before .before .before .before .before .before .before .before .before .before .ending-refusal .ensures) at (c .before .before .before .before .before .before .before .before .before .before .if2 .taken)) (rw (c .before .before .before .before .before .before .before .put-cell .ensures, c .before .before .before .ending-number .ensures) at (c .before .before .put-ending .ensures)) in
-    (c .before .before .before .before .before .before .before .before .before .before .before .ending-refusal .ensures ∙ p .0, (rw (← c .before .before .before .before .before .before .before .before .before .before .before .before .before .before .before .before .before .before .lengths-fit .ensures, on (c .before .before .before .before .before .before .before .before .before .before .before .before .before .before .before .before .before .before .lengths-fit .result) (c .before .before .before .before .before .before .before .before .before .before .before .before .before .before .before .before .before .if1 .left)) (rw (c .before .before .before .before .before .before .before .before .before .before .before .before .before .before .before .before .cell-at .ensures) at (c .before .before .before .before .before .before .before .before .before .before .before .before .before .before .run-galvanostatic .ensures .1)), p .1))
-
-same-length-3 : tie.Need-same-length-3
-same-length-3 c = search needs depth 24
-
-returns-3 : tie.Need-returns-3
-unfolding galvanostaticNumber galvanostaticRows galvanostaticAfter
-returns-3 c =
-    let p = run-kept (λ (t : RunSaid). t .ended .refusal) (λ (t : RunSaid). t .rows) _ _ (rw (c .before .before .before .before .before .before .cell-at .ensures) at (c .before .before .before .before .run-galvanostatic .ensures .0)) _ _ (c .before .before .before .before .before .before .before .before .lengths-fit .ensures) (on _ (c .before .before .before .before .before .before .before .if1 .left)) (λ (t : RunSaid). putEnding (putCell (c .before .before .before .before .before .before .before .before .before .before .before .before .args .answer .now) (t .cell)) 1126 (t .ended .ending) (t .rows)) _ (rw (c .before .ending-refusal .ensures) at (c .if2 .left)) in
-    (c .before .ending-refusal .ensures ∙ p .0, (rw (← c .before .before .before .before .before .before .before .before .lengths-fit .ensures, on (c .before .before .before .before .before .before .before .before .lengths-fit .result) (c .before .before .before .before .before .before .before .if1 .left)) (rw (c .before .before .before .before .before .before .cell-at .ensures) at (c .before .before .before .before .run-galvanostatic .ensures .1)), p .1))
+unfolding met galvanostaticNumber galvanostaticRows galvanostaticAfter
+returns-2 c = rw (← c .before .before .before .before .before .before .before .before .lengths-fit .ensures, on (c .before .before .before .before .before .before .before .before .lengths-fit .result) (c .before .before .before .before .before .before .before .if1 .left)) (c .before .before .before .before .run-galvanostatic .ensures)
 
 pub pj-run-galvanostatic-spec : {M : Type 1} → statement M
 pj-run-galvanostatic-spec =
@@ -62,14 +33,7 @@ pj-run-galvanostatic-spec =
     (tie.spec
     lengths-fit-requires
     returns
-    cell-at-requires
     run-galvanostatic-requires
-    ending-refusal-requires
-    put-cell-requires
-    ending-number-requires
-    put-ending-requires
     same-length
     same-length-2
-    returns-2
-    same-length-3
-    returns-3)
+    returns-2)

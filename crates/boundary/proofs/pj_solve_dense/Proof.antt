@@ -1,10 +1,11 @@
 -- `boundary::pj_solve_dense` meets its contract. Assumes nothing.
-use Rattle.dense.specs.declared.Solved.{Solved}
-use Rattle.codec.specs.Words.{putRow}
+use mathlib.Core.Path.{refl}
 use lib.ListN.{length}
-use Rattle.codec.specs.Words.{putPlaces}
-use Rattle.boundary.specs.Calls.{denseNumber, denseAfter}
-use Rattle.boundary.proofs.Answers.{on, off, short, taken, left}
+use Rattle.dense.specs.declared.Solved.{Solved}
+use Rattle.codec.specs.Words.{putRow, putPlaces}
+use Rattle.image_rows.specs.Written.{accepted, refused}
+use Rattle.boundary.specs.Calls.{met, denseNumber, denseAfter}
+use Rattle.boundary.proofs.Answers.{on, off}
 use borrow.Author.Needs.{needs}
 use Rattle.boundary.proofs.pj_solve_dense.Statement.{statement}
 use Rattle.boundary.proofs.pj_solve_dense.Tie as tie
@@ -13,8 +14,8 @@ lengths-fit-requires : tie.Need-lengths-fit-requires
 lengths-fit-requires c κs = search needs
 
 returns : tie.Need-returns
-unfolding denseNumber denseAfter
-returns c = short _ _ _ _ _ (c .before .lengths-fit .ensures) (off _ (c .if1 .taken))
+unfolding met denseNumber denseAfter
+returns c = rw (← c .before .lengths-fit .ensures, off (c .before .lengths-fit .result) (c .if1 .taken)) (refl, refl)
 
 solve-dense-requires : tie.Need-solve-dense-requires
 solve-dense-requires c κs = search needs
@@ -23,17 +24,15 @@ put-32-requires : tie.Need-put-32-requires
 put-32-requires c κs = search needs
 
 same-length : tie.Need-same-length
-same-length c = search needs depth 24
+same-length c = c .before .before .put-32 .kept .0
 
 returns-2 : tie.Need-returns-2
-unfolding denseNumber denseAfter
-returns-2 c =
-    taken (λ (t : Solved). t .refusal) (λ (t : Solved). putRow (c .before .before .before .before .before .before .before .before .before .before .before .before .args .answer .now) 0 (t .x)) _ _ _ (c .before .before .before .before .before .before .solve-dense .ensures) _ _ (c .before .before .before .before .before .before .before .before .lengths-fit .ensures) (on _ (c .before .before .before .before .before .before .before .if1 .left)) _ (c .before .before .before .before .before .if2 .taken) (c .before .before .put-32 .ensures)
+unfolding met denseNumber denseAfter
+returns-2 c = rw (← c .before .before .before .before .before .before .before .before .lengths-fit .ensures, on (c .before .before .before .before .before .before .before .before .lengths-fit .result) (c .before .before .before .before .before .before .before .if1 .left)) (accepted (λ (t : Solved). t .refusal) (λ (t : Solved). putRow (c .before .before .before .before .before .before .before .before .before .before .before .before .args .answer .now) 0 (t .x)) _ _ _ (c .before .before .before .before .before .before .solve-dense .ensures) _ (c .before .before .before .before .before .if2 .taken) (c .before .before .put-32 .ensures))
 
 returns-3 : tie.Need-returns-3
-unfolding denseNumber denseAfter
-returns-3 c =
-    left (λ (t : Solved). t .refusal) (λ (t : Solved). putRow (c .before .before .before .before .before .before .before .args .answer .now) 0 (t .x)) _ _ _ (c .before .solve-dense .ensures) _ _ (c .before .before .before .lengths-fit .ensures) (on _ (c .before .before .if1 .left)) (c .if2 .left)
+unfolding met denseNumber denseAfter
+returns-3 c = rw (← c .before .before .before .lengths-fit .ensures, on (c .before .before .before .lengths-fit .result) (c .before .before .if1 .left)) (refused (λ (t : Solved). t .refusal) (λ (t : Solved). putRow (c .before .before .before .before .before .before .before .args .answer .now) 0 (t .x)) _ _ _ (c .before .solve-dense .ensures) (c .if2 .left))
 
 pub pj-solve-dense-spec : {M : Type 1} → statement M
 pj-solve-dense-spec =

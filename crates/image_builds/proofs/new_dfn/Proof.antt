@@ -3,7 +3,7 @@ use mathlib.Core.Path.{_≡_}
 use borrow.Author.Needs.{needs}
 use Rattle.dfn.specs.declared.DfnBuild.{DfnBuild}
 use Rattle.porous_images.specs.Images.{putCell}
-use Rattle.image_builds.specs.Written.{accepted, refused}
+use Rattle.image_rows.specs.Written.{accepted, refused}
 use Rattle.image_builds.specs.Builds.{dfnMade}
 use Rattle.image_builds.proofs.new_dfn.Statement.{statement}
 use Rattle.image_builds.proofs.new_dfn.Tie as tie

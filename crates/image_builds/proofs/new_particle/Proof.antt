@@ -3,7 +3,7 @@ use mathlib.Core.Path.{_≡_}
 use borrow.Author.Needs.{needs}
 use Rattle.particle.specs.declared.ParticleAnswer.{ParticleAnswer}
 use Rattle.cell_images.specs.Images.{putParticle}
-use Rattle.image_builds.specs.Written.{accepted, refused}
+use Rattle.image_rows.specs.Written.{accepted, refused}
 use Rattle.image_builds.specs.Builds.{particleMade}
 use Rattle.image_builds.proofs.new_particle.Statement.{statement}
 use Rattle.image_builds.proofs.new_particle.Tie as tie

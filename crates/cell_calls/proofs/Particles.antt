@@ -1,9 +1,7 @@
 -- A step of a single-particle cell on the parts that its image holds, over plain values. Assumes nothing.
 use mathlib.Core.Path.{_≡_, refl, _∙_}
-use mathlib.Core.Bool.{Bool, true}
 use mathlib.Core.List.{List}
 use Prim.Native.Nat.{ℕ}
-use lib.ListN.{length}
 use lib.Ieee.{Float}
 use Rattle.binary64.specs.Operators.{_⊕_}
 use Rattle.codec.specs.Words.{putFloat, placesAt}
@@ -14,8 +12,8 @@ use Rattle.solver.specs.declared.SpmStep.{SpmStep}
 use Rattle.solver.specs.Step.{stepped, refusedStep}
 use Rattle.solver.specs.Parts.{partsOf, Told, StepOf, cellWith, stepBy, answer-kept, answer-made}
 use Rattle.cell_images.specs.Images.{particleAt, cellAt, putParticle, putConfig, putCell, putReport}
-use Rattle.boundary.specs.Calls.{lengths, cellNumber, cellAfter}
-use Rattle.boundary.proofs.Answers.{taken, left}
+use Rattle.image_rows.specs.Written.{accepted, refused}
+use Rattle.cell_calls.specs.Steps.{putStepped, cellNumber, cellAfter}
 
 -- the image of a step's answer
 abbrev stepPut : List ℕ → SpmStep → List ℕ
@@ -24,31 +22,22 @@ stepPut a t = putReport (putCell a (t .solver)) (t .state) (t .«sub_steps»)
 -- the parts of the cell that the image s holds, and what a step of them told
 module _ (s a : List ℕ) (i dt t : Float) (q : SpmParts) (neg pos : List Float)
     (eq : q ≡ partsOf (cellAt s)) (en : neg ≡ placesAt 64 s 17) (eo : pos ≡ placesAt 64 s 92)
-    (r : SpmMoved) (neg' pos' : List Float) (h : StepOf q neg pos i dt t r neg' pos')
-    (b : Bool) (f : b ≡ lengths (length s) 1256 (length a) 1328) (on : b ≡ true) where
+    (r : SpmMoved) (neg' pos' : List Float) (h : StepOf q neg pos i dt t r neg' pos') where
   told : Told (stepped (cellAt s) i dt t) r neg' pos'
   unfolding cellAt particleAt
   told = rw (eq, en, eo) at h
 
-  abbrev wrote : List ℕ
-  wrote =
-      putReport
-      (putFloat
-      (putParticle (putParticle (putConfig a (q .config)) 6 (particleOf (q .neg) (q .«n_neg») neg')) 81 (particleOf (q .pos) (q .«n_pos») pos'))
-      156
-      (q .«time_s» ⊕ dt))
-      (r .state)
-      (r .«sub_steps»)
-
-  put-made : wrote ≡ stepPut a (stepBy 0 (r .state) (r .«sub_steps») (cellWith (cellAt s) dt neg' pos'))
+  put-made : putStepped a q neg' pos' (q .«time_s» ⊕ dt) (r .state) (r .«sub_steps»)
+      ≡ stepPut a (stepBy 0 (r .state) (r .«sub_steps») (cellWith (cellAt s) dt neg' pos'))
   unfolding putCell
   put-made = rw eq
 
-  pub cell-taken : (last : List ℕ) → r .refusal ≡ 0 → last ≡ wrote → (r .refusal ≡ cellNumber s i dt t (length a)) × (last ≡ cellAfter s i dt t a)
+  pub cell-taken : (last : List ℕ) → r .refusal ≡ 0 → last ≡ putStepped a q neg' pos' (q .«time_s» ⊕ dt) (r .state) (r .«sub_steps»)
+      → (r .refusal ≡ cellNumber s i dt t) × (last ≡ cellAfter s i dt t a)
   unfolding cellNumber cellAfter
   cell-taken last z l =
-      rw z (taken (λ (x : SpmStep). x .refusal) (stepPut a) _ _ a (answer-made (cellAt s) i dt t r neg' pos' told z) b _ f on last refl (l ∙ put-made))
+      rw z (accepted (λ (x : SpmStep). x .refusal) (stepPut a) _ _ a (answer-made (cellAt s) i dt t r neg' pos' told z) last refl (l ∙ put-made))
 
-  pub cell-left : (r .refusal ≡ 0 → ⊥) → (r .refusal ≡ cellNumber s i dt t (length a)) × (a ≡ cellAfter s i dt t a)
+  pub cell-left : (r .refusal ≡ 0 → ⊥) → (r .refusal ≡ cellNumber s i dt t) × (a ≡ cellAfter s i dt t a)
   unfolding cellNumber cellAfter
-  cell-left z = left (λ (x : SpmStep). x .refusal) (stepPut a) _ _ a (answer-kept (cellAt s) i dt t r neg' pos' told z) b _ f on z
+  cell-left z = refused (λ (x : SpmStep). x .refusal) (stepPut a) _ _ a (answer-kept (cellAt s) i dt t r neg' pos' told z) z

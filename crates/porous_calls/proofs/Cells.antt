@@ -1,9 +1,7 @@
 -- A step of a Doyle-Fuller-Newman cell on the parts that its image holds, over plain values. Assumes nothing.
 use mathlib.Core.Path.{_≡_, _∙_}
-use mathlib.Core.Bool.{Bool, true}
 use mathlib.Core.List.{List}
 use Prim.Native.Nat.{ℕ}
-use lib.ListN.{length}
 use lib.Ieee.{Float}
 use Rattle.codec.specs.Words.{floatAt, placesAt}
 use Rattle.dfn_parameters.specs.declared.DfnParams.{DfnParams}
@@ -14,8 +12,8 @@ use Rattle.dfn.specs.declared.DfnAnswer.{DfnAnswer}
 use Rattle.dfn.specs.Step.{stepped}
 use Rattle.dfn.specs.Parts.{Told, StepOf, cellBy, answerOf, answer-kept, answer-made}
 use Rattle.porous_images.specs.Images.{paramsAt, configAt, cellAt, putCellPlaces, putLast, putCell, putReport}
-use Rattle.boundary.specs.Calls.{lengths, dfnNumber, dfnAfter}
-use Rattle.boundary.proofs.Answers.{taken, left}
+use Rattle.image_rows.specs.Written.{accepted, refused}
+use Rattle.porous_calls.specs.Steps.{putStepped, dfnNumber, dfnAfter}
 
 -- the image of a step's answer
 abbrev stepPut : List ℕ → DfnAnswer → List ℕ
@@ -25,23 +23,21 @@ stepPut a t = putReport (putCell a (t .cell)) (t .report)
 module _ (s a : List ℕ) (i dt : Float) (p : DfnParams) (g : DfnConfig) (t : Float) (neg pos salt : List Float)
     (ep : p ≡ paramsAt s) (eg : g ≡ configAt s) (et : t ≡ floatAt s 1121)
     (en : neg ≡ placesAt 512 s 64) (eo : pos ≡ placesAt 512 s 576) (es : salt ≡ placesAt 33 s 1088)
-    (r : DfnReported) (neg' pos' salt' : List Float) (h : StepOf p g t neg pos salt i dt r neg' pos' salt')
-    (b : Bool) (f : b ≡ lengths (length s) 9008 (length a) 9072) (on : b ≡ true) where
+    (r : DfnReported) (neg' pos' salt' : List Float) (h : StepOf p g t neg pos salt i dt r neg' pos' salt') where
   told : Told (stepped (cellAt s) i dt) r neg' pos' salt'
   unfolding cellAt
   told = rw (← ep, ← eg, ← et, ← en, ← eo, ← es) (h (floatAt s 1122) (floatAt s 1123) (floatAt s 1124) (floatAt s 1125))
 
-  put-made : putReport (putLast (putCellPlaces a p g neg' pos' salt') (r .report .«time_s») (r .report .voltage) (r .report .current) (r .report .«theta_neg») (r .report .«theta_pos»)) (r .report)
+  put-made : putStepped a p g neg' pos' salt' (r .report)
       ≡ stepPut a (answerOf (r .refusal) (r .report) (cellBy (cellAt s) neg' pos' salt' (r .report)))
   unfolding cellAt putCell
   put-made = rw (ep, eg)
 
-  pub step-taken : (last : List ℕ) → r .refusal ≡ 0
-      → last ≡ putReport (putLast (putCellPlaces a p g neg' pos' salt') (r .report .«time_s») (r .report .voltage) (r .report .current) (r .report .«theta_neg») (r .report .«theta_pos»)) (r .report)
-      → (r .refusal ≡ dfnNumber s i dt (length a)) × (last ≡ dfnAfter s i dt a)
+  pub step-taken : (last : List ℕ) → r .refusal ≡ 0 → last ≡ putStepped a p g neg' pos' salt' (r .report)
+      → (r .refusal ≡ dfnNumber s i dt) × (last ≡ dfnAfter s i dt a)
   unfolding dfnNumber dfnAfter
-  step-taken last z l = taken (λ (x : DfnAnswer). x .refusal) (stepPut a) _ _ a (answer-made (cellAt s) i dt r neg' pos' salt' told z) b _ f on last z (l ∙ put-made)
+  step-taken last z l = accepted (λ (x : DfnAnswer). x .refusal) (stepPut a) _ _ a (answer-made (cellAt s) i dt r neg' pos' salt' told z) last z (l ∙ put-made)
 
-  pub step-left : (r .refusal ≡ 0 → ⊥) → (r .refusal ≡ dfnNumber s i dt (length a)) × (a ≡ dfnAfter s i dt a)
+  pub step-left : (r .refusal ≡ 0 → ⊥) → (r .refusal ≡ dfnNumber s i dt) × (a ≡ dfnAfter s i dt a)
   unfolding dfnNumber dfnAfter
-  step-left z = left (λ (x : DfnAnswer). x .refusal) (stepPut a) _ _ a (answer-kept (cellAt s) i dt r neg' pos' salt' told z) b _ f on z
+  step-left z = refused (λ (x : DfnAnswer). x .refusal) (stepPut a) _ _ a (answer-kept (cellAt s) i dt r neg' pos' salt' told z) z

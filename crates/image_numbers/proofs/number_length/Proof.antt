@@ -1,10 +1,10 @@
--- `boundary::number_length` meets its contract. Assumes nothing.
+-- `image_numbers::number_length` meets its contract. Assumes nothing.
 use native.Mathlib.Omega.{arith}
 use borrow.Author.Tests.{ne-eqb, le-leb, lt-leb}
 use Rattle.image_numbers.specs.Numbers.{numberLength}
 use borrow.Author.Needs.{needs}
-use Rattle.boundary.proofs.number_length.Statement.{statement}
-use Rattle.boundary.proofs.number_length.Tie as tie
+use Rattle.image_numbers.proofs.number_length.Statement.{statement}
+use Rattle.image_numbers.proofs.number_length.Tie as tie
 
 returns : tie.Need-returns
 unfolding numberLength

@@ -1,10 +1,10 @@
--- `boundary::build_length` meets its contract. Assumes nothing.
+-- `image_builds::build_length` meets its contract. Assumes nothing.
 use native.Mathlib.Omega.{arith}
 use borrow.Author.Tests.{ne-eqb, le-leb, lt-leb}
 use Rattle.image_builds.specs.Builds.{buildLength}
 use borrow.Author.Needs.{needs}
-use Rattle.boundary.proofs.build_length.Statement.{statement}
-use Rattle.boundary.proofs.build_length.Tie as tie
+use Rattle.image_builds.proofs.build_length.Statement.{statement}
+use Rattle.image_builds.proofs.build_length.Tie as tie
 
 returns : tie.Need-returns
 unfolding buildLength

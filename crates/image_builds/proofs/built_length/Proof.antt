@@ -1,10 +1,10 @@
--- `boundary::built_length` meets its contract. Assumes nothing.
+-- `image_builds::built_length` meets its contract. Assumes nothing.
 use native.Mathlib.Omega.{arith}
 use borrow.Author.Tests.{ne-eqb, le-leb, lt-leb}
 use Rattle.image_builds.specs.Builds.{builtLength}
 use borrow.Author.Needs.{needs}
-use Rattle.boundary.proofs.built_length.Statement.{statement}
-use Rattle.boundary.proofs.built_length.Tie as tie
+use Rattle.image_builds.proofs.built_length.Statement.{statement}
+use Rattle.image_builds.proofs.built_length.Tie as tie
 
 returns : tie.Need-returns
 unfolding builtLength

@@ -1,0 +1,50 @@
+-- `cell_calls::cell_step` meets its contract. Assumes nothing.
+use Rattle.cell_calls.proofs.Particles.{cell-taken, cell-left}
+use borrow.Author.Needs.{needs}
+use Rattle.cell_calls.proofs.cell_step.Statement.{statement}
+use Rattle.cell_calls.proofs.cell_step.Tie as tie
+
+parts-at-requires : tie.Need-parts-at-requires
+parts-at-requires c κs = search needs
+
+fill-64-requires : tie.Need-fill-64-requires
+fill-64-requires c κs = search needs
+
+fill-64-requires-2 : tie.Need-fill-64-requires-2
+fill-64-requires-2 c κs = search needs
+
+step-lent-requires : tie.Need-step-lent-requires
+step-lent-requires c κs = search needs
+
+put-stepped-requires : tie.Need-put-stepped-requires
+put-stepped-requires c κs = search needs
+
+same-length : tie.Need-same-length
+same-length c = c .before .before .put-stepped .kept .0
+
+returns : tie.Need-returns
+returns c =
+    let a = c .before .before .before .before .before .before .before .before .before .before .before .before .before .before .before .before .before .before .before .args in
+    cell-taken (a .cell .now) (a .answer .now) (a .current-a) (a .dt) (a .temp-k)
+    (c .before .before .before .before .before .before .before .before .before .before .before .before .before .before .before .before .parts-at .result) _ _ (c .before .before .before .before .before .before .before .before .before .before .before .before .before .before .before .before .parts-at .ensures) (c .before .before .before .before .before .before .before .before .before .before .before .before .before .before .fill-64 .ensures) (c .before .before .before .before .before .before .before .before .before .before .before .before .fill-642 .ensures) (c .before .before .before .before .before .before .before .before .before .step-lent .result) _ _ (c .before .before .before .before .before .before .before .before .before .step-lent .ensures)
+    _ (c .before .before .before .before .before .before .before .before .if1 .taken) (c .before .before .put-stepped .ensures)
+
+returns-2 : tie.Need-returns-2
+returns-2 c =
+    let a = c .before .before .before .before .before .before .before .before .before .before .before .args in
+    cell-left (a .cell .now) (a .answer .now) (a .current-a) (a .dt) (a .temp-k)
+    (c .before .before .before .before .before .before .before .before .parts-at .result) _ _ (c .before .before .before .before .before .before .before .before .parts-at .ensures) (c .before .before .before .before .before .before .fill-64 .ensures) (c .before .before .before .before .fill-642 .ensures) (c .before .step-lent .result) _ _ (c .before .step-lent .ensures)
+    (c .if1 .left)
+
+pub cell-step-spec : {M : Type 1} → statement M
+cell-step-spec =
+    tie.close
+    (tie.spec
+    parts-at-requires
+    fill-64-requires
+    fill-64-requires-2
+    step-lent-requires
+    put-stepped-requires
+    same-length
+    returns
+    returns-2)

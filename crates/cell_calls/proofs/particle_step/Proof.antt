@@ -1,0 +1,39 @@
+-- `cell_calls::particle_step` meets its contract. Assumes nothing.
+use Rattle.particle.specs.declared.ParticleAnswer.{ParticleAnswer}
+use Rattle.image_rows.specs.Written.{accepted, refused}
+use Rattle.cell_images.specs.Images.{putParticle}
+use Rattle.cell_calls.specs.Steps.{particleNumber, particleAfter}
+use borrow.Author.Needs.{needs}
+use Rattle.cell_calls.proofs.particle_step.Statement.{statement}
+use Rattle.cell_calls.proofs.particle_step.Tie as tie
+
+particle-at-requires : tie.Need-particle-at-requires
+particle-at-requires c κs = search needs
+
+step-requires : tie.Need-step-requires
+step-requires c κs = search needs
+
+put-particle-requires : tie.Need-put-particle-requires
+put-particle-requires c κs = search needs
+
+same-length : tie.Need-same-length
+same-length c = c .before .before .put-particle .kept .0
+
+returns : tie.Need-returns
+unfolding particleNumber particleAfter
+returns c = accepted (λ (t : ParticleAnswer). t .refusal) (λ (t : ParticleAnswer). putParticle (c .before .before .before .before .before .before .before .before .before .before .args .answer .now) 0 (t .particle)) _ _ _ (rw (c .before .before .before .before .before .before .before .particle-at .ensures) at (c .before .before .before .before .before .before .step .ensures)) _ (c .before .before .before .before .before .if1 .taken) (c .before .before .put-particle .ensures)
+
+returns-2 : tie.Need-returns-2
+unfolding particleNumber particleAfter
+returns-2 c = refused (λ (t : ParticleAnswer). t .refusal) (λ (t : ParticleAnswer). putParticle (c .before .before .before .before .before .args .answer .now) 0 (t .particle)) _ _ _ (rw (c .before .before .particle-at .ensures) at (c .before .step .ensures)) (c .if1 .left)
+
+pub particle-step-spec : {M : Type 1} → statement M
+particle-step-spec =
+    tie.close
+    (tie.spec
+    particle-at-requires
+    step-requires
+    put-particle-requires
+    same-length
+    returns
+    returns-2)

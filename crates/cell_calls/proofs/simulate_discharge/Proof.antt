@@ -1,0 +1,70 @@
+-- `cell_calls::simulate_discharge` meets its contract. Assumes nothing.
+use mathlib.Core.Path.{_∙_}
+use Rattle.runs.specs.Told.{run-told, run-kept}
+use Rattle.discharge_run.specs.Discharge.{RunSaid}
+use Rattle.cell_images.specs.Images.{putCell, putEnding}
+use Rattle.cell_calls.specs.Runs.{dischargeNumber, dischargeRows, dischargeAfter}
+use borrow.Author.Needs.{needs}
+use Rattle.cell_calls.proofs.simulate_discharge.Statement.{statement}
+use Rattle.cell_calls.proofs.simulate_discharge.Tie as tie
+
+cell-at-requires : tie.Need-cell-at-requires
+cell-at-requires c κs = search needs
+
+simulate-discharge-requires : tie.Need-simulate-discharge-requires
+simulate-discharge-requires c κs = search needs
+
+ending-refusal-requires : tie.Need-ending-refusal-requires
+ending-refusal-requires c κs = search needs
+
+put-cell-requires : tie.Need-put-cell-requires
+put-cell-requires c κs = search needs
+
+ending-number-requires : tie.Need-ending-number-requires
+ending-number-requires c κs = search needs
+
+put-ending-requires : tie.Need-put-ending-requires
+put-ending-requires c κs = search needs
+
+same-length : tie.Need-same-length
+same-length c = search needs depth 24
+
+same-length-2 : tie.Need-same-length-2
+same-length-2 c = search needs depth 24
+
+returns : tie.Need-returns
+unfolding dischargeNumber dischargeRows dischargeAfter
+returns c =
+    let p =
+    run-told (λ (t : RunSaid). t .ended .refusal) (λ (t : RunSaid). t .rows) (λ (t : RunSaid). putEnding (putCell (c .before .before .before .before .before .before .before .before .before .before .before .before .before .before .before .before .before .before .before .before .args .answer .now) (t .solver)) 157 (t .ended .ending) (t .rows)) _ _ _
+    (rw (c .before .before .before .before .before .before .before .before .before .before .before .before .before .before .before .before .cell-at .ensures) at (c .before .before .before .before .before .before .before .before .before .before .before .before .before .before .simulate-discharge .ensures .0))
+    _ (rw (c .before .before .before .before .before .before .before .before .before .before .before .ending-refusal .ensures) at (c .before .before .before .before .before .before .before .before .before .before .if1 .taken)) (rw (c .before .before .before .before .before .before .before .put-cell .ensures, c .before .before .before .ending-number .ensures) at (c .before .before .put-ending .ensures)) in
+    (c .before .before .before .before .before .before .before .before .before .before .before .ending-refusal .ensures ∙ p .0, (rw (c .before .before .before .before .before .before .before .before .before .before .before .before .before .before .before .before .cell-at .ensures) at (c .before .before .before .before .before .before .before .before .before .before .before .before .before .before .simulate-discharge .ensures .1), p .1))
+
+same-length-3 : tie.Need-same-length-3
+same-length-3 c = search needs depth 24
+
+returns-2 : tie.Need-returns-2
+unfolding dischargeNumber dischargeRows dischargeAfter
+returns-2 c =
+    let p =
+    run-kept (λ (t : RunSaid). t .ended .refusal) (λ (t : RunSaid). t .rows) (λ (t : RunSaid). putEnding (putCell (c .before .before .before .before .before .before .before .before .before .before .args .answer .now) (t .solver)) 157 (t .ended .ending) (t .rows)) _ _ _
+    (rw (c .before .before .before .before .before .before .cell-at .ensures) at (c .before .before .before .before .simulate-discharge .ensures .0))
+    (rw (c .before .ending-refusal .ensures) at (c .if1 .left)) in
+    (c .before .ending-refusal .ensures ∙ p .0, (rw (c .before .before .before .before .before .before .cell-at .ensures) at (c .before .before .before .before .simulate-discharge .ensures .1), p .1))
+
+pub simulate-discharge-spec : {M : Type 1} → statement M
+simulate-discharge-spec =
+    tie.close
+    (tie.spec
+    cell-at-requires
+    simulate-discharge-requires
+    ending-refusal-requires
+    put-cell-requires
+    ending-number-requires
+    put-ending-requires
+    same-length
+    same-length-2
+    returns
+    same-length-3
+    returns-2)

@@ -1,0 +1,3 @@
+-- Steps and runs of a particle and of a single-particle cell on their images.
+pub mod Steps
+pub mod Runs

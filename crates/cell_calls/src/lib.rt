@@ -1,0 +1,105 @@
+// Steps and runs of a particle and of a single-particle cell on their images: each writes its answer's image and returns 0
+// or the number of a refusal.
+use cell_images::put_config;
+use cell_images::put_ending;
+use cell_images::put_parts;
+use image_rows::fill_64;
+use solver::SpmParts;
+use solver::SpmState;
+ghost use mathlib.Core.Path.{_≡_};
+ghost use lib.ListN.{length};
+ghost use Rattle.cell_calls.specs.Steps.{particleNumber, particleAfter, putStepped, cellNumber, cellAfter};
+ghost use Rattle.cell_calls.specs.Runs.{dischargeNumber, dischargeRows, dischargeAfter};
+
+// A step of a particle.
+pub fn particle_step(particle: &[u8], j_n: f64, dt: f64, temp_k: f64, answer: &mut [u8]) -> u64
+    ensures number { λ r. ⌜ r ≡ particleNumber (now (particle .entry)) «j_n» dt «temp_k» ⌝ }
+    ensures written { λ _. ⌜ now (answer .exit) ≡ particleAfter (now (particle .entry)) «j_n» dt «temp_k» (now (answer .entry)) ⌝ }
+{
+    let out = cell_images::particle_at(particle, 0).step(j_n, dt, temp_k);
+    let refusal = out.refusal;
+    if refusal == 0 {
+        let new = out.particle;
+        cell_images::put_particle(answer, 0, new);
+    }
+    refusal
+}
+
+// Writes a cell by its parts and its clock, and after it the report of the step that led there.
+fn put_stepped<'a>(
+    answer: &mut [u8],
+    q: SpmParts,
+    c_neg: &'a [f64; 64],
+    c_pos: &'a [f64; 64],
+    time_s: f64,
+    state: SpmState,
+    sub_steps: u64,
+)
+    ensures { λ _. ⌜ now (answer .exit) ≡ putStepped (now (answer .entry)) q (now («c_neg» .entry)) (now («c_pos» .entry)) «time_s» state «sub_steps» ⌝ }
+{
+    put_config(answer, q.config);
+    put_parts(answer, 6, q.neg, q.n_neg, c_neg);
+    put_parts(answer, 81, q.pos, q.n_pos, c_pos);
+    codec::write_f64(answer, 156, time_s);
+    cell_images::put_report(answer, state, sub_steps);
+}
+
+// A step of a single-particle cell, on its parts: the record of the cell is not built.
+pub fn cell_step(cell: &[u8], current_a: f64, dt: f64, temp_k: f64, answer: &mut [u8]) -> u64
+    ensures number { λ r. ⌜ r ≡ cellNumber (now (cell .entry)) «current_a» dt «temp_k» ⌝ }
+    ensures written { λ _. ⌜ now (answer .exit) ≡ cellAfter (now (cell .entry)) «current_a» dt «temp_k» (now (answer .entry)) ⌝ }
+{
+    let q = cell_images::parts_at(cell);
+    let mut c_neg = [0.0; 64];
+    fill_64(cell, 17, &mut c_neg);
+    let mut c_pos = [0.0; 64];
+    fill_64(cell, 92, &mut c_pos);
+    let out = solver::step_lent(q, &mut c_neg, &mut c_pos, current_a, dt, temp_k);
+    let refusal = out.refusal;
+    if refusal == 0 {
+        let state = out.state;
+        put_stepped(
+            answer,
+            q,
+            &c_neg,
+            &c_pos,
+            q.time_s + dt,
+            state,
+            out.sub_steps,
+        );
+    }
+    refusal
+}
+
+// A run of a single-particle cell. The answer is written unless the run is refused before its first row.
+pub fn simulate_discharge(
+    cell: &[u8],
+    current_a: f64,
+    dt: f64,
+    temp_k: f64,
+    max_time_s: f64,
+    rows: &mut [f64],
+    answer: &mut [u8],
+) -> u64
+    ensures number { λ r. ⌜ r ≡ dischargeNumber (now (cell .entry)) «current_a» dt «temp_k» «max_time_s» (length (now (rows .entry))) ⌝ }
+    ensures rows { λ _. ⌜ now (rows .exit) ≡ dischargeRows (now (cell .entry)) «current_a» dt «temp_k» «max_time_s» (now (rows .entry)) ⌝ }
+    ensures written { λ _. ⌜ now (answer .exit) ≡ dischargeAfter (now (cell .entry)) «current_a» dt «temp_k» «max_time_s» (length (now (rows .entry))) (now (answer .entry)) ⌝ }
+{
+    let run = discharge_run::simulate_discharge(
+        cell_images::cell_at(cell),
+        current_a,
+        dt,
+        temp_k,
+        max_time_s,
+        rows,
+    );
+    let ending = run.ending;
+    let refusal = runs::ending_refusal(ending);
+    let made = run.rows;
+    if (refusal == 0) | (made != 0) {
+        let after = run.solver;
+        cell_images::put_cell(answer, after);
+        put_ending(answer, 157, runs::ending_number(ending), made);
+    }
+    refusal
+}
