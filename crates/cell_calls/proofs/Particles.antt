@@ -11,7 +11,8 @@ use Rattle.solver.specs.declared.SpmMoved.{SpmMoved}
 use Rattle.solver.specs.declared.SpmStep.{SpmStep}
 use Rattle.solver.specs.Step.{stepped, refusedStep}
 use Rattle.solver.specs.Parts.{partsOf, Told, StepOf, cellWith, stepBy, answer-kept, answer-made}
-use Rattle.cell_images.specs.Images.{particleAt, cellAt, putParticle, putConfig, putCell, putReport}
+use Rattle.cell_images.specs.Images.{cellAt, putCell, putReport}
+use Rattle.sheet_images.specs.Images.{particleAt, putParticle, putConfig}
 use Rattle.image_rows.specs.Written.{accepted, refused}
 use Rattle.cell_calls.specs.Steps.{putStepped, cellNumber, cellAfter}
 

@@ -6,7 +6,8 @@ use mathlib.Core.List.{List}
 use lib.Ieee.{Float}
 use Rattle.runs.specs.Told.{told}
 use Rattle.discharge_run.specs.Discharge as S
-use Rattle.cell_images.specs.Images.{cellAt, putCell, putEnding}
+use Rattle.cell_images.specs.Images.{cellAt, putCell}
+use Rattle.image_rows.specs.Written.{putEnding}
 
 abbrev discharge : List ℕ → Float → Float → Float → Float → ℕ → S.RunSaid
 discharge s i dt t limit places = S.discharged (S.feedOf i dt t limit) (cellAt s) places

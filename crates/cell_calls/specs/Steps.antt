@@ -11,7 +11,8 @@ use Rattle.solver.specs.declared.SpmParts.{SpmParts}
 use Rattle.solver.specs.declared.SpmState.{SpmState}
 use Rattle.solver.specs.declared.SpmStep.{SpmStep}
 use Rattle.solver.specs.Step as S
-use Rattle.cell_images.specs.Images.{particleAt, putParticle, putConfig, cellAt, putCell, putReport}
+use Rattle.cell_images.specs.Images.{cellAt, putCell, putReport}
+use Rattle.sheet_images.specs.Images.{particleAt, putParticle, putConfig}
 
 -- ---- a particle
 

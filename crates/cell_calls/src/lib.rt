@@ -1,9 +1,9 @@
 // Steps and runs of a particle and of a single-particle cell on their images: each writes its answer's image and returns 0
 // or the number of a refusal.
-use cell_images::put_config;
-use cell_images::put_ending;
-use cell_images::put_parts;
 use image_rows::fill_64;
+use image_rows::put_ending;
+use sheet_images::put_config;
+use sheet_images::put_parts;
 use solver::SpmParts;
 use solver::SpmState;
 ghost use mathlib.Core.Path.{_≡_};
@@ -16,11 +16,11 @@ pub fn particle_step(particle: &[u8], j_n: f64, dt: f64, temp_k: f64, answer: &m
     ensures number { λ r. ⌜ r ≡ particleNumber (now (particle .entry)) «j_n» dt «temp_k» ⌝ }
     ensures written { λ _. ⌜ now (answer .exit) ≡ particleAfter (now (particle .entry)) «j_n» dt «temp_k» (now (answer .entry)) ⌝ }
 {
-    let out = cell_images::particle_at(particle, 0).step(j_n, dt, temp_k);
+    let out = sheet_images::particle_at(particle, 0).step(j_n, dt, temp_k);
     let refusal = out.refusal;
     if refusal == 0 {
         let new = out.particle;
-        cell_images::put_particle(answer, 0, new);
+        sheet_images::put_particle(answer, 0, new);
     }
     refusal
 }

@@ -1,2 +1,2 @@
--- Sheets, particles and single-particle cells as images.
+-- Single-particle cells as images.
 pub mod Images

@@ -18,7 +18,8 @@ use Rattle.dfn_parameters.specs.declared.DfnParams.{DfnParams}
 use Rattle.dfn_parameters.specs.Ready.{nmcGraphite, lfpGraphite}
 use Rattle.dfn.specs.declared.DfnBuild.{DfnBuild}
 use Rattle.dfn.specs.Build as D
-use Rattle.cell_images.specs.Images.{sheetAt, configAt, putSheet, putParticle, putCell}
+use Rattle.cell_images.specs.Images.{putCell}
+use Rattle.sheet_images.specs.Images.{sheetAt, configAt, putSheet, putParticle}
 use Rattle.electrolyte_images.specs.Images.{saltAt, putSalt, putElectrolyte}
 use Rattle.porous_images.specs.Images.{paramsAt, putParams}
 use Rattle.porous_images.specs.Images as I

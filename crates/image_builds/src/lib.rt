@@ -1,9 +1,5 @@
 // The calls that give a record, ready or new from an image, by the number that C calls them with.
-use cell_images::config_at;
 use cell_images::put_cell;
-use cell_images::put_particle;
-use cell_images::put_sheet;
-use cell_images::sheet_at;
 use codec::read_word;
 use dfn::DfnSolver;
 use dfn_parameters::DfnParams;
@@ -16,10 +12,15 @@ use electrolyte_parameters::ElectrolyteParams;
 use particle::ParticleDiffusion;
 use porous_images::params_at;
 use porous_images::put_params;
+use sheet_images::config_at;
+use sheet_images::put_particle;
+use sheet_images::put_sheet;
+use sheet_images::sheet_at;
 use solver::SpmAnswer;
 use solver::SpmSolver;
 ghost use mathlib.Core.Path.{_≡_};
-ghost use Rattle.cell_images.specs.Images.{putParticle, putCell};
+ghost use Rattle.cell_images.specs.Images.{putCell};
+ghost use Rattle.sheet_images.specs.Images.{putParticle};
 ghost use Rattle.electrolyte_images.specs.Images.{putElectrolyte};
 ghost use Rattle.porous_images.specs.Images as P;
 ghost use Rattle.image_rows.specs.Written.{written};

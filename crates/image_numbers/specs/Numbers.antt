@@ -16,7 +16,8 @@ use Rattle.electrolyte_parameters.specs.declared.ElectrolyteParams.{Electrolyte
 use Rattle.electrolyte.specs.declared.ElectrolyteState.{ElectrolyteState}
 use Rattle.electrolyte_parameters.specs.Calls as R
 use Rattle.electrolyte.specs.Calls as E
-use Rattle.cell_images.specs.Images.{sheetAt, particleAt, cellAt}
+use Rattle.cell_images.specs.Images.{cellAt}
+use Rattle.sheet_images.specs.Images.{sheetAt, particleAt}
 use Rattle.electrolyte_images.specs.Images.{saltAt, electrolyteAt}
 
 -- 1 d_s, 2 specific_area, 3 ocp, 4 docp_dtheta, 5 sphere_volume

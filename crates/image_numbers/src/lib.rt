@@ -1,7 +1,5 @@
 // The calls that give a number from an image, by the number that C calls them with.
 use cell_images::cell_at;
-use cell_images::particle_at;
-use cell_images::sheet_at;
 use electrode::ElectrodeParams;
 use electrolyte::Count;
 use electrolyte::ElectrolyteState;
@@ -10,6 +8,8 @@ use electrolyte_images::salt_at;
 use electrolyte_parameters::ElectrolyteParams;
 use particle::ParticleDiffusion;
 use refusal::Answer;
+use sheet_images::particle_at;
+use sheet_images::sheet_at;
 use solver::SpmSolver;
 ghost use mathlib.Core.Path.{_≡_};
 ghost use Rattle.refusal.specs.Answers.{said};

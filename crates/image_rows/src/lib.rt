@@ -4,6 +4,7 @@ use codec::read_f64;
 use codec::word_from;
 use codec::write_bytes;
 use codec::write_f64;
+use codec::write_word;
 ghost use mathlib.Core.Path.{_≡_};
 ghost use Prim.Native.Nat.{_+_, _*_, _≤_};
 ghost use lib.Dec.{T};
@@ -11,6 +12,7 @@ ghost use lib.ListN.{length};
 ghost use Rattle.turns.specs.Turns.{firstBy};
 ghost use Rattle.codec.specs.Words.{floatAt, putPlaces, putRow};
 ghost use Rattle.image_rows.specs.Rows.{finitePattern, finiteWords, noNan};
+ghost use Rattle.image_rows.specs.Written.{putEnding};
 
 // Whether a word is the pattern of a finite number: its exponent is not all ones.
 fn finite_pattern(n: u64) -> bool
@@ -139,4 +141,13 @@ pub fn put_32(s: &mut [u8], at: usize, c: [f64; 32])
     ensures { λ _. ⌜ now (s .exit) ≡ putRow (now (s .entry)) at c ⌝ }
 {
     write_places(s, at, &c);
+}
+
+// Writes how a run ended and its count of rows as the words from `at` on.
+pub fn put_ending(s: &mut [u8], at: usize, ending: u64, rows: usize)
+    requires { ⌜ at ≤ 2048 ⌝ }
+    ensures { λ _. ⌜ now (s .exit) ≡ putEnding (now (s .entry)) at ending rows ⌝ }
+{
+    write_word(s, at, ending);
+    write_word(s, at + 1, rows as u64);
 }

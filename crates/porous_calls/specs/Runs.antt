@@ -6,7 +6,7 @@ use mathlib.Core.List.{List}
 use lib.Ieee.{Float}
 use Rattle.runs.specs.Told.{told}
 use Rattle.galvanostatic_run.specs.Galvanostatic as D
-use Rattle.cell_images.specs.Images.{putEnding}
+use Rattle.image_rows.specs.Written.{putEnding}
 use Rattle.porous_images.specs.Images.{cellAt, putCell}
 
 abbrev galvanostatic : List ℕ → Float → Float → Float → ℕ → D.RunSaid

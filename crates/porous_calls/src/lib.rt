@@ -1,11 +1,11 @@
 // Steps of an electrolyte, steps and runs of a Doyle-Fuller-Newman cell on their images: each writes its answer's image and
 // returns 0 or the number of a refusal.
-use cell_images::put_ending;
 use dfn::DfnStep;
 use dfn_parameters::DfnConfig;
 use dfn_parameters::DfnParams;
 use image_rows::fill_33;
 use image_rows::fill_512;
+use image_rows::put_ending;
 use porous_images::put_last;
 use porous_images::put_places;
 ghost use mathlib.Core.Path.{_≡_};

@@ -1,7 +1,7 @@
 -- `cell_calls::particle_step` meets its contract. Assumes nothing.
 use Rattle.particle.specs.declared.ParticleAnswer.{ParticleAnswer}
 use Rattle.image_rows.specs.Written.{accepted, refused}
-use Rattle.cell_images.specs.Images.{putParticle}
+use Rattle.sheet_images.specs.Images.{putParticle}
 use Rattle.cell_calls.specs.Steps.{particleNumber, particleAfter}
 use borrow.Author.Needs.{needs}
 use Rattle.cell_calls.proofs.particle_step.Statement.{statement}

@@ -2,7 +2,8 @@
 use mathlib.Core.Path.{_∙_}
 use Rattle.runs.specs.Told.{run-told, run-kept}
 use Rattle.discharge_run.specs.Discharge.{RunSaid}
-use Rattle.cell_images.specs.Images.{putCell, putEnding}
+use Rattle.cell_images.specs.Images.{putCell}
+use Rattle.image_rows.specs.Written.{putEnding}
 use Rattle.cell_calls.specs.Runs.{dischargeNumber, dischargeRows, dischargeAfter}
 use borrow.Author.Needs.{needs}
 use Rattle.cell_calls.proofs.simulate_discharge.Statement.{statement}

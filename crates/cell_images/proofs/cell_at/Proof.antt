@@ -1,5 +1,6 @@
 -- `cell_images::cell_at` meets its contract. Assumes nothing.
-use Rattle.cell_images.specs.Images.{particleAt, cellAt}
+use Rattle.cell_images.specs.Images.{cellAt}
+use Rattle.sheet_images.specs.Images.{particleAt}
 use borrow.Author.Needs.{needs}
 use Rattle.cell_images.proofs.cell_at.Statement.{statement}
 use Rattle.cell_images.proofs.cell_at.Tie as tie

@@ -2,7 +2,7 @@
 use mathlib.Core.Path.{_≡_}
 use borrow.Author.Needs.{needs}
 use Rattle.particle.specs.declared.ParticleAnswer.{ParticleAnswer}
-use Rattle.cell_images.specs.Images.{putParticle}
+use Rattle.sheet_images.specs.Images.{putParticle}
 use Rattle.image_rows.specs.Written.{accepted, refused}
 use Rattle.image_builds.specs.Builds.{particleMade}
 use Rattle.image_builds.proofs.new_particle.Statement.{statement}

@@ -8,8 +8,8 @@ use Rattle.image_numbers.proofs.number_of.Tie as tie
 use Rattle.image_numbers.proofs.number_of.Reads as reads
 use Rattle.image_numbers.proofs.number_of.Lts as lts
 use Rattle.cell_images.proofs.cell_at.Reads as cell-at-reads
-use Rattle.cell_images.proofs.particle_at.Reads as particle-at-reads
-use Rattle.cell_images.proofs.sheet_at.Reads as sheet-at-reads
+use Rattle.sheet_images.proofs.particle_at.Reads as particle-at-reads
+use Rattle.sheet_images.proofs.sheet_at.Reads as sheet-at-reads
 use Rattle.image_numbers.proofs.cell_number.Reads as cell-number-reads
 use Rattle.image_numbers.proofs.electrolyte_number.Reads as electrolyte-number-reads
 use Rattle.image_numbers.proofs.particle_number.Reads as particle-number-reads

@@ -2,7 +2,7 @@
 use mathlib.Core.Path.{_∙_}
 use Rattle.runs.specs.Told.{run-told, run-kept}
 use Rattle.galvanostatic_run.specs.Galvanostatic.{RunSaid}
-use Rattle.cell_images.specs.Images.{putEnding}
+use Rattle.image_rows.specs.Written.{putEnding}
 use Rattle.porous_images.specs.Images.{putCell}
 use Rattle.porous_calls.specs.Runs.{galvanostaticNumber, galvanostaticRows, galvanostaticAfter}
 use borrow.Author.Needs.{needs}

@@ -1,8 +1,8 @@
--- `cell_images::put_parts` meets its contract. Assumes nothing.
-use Rattle.cell_images.specs.Images.{putParticle}
+-- `sheet_images::put_parts` meets its contract. Assumes nothing.
+use Rattle.sheet_images.specs.Images.{putParticle}
 use borrow.Author.Needs.{needs}
-use Rattle.cell_images.proofs.put_parts.Statement.{statement}
-use Rattle.cell_images.proofs.put_parts.Tie as tie
+use Rattle.sheet_images.proofs.put_parts.Statement.{statement}
+use Rattle.sheet_images.proofs.put_parts.Tie as tie
 
 put-sheet-requires : tie.Need-put-sheet-requires
 put-sheet-requires c κs = search needs

@@ -1,8 +1,8 @@
--- `cell_images::particle_at` meets its contract. Assumes nothing.
-use Rattle.cell_images.specs.Images.{particleAt}
+-- `sheet_images::particle_at` meets its contract. Assumes nothing.
+use Rattle.sheet_images.specs.Images.{particleAt}
 use borrow.Author.Needs.{needs}
-use Rattle.cell_images.proofs.particle_at.Statement.{statement}
-use Rattle.cell_images.proofs.particle_at.Tie as tie
+use Rattle.sheet_images.proofs.particle_at.Statement.{statement}
+use Rattle.sheet_images.proofs.particle_at.Tie as tie
 
 sheet-at-requires : tie.Need-sheet-at-requires
 sheet-at-requires c κs = search needs

@@ -1,7 +1,7 @@
--- `cell_images::put_particle` meets its contract. Assumes nothing.
+-- `sheet_images::put_particle` meets its contract. Assumes nothing.
 use borrow.Author.Needs.{needs}
-use Rattle.cell_images.proofs.put_particle.Statement.{statement}
-use Rattle.cell_images.proofs.put_particle.Tie as tie
+use Rattle.sheet_images.proofs.put_particle.Statement.{statement}
+use Rattle.sheet_images.proofs.put_particle.Tie as tie
 
 put-parts-requires : tie.Need-put-parts-requires
 put-parts-requires c κs = search needs

@@ -1,9 +1,9 @@
--- `cell_images::config_at` meets its contract. Assumes nothing.
-use Rattle.cell_images.specs.Images.{configAt}
+-- `sheet_images::sheet_at` meets its contract. Assumes nothing.
+use Rattle.sheet_images.specs.Images.{sheetAt}
 use Rattle.turns.specs.Turns.{firstBy}
 use borrow.Author.Needs.{needs}
-use Rattle.cell_images.proofs.config_at.Statement.{statement}
-use Rattle.cell_images.proofs.config_at.Tie as tie
+use Rattle.sheet_images.proofs.sheet_at.Statement.{statement}
+use Rattle.sheet_images.proofs.sheet_at.Tie as tie
 
 slice-aggregate-read-places : tie.Need-slice-aggregate-read-places
 slice-aggregate-read-places c = search needs
@@ -29,12 +29,24 @@ array-read-t19 c = search needs
 array-read-t22 : tie.Need-array-read-t22
 array-read-t22 c = search needs
 
+array-read-t25 : tie.Need-array-read-t25
+array-read-t25 c = search needs
+
+array-read-t28 : tie.Need-array-read-t28
+array-read-t28 c = search needs
+
+array-read-t31 : tie.Need-array-read-t31
+array-read-t31 c = search needs
+
+array-read-t34 : tie.Need-array-read-t34
+array-read-t34 c = search needs
+
 returns : tie.Need-returns
-unfolding configAt firstBy
+unfolding sheetAt firstBy
 returns c = rw (c .read-word .ensures, c .before .before .read-places .ensures)
 
-pub config-at-spec : {M : Type 1} → statement M
-config-at-spec =
+pub sheet-at-spec : {M : Type 1} → statement M
+sheet-at-spec =
     tie.close
     (tie.spec
     slice-aggregate-read-places
@@ -45,4 +57,8 @@ config-at-spec =
     array-read-t16
     array-read-t19
     array-read-t22
+    array-read-t25
+    array-read-t28
+    array-read-t31
+    array-read-t34
     returns)

@@ -1,14 +1,11 @@
--- `cell_images::put_sheet` meets its contract. Assumes nothing.
-use Rattle.cell_images.specs.Images.{putSheet}
+-- `sheet_images::put_config` meets its contract. Assumes nothing.
+use Rattle.sheet_images.specs.Images.{putConfig}
 use borrow.Author.Needs.{needs}
-use Rattle.cell_images.proofs.put_sheet.Statement.{statement}
-use Rattle.cell_images.proofs.put_sheet.Tie as tie
+use Rattle.sheet_images.proofs.put_config.Statement.{statement}
+use Rattle.sheet_images.proofs.put_config.Tie as tie
 
 write-word-requires : tie.Need-write-word-requires
 write-word-requires c κs = search needs
-
-add-write-places : tie.Need-add-write-places
-add-write-places c = search needs
 
 slice-aggregate-write-places : tie.Need-slice-aggregate-write-places
 slice-aggregate-write-places c = search needs
@@ -20,15 +17,14 @@ same-length : tie.Need-same-length
 same-length c = search needs depth 24
 
 returns : tie.Need-returns
-unfolding putSheet
+unfolding putConfig
 returns c = rw (c .before .before .write-places .ensures, c .before .before .before .before .before .before .before .write-word .ensures)
 
-pub put-sheet-spec : {M : Type 1} → statement M
-put-sheet-spec =
+pub put-config-spec : {M : Type 1} → statement M
+put-config-spec =
     tie.close
     (tie.spec
     write-word-requires
-    add-write-places
     slice-aggregate-write-places
     write-places-requires
     same-length

@@ -1,8 +1,8 @@
--- `cell_images::put_ending` meets its contract. Assumes nothing.
-use Rattle.cell_images.specs.Images.{putEnding}
+-- `image_rows::put_ending` meets its contract. Assumes nothing.
+use Rattle.image_rows.specs.Written.{putEnding}
 use borrow.Author.Needs.{needs}
-use Rattle.cell_images.proofs.put_ending.Statement.{statement}
-use Rattle.cell_images.proofs.put_ending.Tie as tie
+use Rattle.image_rows.proofs.put_ending.Statement.{statement}
+use Rattle.image_rows.proofs.put_ending.Tie as tie
 
 write-word-requires : tie.Need-write-word-requires
 write-word-requires c κs = search needs

@@ -1,0 +1,60 @@
+-- The images of a sheet (10 words), a particle (75) and a single-particle cell's configuration (6).
+use Prim.Native.Nat.{ℕ, _+_}
+use mathlib.Core.List.{List, [], _∷_}
+use lib.ListN.{length}
+use lib.Ieee.{Float}
+use Rattle.codec.specs.Words.{wordAt, putWord, floatAt, placesAt, putRow, putPlaces}
+use Rattle.electrode.specs.declared.ElectrodeParams.{ElectrodeParams}
+use Rattle.particle.specs.declared.ParticleDiffusion.{ParticleDiffusion}
+use Rattle.kinetics.specs.declared.SpmConfig.{SpmConfig}
+
+-- ---- a sheet from word `at` on: the chemistry, then the nine numbers
+
+unfoldable pub sheetAt : List ℕ → ℕ → ElectrodeParams
+sheetAt s at = record {
+  «electrode_type» = wordAt s at;
+  «r_particle» = floatAt s (at + 1);
+  «d_s_ref» = floatAt s (at + 2);
+  «c_s_max» = floatAt s (at + 3);
+  «theta_init» = floatAt s (at + 4);
+  thickness = floatAt s (at + 5);
+  «epsilon_s» = floatAt s (at + 6);
+  area = floatAt s (at + 7);
+  «e_a_ds» = floatAt s (at + 8);
+  «k_bv» = floatAt s (at + 9);
+}
+
+abbrev pub sheetNumbers : ElectrodeParams → List Float
+sheetNumbers p =
+    p .«r_particle» ∷ p .«d_s_ref» ∷ p .«c_s_max» ∷ p .«theta_init» ∷ p .thickness ∷ p .«epsilon_s» ∷ p .area ∷ p .«e_a_ds» ∷ p .«k_bv» ∷ []
+
+unfoldable pub putSheet : List ℕ → ℕ → ElectrodeParams → List ℕ
+putSheet s at p = putRow (putWord s at (p .«electrode_type»)) (at + 1) (sheetNumbers p)
+
+-- ---- a particle: the sheet, the count of nodes, 64 places
+
+unfoldable pub particleAt : List ℕ → ℕ → ParticleDiffusion
+particleAt s at = record {
+  params = sheetAt s at;
+  «n_nodes» = wordAt s (at + 10);
+  «c_s» = placesAt 64 s (at + 11);
+}
+
+unfoldable pub putParticle : List ℕ → ℕ → ParticleDiffusion → List ℕ
+putParticle s at p = putRow (putWord (putSheet s at (p .params)) (at + 10) (p .«n_nodes»)) (at + 11) (p .«c_s»)
+
+-- ---- a configuration in the first six words
+
+unfoldable pub configAt : List ℕ → SpmConfig
+configAt s = record {
+  «n_nodes» = wordAt s 0;
+  «v_min» = floatAt s 1;
+  «v_max» = floatAt s 2;
+  faraday = floatAt s 3;
+  «r_gas» = floatAt s 4;
+  «r_electrolyte_ohm_m2» = floatAt s 5;
+}
+
+unfoldable pub putConfig : List ℕ → SpmConfig → List ℕ
+putConfig s c =
+    putRow (putWord s 0 (c .«n_nodes»)) 1 (c .«v_min» ∷ c .«v_max» ∷ c .faraday ∷ c .«r_gas» ∷ c .«r_electrolyte_ohm_m2» ∷ [])

@@ -1,0 +1,2 @@
+-- Sheets, particles and configurations as images.
+pub mod Images
