@@ -19,7 +19,8 @@ use Rattle.profile.specs.Weights.{innerWeight, weight}
 use Rattle.dense.specs.declared.Solved.{Solved}
 use Rattle.matrix_rows.specs.Loops.{turnsFrom, forRange, unlessRefused, tryRange}
 use Rattle.matrix_rows.specs.Places.{zeros, firstFinite, allFinite}
-use Rattle.matrix_rows.specs.Rows.{swapped, rowsSwapped, rowReduced, rowLess, rowCleared, columnCleared, pivotTaken}
+use Rattle.matrix_rows.specs.Rows.{swapped, rowsSwapped, rowReduced}
+use Rattle.matrix_columns.specs.Columns.{rowLess, rowCleared, columnCleared, pivotTaken}
 use Rattle.dense_elimination.specs.Elimination.{candidate, larger, pivotOf, columnWith, columnDone, eliminated}
 use Rattle.dense.specs.Substitution.{takenOut, columnSolved, substituted}
 use Rattle.dense.specs.Solve.{placeLoaded, rowLoaded, matrixLoaded, loaded, reduced, solution, inputRefusal, solutionRefusal, answer, solved}

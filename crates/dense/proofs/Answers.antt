@@ -16,7 +16,8 @@ use Rattle.refusal.specs.Ranges.{finite}
 use Rattle.turns.specs.Turns.{firstBy, first-above, all-at}
 use Rattle.matrix_rows.specs.Loops.{Tried, either, range-keeps, try-keeps}
 use Rattle.matrix_rows.specs.Places.{at, entry, zeros, firstFinite}
-use Rattle.matrix_rows.specs.Rows.{System, swapped, rowLess, rowCleared, columnCleared, pivotTaken}
+use Rattle.matrix_rows.specs.Rows.{swapped}
+use Rattle.matrix_columns.specs.Columns.{System, rowLess, rowCleared, columnCleared, pivotTaken}
 use Rattle.dense_elimination.specs.Elimination.{pivotOf, columnWith, columnDone, eliminated, tiny}
 use Rattle.dense.specs.Substitution.{takenOut, columnSolved, substituted}
 use Rattle.dense.specs.Solve.{loaded, reduced, solution, solutionRefusal, answer, solved}

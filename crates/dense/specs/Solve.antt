@@ -10,7 +10,7 @@ use Rattle.refusal.specs.Numbers.{grid, sheet, notFinite, refusalUnless, firstM
 use Rattle.turns.specs.Turns.{firstBy}
 use Rattle.matrix_rows.specs.Loops.{forRange, Tried}
 use Rattle.matrix_rows.specs.Places.{at, place, zeros, firstFinite, allFinite}
-use Rattle.matrix_rows.specs.Rows.{System, system}
+use Rattle.matrix_columns.specs.Columns.{System, system}
 use Rattle.dense_elimination.specs.Elimination.{eliminated}
 use Rattle.dense.specs.Substitution.{substituted}
 use Rattle.dense.specs.declared.Solved.{Solved}

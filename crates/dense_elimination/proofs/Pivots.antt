@@ -11,7 +11,7 @@ use borrow.Author.Tests.{le-ltb}
 use Rattle.refusal.specs.Numbers.{singular}
 use Rattle.dense_elimination.specs.declared.Pivot.{Pivot}
 use Rattle.matrix_rows.specs.Loops.{turnsFrom, forRange, range-none, range-next, range-keeps, either, outcome}
-use Rattle.matrix_rows.specs.Rows.{System, pivotTaken}
+use Rattle.matrix_columns.specs.Columns.{System, pivotTaken}
 use Rattle.dense_elimination.specs.Elimination.{candidate, larger, pivotOf, tiny, columnWith, columnDone}
 
 -- nothing is below itself

@@ -8,7 +8,7 @@ use Rattle.choice.specs.Choice.{absOf}
 use Rattle.refusal.specs.Numbers.{singular}
 use Rattle.matrix_rows.specs.Loops.{forRange, Tried, outcome, tryRange}
 use Rattle.matrix_rows.specs.Places.{entry}
-use Rattle.matrix_rows.specs.Rows.{System, pivotTaken}
+use Rattle.matrix_columns.specs.Columns.{System, pivotTaken}
 use Rattle.dense_elimination.specs.declared.Pivot.{Pivot}
 
 -- ---- the search for a pivot

@@ -1,11 +1,11 @@
 // Gaussian elimination with partial pivoting, of up to 32 unknowns: the first half of `solve_dense` of oxigrid's
 // src/battery/p2d/dfn.rs, changed. The matrix stands in 1024 places, 32 to a row whatever the order, the right side in 32.
 
-use matrix_rows::take_pivot;
+use matrix_columns::take_pivot;
 ghost use mathlib.Core.Path.{_≡_};
 ghost use Prim.Native.Nat.{_<_, _≤_};
 ghost use Rattle.matrix_rows.specs.Loops.{outcome};
-ghost use Rattle.matrix_rows.specs.Rows.{system};
+ghost use Rattle.matrix_columns.specs.Columns.{system};
 ghost use Rattle.dense_elimination.specs.Elimination.{candidate, larger, eliminated};
 
 // An entry of a column that may become its pivot: its row and its absolute value.

@@ -2,7 +2,7 @@
 --
 -- Loops: `for i in from..to`, and the same with a turn that can refuse and so ends it.
 -- Places: the places of a list and the entries of a matrix.
--- Rows: the exchange of rows, their reduction, a column cleared.
+-- Rows: the exchange of rows, their reduction.
 pub mod Loops
 pub mod Places
 pub mod Rows

@@ -1,9 +1,9 @@
 -- The exchange of two rows and their reduction, as in `solve_dense` of dfn.rs. Each definition is a loop of the Rust or a turn of one. Definitions only.
-use Prim.Native.Nat.{ℕ, _+_}
+use Prim.Native.Nat.{ℕ}
 use mathlib.Core.List.{List}
 use lib.ListN.{set}
 use lib.Ieee.{Float}
-use Rattle.binary64.specs.Operators.{_⊖_, _⊗_, _⊘_}
+use Rattle.binary64.specs.Operators.{_⊖_, _⊗_}
 use Rattle.matrix_rows.specs.Loops.{forRange}
 use Rattle.matrix_rows.specs.Places.{at, place, entry}
 
@@ -22,28 +22,3 @@ rowsSwapped p q n a = forRange 0 n (λ k m. swapped (place p k) (place q k) m) a
 -- `a[row][k] -= f * a[col][k]` for k from col to n - 1
 unfoldable pub rowReduced : ℕ → ℕ → ℕ → Float → List Float → List Float
 rowReduced row col n f a = forRange col n (λ k m. set m (place row k) (entry m row k ⊖ f ⊗ entry m col k)) a
-
--- a matrix and its right side
-pub record System : Type 0 where
-  pub matrix : List Float
-  pub side : List Float
-
-abbrev pub system : List Float → List Float → System
-system a x = record { matrix = a; side = x }
-
--- row `row` less f times row `col`, on both sides
-unfoldable pub rowLess : ℕ → ℕ → ℕ → Float → System → System
-rowLess n col row f s =
-    system (rowReduced row col n f (s .matrix)) (set (s .side) row (at (s .side) row ⊖ f ⊗ at (s .side) col))
-
--- row `row` so that its entry of column `col` is cleared
-unfoldable pub rowCleared : ℕ → ℕ → Float → ℕ → System → System
-rowCleared n col pivot row s = rowLess n col row (entry (s .matrix) row col ⊘ pivot) s
-
--- every row below row `col`
-unfoldable pub columnCleared : ℕ → ℕ → System → System
-columnCleared n col s = forRange (col + 1) n (rowCleared n col (entry (s .matrix) col col)) s
-
--- row `row` exchanged with row `col`, then the column cleared. The Rust leaves the exchange out where the two rows are one; it changes nothing then.
-unfoldable pub pivotTaken : ℕ → ℕ → ℕ → System → System
-pivotTaken n col row s = columnCleared n col (system (rowsSwapped col row n (s .matrix)) (swapped col row (s .side)))

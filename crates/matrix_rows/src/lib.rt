@@ -1,11 +1,11 @@
-// The rows of a system of up to 32 unknowns: their exchange, and the reduction that clears a column. The turns of `solve_dense` of
-// oxigrid's src/battery/p2d/dfn.rs, changed. The matrix stands in 1024 places, 32 to a row whatever the order, the right side in 32.
+// The rows of a system of up to 32 unknowns: their exchange and their reduction, as in `solve_dense` of oxigrid's
+// src/battery/p2d/dfn.rs, changed. The matrix stands in 1024 places, 32 to a row whatever the order, the right side in 32.
 
 ghost use mathlib.Core.Path.{_≡_};
 ghost use Prim.Native.Nat.{_<_, _≤_};
-ghost use Rattle.matrix_rows.specs.Rows.{swapped, rowsSwapped, rowReduced, system, columnCleared, pivotTaken};
+ghost use Rattle.matrix_rows.specs.Rows.{swapped, rowsSwapped, rowReduced};
 
-fn swap_places(x: &mut [f64; 32], p: usize, q: usize)
+pub fn swap_places(x: &mut [f64; 32], p: usize, q: usize)
     requires { ⌜ (p < 32) × (q < 32) ⌝ }
     ensures { λ _. ⌜ now (x .exit) ≡ swapped p q (now (x .entry)) ⌝ }
 {
@@ -15,7 +15,7 @@ fn swap_places(x: &mut [f64; 32], p: usize, q: usize)
 }
 
 // Swaps the first n places of the rows p and q.
-fn swap_rows(a: &mut [f64; 1024], p: usize, q: usize, n: usize)
+pub fn swap_rows(a: &mut [f64; 1024], p: usize, q: usize, n: usize)
     requires { ⌜ (p < 32) × ((q < 32) × (n ≤ 32)) ⌝ }
     ensures { λ _. ⌜ now (a .exit) ≡ rowsSwapped p q n (now (a .entry)) ⌝ }
 {
@@ -29,7 +29,7 @@ fn swap_rows(a: &mut [f64; 1024], p: usize, q: usize, n: usize)
 }
 
 // Takes f times row `col` from row `row`, from column `col` on.
-fn reduce_row(a: &mut [f64; 1024], row: usize, col: usize, n: usize, f: f64)
+pub fn reduce_row(a: &mut [f64; 1024], row: usize, col: usize, n: usize, f: f64)
     requires { ⌜ (row < 32) × ((col ≤ n) × (n ≤ 32)) ⌝ }
     ensures { λ _. ⌜ now (a .exit) ≡ rowReduced row col n f (now (a .entry)) ⌝ }
 {
@@ -37,27 +37,4 @@ fn reduce_row(a: &mut [f64; 1024], row: usize, col: usize, n: usize, f: f64)
         let i = row * 32 + k;
         a[i] = a[i] - f * a[col * 32 + k];
     }
-}
-
-// Clears column `col` below its pivot, on both sides.
-fn clear_column(a: &mut [f64; 1024], x: &mut [f64; 32], col: usize, n: usize)
-    requires { ⌜ (col < n) × (n ≤ 32) ⌝ }
-    ensures { λ _. ⌜ system (now (a .exit)) (now (x .exit)) ≡ columnCleared n col (system (now (a .entry)) (now (x .entry))) ⌝ }
-{
-    let pivot = a[col * 32 + col];
-    for row in col + 1..n {
-        let f = a[row * 32 + col] / pivot;
-        reduce_row(a, row, col, n, f);
-        x[row] = x[row] - f * x[col];
-    }
-}
-
-// Takes the pivot of column `col` from row `row`. A row swapped with itself stays as it is.
-pub fn take_pivot(a: &mut [f64; 1024], x: &mut [f64; 32], col: usize, row: usize, n: usize)
-    requires { ⌜ (col < n) × ((row < n) × (n ≤ 32)) ⌝ }
-    ensures { λ _. ⌜ system (now (a .exit)) (now (x .exit)) ≡ pivotTaken n col row (system (now (a .entry)) (now (x .entry))) ⌝ }
-{
-    swap_rows(a, col, row, n);
-    swap_places(x, col, row);
-    clear_column(a, x, col, n);
 }

@@ -7,7 +7,7 @@ use mathlib.Core.Logic.{⊎-elim}
 use native.Mathlib.Omega.{arith}
 use borrow.Author.Needs.{needs}
 use Rattle.matrix_rows.specs.Loops.{outcome, tryRange, try-none, try-next, try-ends}
-use Rattle.matrix_rows.specs.Rows.{system}
+use Rattle.matrix_columns.specs.Columns.{system}
 use Rattle.dense_elimination.specs.Elimination.{tiny, pivotOf, columnDone, eliminated}
 use Rattle.dense_elimination.proofs.Pivots.{pivot-first, pivot-next, pivot-row, column-none, column-some}
 use Rattle.dense_elimination.proofs.eliminate.Statement.{statement}

@@ -1,12 +1,12 @@
--- `matrix_rows::clear_column` meets its contract: before turn `row`, the rows above it are cleared. Assumes nothing.
+-- `matrix_columns::clear_column` meets its contract: before turn `row`, the rows above it are cleared. Assumes nothing.
 use Prim.Native.Nat.{_≤_, _+_, _-_}
 use mathlib.Core.Path.{_≡_}
 use native.Mathlib.Omega.{arith}
 use borrow.Author.Needs.{needs}
 use Rattle.matrix_rows.specs.Loops.{forRange, range-none, range-next}
-use Rattle.matrix_rows.specs.Rows.{system, rowLess, rowCleared, columnCleared}
-use Rattle.matrix_rows.proofs.clear_column.Statement.{statement}
-use Rattle.matrix_rows.proofs.clear_column.Tie as tie
+use Rattle.matrix_columns.specs.Columns.{system, rowLess, rowCleared, columnCleared}
+use Rattle.matrix_columns.proofs.clear_column.Statement.{statement}
+use Rattle.matrix_columns.proofs.clear_column.Tie as tie
 
 abbrev Inv-loop : tie.InvT-loop
 Inv-loop a₀ x₀ col n pivot row₀ a x row = (col + 1 ≤ row) × ((row ≤ n) × (system a x ≡ forRange (col + 1) row (rowCleared n col pivot) (system a₀ x₀)))

@@ -1,9 +1,9 @@
--- `matrix_rows::take_pivot` meets its contract. Assumes nothing.
+-- `matrix_columns::take_pivot` meets its contract. Assumes nothing.
 use borrow.Author.Needs.{needs}
 use native.Mathlib.Omega.{arith}
-use Rattle.matrix_rows.specs.Rows.{pivotTaken}
-use Rattle.matrix_rows.proofs.take_pivot.Statement.{statement}
-use Rattle.matrix_rows.proofs.take_pivot.Tie as tie
+use Rattle.matrix_columns.specs.Columns.{pivotTaken}
+use Rattle.matrix_columns.proofs.take_pivot.Statement.{statement}
+use Rattle.matrix_columns.proofs.take_pivot.Tie as tie
 
 swap-rows-requires : tie.Need-swap-rows-requires
 swap-rows-requires c κs = search needs

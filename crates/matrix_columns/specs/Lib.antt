@@ -1,0 +1,2 @@
+-- The columns of a system, each cleared by its pivot.
+pub mod Columns
