@@ -13,8 +13,8 @@ use kinetics::SpmConfig;
 use particle::ParticleDiffusion;
 use solver::SpmAnswer;
 use solver::SpmSolver;
-use solver::SpmState;
 use solver::SpmStep;
+use solver_report::SpmState;
 
 // A config whose count of nodes is read already.
 fn next_config(fd: i32, n_nodes: u64) -> SpmConfig {

@@ -6,8 +6,8 @@ use lib.Ieee.{Float}
 use Rattle.binary64.specs.Operators.{_⊕_}
 use Rattle.codec.specs.Words.{putFloat, placesAt}
 use Rattle.particle.specs.Particle.{particleOf}
-use Rattle.solver.specs.declared.SpmParts.{SpmParts}
-use Rattle.solver.specs.declared.SpmMoved.{SpmMoved}
+use Rattle.solver_step.specs.declared.SpmParts.{SpmParts}
+use Rattle.solver_step.specs.declared.SpmMoved.{SpmMoved}
 use Rattle.solver.specs.declared.SpmStep.{SpmStep}
 use Rattle.solver.specs.Step.{stepped, refusedStep}
 use Rattle.solver.specs.Parts.{partsOf, Told, StepOf, cellWith, stepBy, answer-kept, answer-made}

@@ -7,7 +7,7 @@ use lib.Ieee.{Float}
 use Rattle.codec.specs.Words.{putWord, floatAt, putFloat, putRow, putPlaces}
 use Rattle.sheet_images.specs.Images.{particleAt, putParticle, configAt, putConfig}
 use Rattle.solver.specs.declared.SpmSolver.{SpmSolver}
-use Rattle.solver.specs.declared.SpmState.{SpmState}
+use Rattle.solver_report.specs.declared.SpmState.{SpmState}
 
 -- ---- a cell: configuration, anode, cathode, clock
 

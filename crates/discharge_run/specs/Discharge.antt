@@ -11,10 +11,11 @@ use Rattle.refusal.specs.Ranges.{finite, loadFits, intervalFits, temperatureFit
 use Rattle.runs.specs.Endings.{Ended, endingSaid, endingOf, byRefusal}
 use Rattle.runs.specs.Rows.{runAfter, rowsAfter}
 use Rattle.solver.specs.declared.SpmSolver.{SpmSolver}
-use Rattle.solver.specs.declared.SpmState.{SpmState}
+use Rattle.solver_report.specs.declared.SpmState.{SpmState}
+use Rattle.solver_report.specs.Report.{noState}
 use Rattle.solver.specs.declared.SpmStep.{SpmStep}
 use Rattle.solver.specs.Cell.{gridFits, cellFits}
-use Rattle.solver.specs.Step.{noState, stepped}
+use Rattle.solver.specs.Step.{stepped}
 use Rattle.discharge_run.specs.declared.Feed.{Feed}
 use Rattle.discharge_run.specs.declared.Run.{Run}
 use Rattle.discharge_run.specs.declared.DischargeRun.{DischargeRun}

@@ -10,7 +10,6 @@ pub literals : T (areDecimals
     literal 0x3fc9_9999_9999_999a 2 1 ∷  -- 0.20
     literal 0x3fe9_9999_9999_999a 8 1 ∷  -- 0.80
     literal 0x3ff0_0000_0000_0000 1 0 ∷  -- 1
-    literal 0x412e_8480_0000_0000 1000000 0 ∷  -- 1e6
     []))
 unfolding areDecimals round toBits
 literals = tt

@@ -12,12 +12,12 @@ use Rattle.refusal.specs.Numbers.{notFinite}
 use Rattle.particle.specs.Particle.{particleOf, withProfile}
 use Rattle.solver_plan.specs.declared.Plan.{Plan}
 use Rattle.solver_plan.specs.Plans.{planRefusal, subStepsOf}
+use Rattle.solver_report.specs.declared.SpmState.{SpmState}
+use Rattle.solver_step.specs.declared.SpmParts.{SpmParts}
+use Rattle.solver_step.specs.declared.SpmMoved.{SpmMoved}
 use Rattle.solver.specs.declared.SpmSolver.{SpmSolver}
-use Rattle.solver.specs.declared.SpmState.{SpmState}
 use Rattle.solver.specs.declared.SpmStep.{SpmStep}
-use Rattle.solver.specs.declared.SpmParts.{SpmParts}
-use Rattle.solver.specs.declared.SpmMoved.{SpmMoved}
-use Rattle.solver.specs.Step.{inputRefusal, planOf, advanced, reported, finiteStep, noState, refusedStep, finished, planned, stepped}
+use Rattle.solver.specs.Step.{inputRefusal, planOf, advanced, reported, finiteStep, refusedStep, finished, planned, stepped}
 
 -- a cell by its parts
 abbrev pub cellOf : SpmParts → List Float → List Float → SpmSolver
@@ -38,9 +38,6 @@ partsOf s = record {
   «time_s» = s .«time_s»;
 }
 
-abbrev pub refusedMove : ℕ → SpmMoved
-refusedMove k = record { refusal = k; state = noState; «sub_steps» = 0 }
-
 -- r and the two profiles are the number, the report, the count of sub-steps and the profiles of the answer s
 abbrev pub Told : SpmStep → SpmMoved → List Float → List Float → Type 0
 Told s r a c =
@@ -54,9 +51,6 @@ StepOf q a c i dt t r a' c' = Told (stepped (cellOf q a c) i dt t) r a' c'
 -- what it answers once a plan stands
 abbrev pub followed : SpmSolver → Plan → Float → Float → Float → SpmStep
 followed s p i dt t = finished s p (advanced s p dt) (reported (advanced s p dt) p i t)
-
-abbrev pub FollowOf : SpmParts → Plan → List Float → List Float → Float → Float → Float → SpmMoved → List Float → List Float → Type 0
-FollowOf q p a c i dt t r a' c' = Told (followed (cellOf q a c) p i dt t) r a' c'
 
 -- an answer by its parts
 abbrev pub stepBy : ℕ → SpmState → ℕ → SpmSolver → SpmStep

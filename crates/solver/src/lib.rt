@@ -2,28 +2,29 @@
 // anode's; what does not change within a step is worked out once.
 use electrode::ElectrodeParams;
 use kinetics::SpmConfig;
-use kinetics::bv_overpotential;
-use kinetics::terminal_voltage;
 use particle::ParticleDiffusion;
-use particle::advance;
 use particle::average_theta;
 use particle::fields_fit;
 use particle::surface_potential;
-use particle::surface_theta;
-use profile::profile_finite;
 use profile::uniform;
 use refusal::Answer;
 use solver_plan::Plan;
+use solver_plan::argument_refusal;
 use solver_plan::plan_for;
 use solver_plan::plan_refusal;
+use solver_report::SpmState;
+use solver_report::no_state;
+use solver_step::SpmMoved;
+use solver_step::SpmParts;
+use solver_step::follow;
+use solver_step::refused_move;
 ghost use mathlib.Core.Path.{_≡_};
 ghost use Prim.Native.Nat.{_≤_};
 ghost use Rattle.refusal.specs.Answers.{said};
 ghost use Rattle.solver.specs.Cell.{gridFits, cellRefusal, noSolver, built, ready, ocvCall, socCall};
-ghost use Rattle.solver.specs.Step.{argumentRefusal, wallOf, reportWith, finiteWith, noState, refusedStep, stepped};
-ghost use Rattle.solver.specs.Parts.{cellOf, partsOf, refusedMove, FollowOf, StepOf};
+ghost use Rattle.solver.specs.Step.{refusedStep, stepped};
+ghost use Rattle.solver.specs.Parts.{cellOf, partsOf, StepOf};
 ghost use Rattle.solver_plan.specs.Plans.{PlanOf};
-ghost use Rattle.particle.specs.Particle.{particleOf};
 ghost use Rattle.electrode.specs.Sheet.{lfpCathode, nmcCathode};
 
 pub struct SpmSolver {
@@ -38,48 +39,6 @@ pub struct SpmSolver {
 pub struct SpmAnswer {
     pub refusal: u64,
     pub solver: SpmSolver,
-}
-
-// What a step reports.
-pub struct SpmState {
-    // Terminal voltage, V.
-    pub voltage: f64,
-    // Current, A, positive on discharge.
-    pub current: f64,
-    // Stoichiometries at the surfaces, then averages.
-    pub theta_neg: f64,
-    pub theta_pos: f64,
-    pub theta_neg_avg: f64,
-    pub theta_pos_avg: f64,
-    // Clock, s.
-    pub time_s: f64,
-    // Whether the voltage left its limits.
-    pub cutoff: bool,
-}
-
-// A cell without its profiles.
-pub struct SpmParts {
-    pub config: SpmConfig,
-    pub neg: ElectrodeParams,
-    pub n_neg: usize,
-    pub pos: ElectrodeParams,
-    pub n_pos: usize,
-    pub time_s: f64,
-}
-
-// What a step on lent profiles answers.
-pub struct SpmMoved {
-    pub refusal: u64,
-    pub state: SpmState,
-    pub sub_steps: u64,
-}
-
-// What a particle shows at its wall: see `wall_of`.
-pub struct Wall {
-    pub theta: f64,
-    pub theta_avg: f64,
-    pub potential: f64,
-    pub overpotential: f64,
 }
 
 // What a step gives: the report, how many sub-steps it made, and the cell after it.
@@ -112,90 +71,6 @@ fn no_solver() -> SpmSolver
     }
 }
 
-// The report beside a refused step.
-pub fn no_state() -> SpmState
-    ensures { λ r. ⌜ r ≡ noState ⌝ }
-{
-    SpmState {
-        voltage: 0.0,
-        current: 0.0,
-        theta_neg: 0.0,
-        theta_pos: 0.0,
-        theta_neg_avg: 0.0,
-        theta_pos_avg: 0.0,
-        time_s: 0.0,
-        cutoff: false,
-    }
-}
-
-// What a particle after the sub-steps shows at its wall: its stoichiometries, there and on average, its open-circuit
-// potential, and the overpotential of its flux.
-fn wall_of(
-    config: SpmConfig,
-    params: ElectrodeParams,
-    n: usize,
-    c: &[f64; 64],
-    j_n: f64,
-    temp_k: f64,
-) -> Wall
-    requires { ⌜ (3 ≤ n) × (n ≤ 64) ⌝ }
-    ensures { λ r. ⌜ r ≡ wallOf config (particleOf params n (now (c .entry))) «j_n» «temp_k» ⌝ }
-{
-    Wall {
-        theta: surface_theta(params, n, c),
-        potential: surface_potential(params, n, c),
-        overpotential: bv_overpotential(config, j_n, params, n, c, temp_k),
-        theta_avg: average_theta(params, n, c),
-    }
-}
-
-// The report of a step, from both walls.
-fn reported(
-    config: SpmConfig,
-    i_app: f64,
-    neg: Wall,
-    pos: Wall,
-    current_a: f64,
-    time_s: f64,
-) -> SpmState
-    ensures { λ r. ⌜ r ≡ reportWith config «i_app» neg pos «current_a» «time_s» ⌝ }
-{
-    let eta_neg = -neg.overpotential;
-    let eta_pos = -pos.overpotential;
-    let v_ohm = i_app * config.r_electrolyte_ohm_m2;
-    let voltage = terminal_voltage(
-        neg.potential,
-        pos.potential,
-        eta_neg,
-        eta_pos,
-        v_ohm,
-        current_a,
-    );
-    SpmState {
-        voltage,
-        current: current_a,
-        theta_neg: neg.theta,
-        theta_pos: pos.theta,
-        theta_neg_avg: neg.theta_avg,
-        theta_pos_avg: pos.theta_avg,
-        time_s,
-        cutoff: (voltage < config.v_min) | (voltage > config.v_max),
-    }
-}
-
-// Whether the profiles after the sub-steps, as tested, and the report hold numbers only; the current is the one that was given.
-fn finite_with(profiles: bool, r: SpmState) -> bool
-    ensures { λ ok. ⌜ ok ≡ finiteWith profiles r ⌝ }
-{
-    profiles
-        & refusal::is_finite(r.voltage)
-        & refusal::is_finite(r.theta_neg)
-        & refusal::is_finite(r.theta_pos)
-        & refusal::is_finite(r.theta_neg_avg)
-        & refusal::is_finite(r.theta_pos_avg)
-        & refusal::is_finite(r.time_s)
-}
-
 // The number of the table that a cell meets, 0 for none: all of 1 before all of 2.
 fn cell_refusal<'a>(q: SpmParts, c_neg: &'a [f64; 64], c_pos: &'a [f64; 64]) -> u64
     ensures { λ r. ⌜ r ≡ cellRefusal (cellOf q (now («c_neg» .entry)) (now («c_pos» .entry))) ⌝ }
@@ -213,31 +88,6 @@ fn cell_refusal<'a>(q: SpmParts, c_neg: &'a [f64; 64], c_pos: &'a [f64; 64]) -> 
     refusal::refusal_unless(fits, refusal::SHEET)
 }
 
-// The number that a step's arguments meet.
-fn argument_refusal(current_a: f64, dt: f64, temp_k: f64) -> u64
-    ensures { λ r. ⌜ r ≡ argumentRefusal «current_a» dt «temp_k» ⌝ }
-{
-    let load = refusal::refusal_unless(refusal::load_fits(current_a, 1e6), refusal::LOAD);
-    let interval = refusal::refusal_unless(refusal::interval_fits(dt), refusal::INTERVAL);
-    let temperature = refusal::refusal_unless(
-        refusal::temperature_fits(temp_k),
-        refusal::TEMPERATURE,
-    );
-    refusal::first_met(load, refusal::first_met(interval, temperature))
-}
-
-// A step on lent profiles that is refused.
-fn refused_move(number: u64) -> SpmMoved
-    ensures { λ r. ⌜ r ≡ refusedMove number ⌝ }
-{
-    let state = no_state();
-    SpmMoved {
-        refusal: number,
-        state,
-        sub_steps: 0,
-    }
-}
-
 // What a step works with.
 fn plan_of(q: SpmParts, i_app: f64, dt: f64, temp_k: f64) -> Plan
     requires { ⌜ ((3 ≤ q .«n_neg») × (q .«n_neg» ≤ 64)) × ((3 ≤ q .«n_pos») × (q .«n_pos» ≤ 64)) ⌝ }
@@ -245,42 +95,6 @@ fn plan_of(q: SpmParts, i_app: f64, dt: f64, temp_k: f64) -> Plan
 {
     let faraday = q.config.faraday;
     plan_for(q.neg, q.n_neg, q.pos, q.n_pos, faraday, i_app, dt, temp_k)
-}
-
-// The sub-steps of a plan and the report after them; the profiles are put back where a number is not finite.
-fn follow(
-    q: SpmParts,
-    p: Plan,
-    c_neg: &mut [f64; 64],
-    c_pos: &mut [f64; 64],
-    current_a: f64,
-    dt: f64,
-    temp_k: f64,
-) -> SpmMoved
-    requires { ⌜ ((3 ≤ q .«n_neg») × (q .«n_neg» ≤ 64)) × ((3 ≤ q .«n_pos») × (q .«n_pos» ≤ 64)) ⌝ }
-    ensures { λ r. ⌜ FollowOf q p (now («c_neg» .entry)) (now («c_pos» .entry)) «current_a» dt «temp_k» r (now («c_neg» .exit)) (now («c_pos» .exit)) ⌝ }
-{
-    let old_neg = *c_neg;
-    let old_pos = *c_pos;
-    let turns = choice::ceil_count(p.q);
-    let k = turns as usize;
-    let h = dt / std::num::nearest_u64_to_f64(turns);
-    advance(q.neg, q.n_neg, c_neg, p.d_neg, p.j_neg, h, k);
-    advance(q.pos, q.n_pos, c_pos, p.d_pos, p.j_pos, h, k);
-    let anode = wall_of(q.config, q.neg, q.n_neg, c_neg, p.j_neg, temp_k);
-    let cathode = wall_of(q.config, q.pos, q.n_pos, c_pos, p.j_pos, temp_k);
-    let i_app = current_a / q.neg.area;
-    let state = reported(q.config, i_app, anode, cathode, current_a, q.time_s + dt);
-    if finite_with(profile_finite(c_neg) & profile_finite(c_pos), state) {
-        return SpmMoved {
-            refusal: 0,
-            state,
-            sub_steps: turns,
-        };
-    }
-    *c_neg = old_neg;
-    *c_pos = old_pos;
-    refused_move(refusal::NOT_FINITE)
 }
 
 // One step, the profiles changed in place; refused, they are as they were.

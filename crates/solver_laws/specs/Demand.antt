@@ -25,7 +25,8 @@ use Rattle.solver.specs.declared.SpmStep.{SpmStep}
 use Rattle.solver_plan.specs.declared.Plan.{Plan}
 use Rattle.solver.specs.Cell.{cellRefusal}
 use Rattle.solver_plan.specs.Plans.{subStepsOf}
-use Rattle.solver.specs.Step.{inputRefusal, currentDensity, planOf, profileAfter, advanced, stepped}
+use Rattle.solver_step.specs.Moves.{profileAfter}
+use Rattle.solver.specs.Step.{inputRefusal, currentDensity, planOf, advanced, stepped}
 use Rattle.solver_laws.specs.Electrodes.{Electrode, particleAt, diffusivityIn, fluxIn, electrode-passes, count-most, sub-step-ranged}
 use Rattle.solver_laws.specs.Closure.{SameMake, Leads, leads, step-stays, step-refused, step-make, next}
 

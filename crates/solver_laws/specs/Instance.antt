@@ -48,7 +48,8 @@ use Rattle.solver.specs.declared.SpmSolver.{SpmSolver}
 use Rattle.solver_plan.specs.declared.Plan.{Plan}
 use Rattle.solver.specs.Cell.{gridFits, cellFits, cellRefusal, buildRefusal, freshSolver, built, ready}
 use Rattle.solver_plan.specs.Plans.{planRefusal, subStepsOf}
-use Rattle.solver.specs.Step.{inputRefusal, stepped, reported, finiteStep, profileAfter, advanced, voltageOf, currentDensity, planOf, quotient}
+use Rattle.solver_step.specs.Moves.{profileAfter}
+use Rattle.solver.specs.Step.{inputRefusal, stepped, reported, finiteStep, advanced, voltageOf, currentDensity, planOf, quotient}
 use Rattle.solver_laws.specs.Electrodes.{Electrode, particleAt, diffusivityIn, fluxIn, nodes-are}
 use Rattle.solver_laws.specs.Closure.{electrode-next, accepted-where, step-stays, step-count}
 use Rattle.solver_laws.specs.Demand.{Call, answer, taken, K, planFor, numbersAt, KeptAt, place, exactPlace, solver-near, Accepted, at-accepted, Refused, at-refused}

@@ -10,6 +10,7 @@ pub literals : T (areDecimals
     literal 0x3e45_798e_e230_8c3a 1 8 ∷  -- 1e-8
     literal 0x3fdc_cccc_cccc_cccd 45 2 ∷  -- 0.45
     literal 0x40b0_0000_0000_0000 4096 0 ∷  -- 4096
+    literal 0x412e_8480_0000_0000 1000000 0 ∷  -- 1e6
     []))
 unfolding areDecimals round toBits
 literals = tt

@@ -5,6 +5,7 @@ use kinetics::wall_current;
 use particle::stable_step;
 ghost use mathlib.Core.Path.{_≡_};
 ghost use Prim.Native.Nat.{_≤_};
+ghost use Rattle.solver_plan.specs.Arguments.{argumentRefusal};
 ghost use Rattle.solver_plan.specs.Plans.{PlanOf, planRefusal};
 
 // What a step works with: diffusivities, fluxes, and the interval in units of the longest sub-step.
@@ -55,4 +56,17 @@ pub fn plan_refusal(p: Plan) -> u64
         refusal::refusal_unless(within, refusal::DIFFUSIVITY),
         refusal::refusal_unless(few, refusal::SUB_STEPS),
     )
+}
+
+// The number that a step's arguments meet.
+pub fn argument_refusal(current_a: f64, dt: f64, temp_k: f64) -> u64
+    ensures { λ r. ⌜ r ≡ argumentRefusal «current_a» dt «temp_k» ⌝ }
+{
+    let load = refusal::refusal_unless(refusal::load_fits(current_a, 1e6), refusal::LOAD);
+    let interval = refusal::refusal_unless(refusal::interval_fits(dt), refusal::INTERVAL);
+    let temperature = refusal::refusal_unless(
+        refusal::temperature_fits(temp_k),
+        refusal::TEMPERATURE,
+    );
+    refusal::first_met(load, refusal::first_met(interval, temperature))
 }

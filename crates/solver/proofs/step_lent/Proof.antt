@@ -1,16 +1,22 @@
 -- `solver::step_lent` meets its contract, stage by stage. Assumes nothing.
 use Prim.Native.Nat.{ℕ}
-use mathlib.Core.Path.{_≡_, refl, sym, subst, _∙_}
+use mathlib.Core.Path.{_≡_, refl, sym, _∙_, ap}
+use mathlib.Core.Bool.{Bool, true, false, cond}
+use mathlib.Core.List.{List}
 use lib.Ieee.{Float}
 use borrow.Author.Tests.{eq-eqb, ne-eqb}
-use Rattle.refusal.specs.Numbers.{firstMet}
+use Rattle.refusal.specs.Numbers.{firstMet, notFinite}
 use Rattle.solver_plan.specs.declared.Plan.{Plan}
-use Rattle.solver_plan.specs.Plans.{planRefusal}
+use Rattle.solver_plan.specs.Arguments.{argumentRefusal}
+use Rattle.solver_plan.specs.Plans.{planRefusal, subStepsOf}
+use Rattle.solver_report.specs.declared.SpmState.{SpmState}
+use Rattle.solver_step.specs.declared.SpmMoved.{SpmMoved}
+use Rattle.solver_step.specs.declared.SpmParts.{SpmParts}
+use Rattle.solver_step.specs.Moves.{Lent, lent, refusedMove, reportOn, finiteOn, finishedOn, followedOn}
 use Rattle.solver.specs.declared.SpmSolver.{SpmSolver}
-use Rattle.solver.specs.declared.SpmStep.{SpmStep}
 use Rattle.solver.specs.Cell.{cellRefusal, anode-nodes, cathode-nodes, NodesMet}
-use Rattle.solver.specs.Step.{argumentRefusal, input-cell, inputRefusal, currentDensity, planOf, refusedStep, planned, stepped}
-use Rattle.solver.specs.Parts.{cellOf, Told, followed}
+use Rattle.solver.specs.Step.{input-cell, inputRefusal, currentDensity, planOf, advanced, voltageOf, reported, finiteStep, refusedStep, finished, planned, stepped}
+use Rattle.solver.specs.Parts.{cellOf, Told, stepBy, followed}
 use borrow.Author.Needs.{needs}
 use Rattle.solver.proofs.step_lent.Statement.{statement}
 use Rattle.solver.proofs.step_lent.Tie as tie
@@ -37,6 +43,25 @@ module _ (s : SpmSolver) (i dt t : Float) (u g k : ℕ) (eu : u ≡ cellRefusal 
       to-end : n ≡ 0 → stepped s i dt t ≡ followed s p i dt t
       unfolding stepped planned
       to-end h = rw (← input-is, eq-eqb _ _ z, ← ep, ← en, eq-eqb _ _ h)
+
+-- what a followed plan leaves on lent profiles is what it answers of the cell: s before, z after
+module _ (r : SpmMoved) (a c : List Float) (s z : SpmSolver) (w : SpmState) (n : ℕ) where
+  by-parts : (x : Lent) → lent r a c ≡ x
+      → (r .refusal ≡ x .moved .refusal) × ((r .state ≡ x .moved .state) × ((r .«sub_steps» ≡ x .moved .«sub_steps») × ((a ≡ x .neg) × (c ≡ x .pos))))
+  by-parts x e =
+      (ap (λ (y : Lent). y .moved .refusal) e, (ap (λ (y : Lent). y .moved .state) e, (ap (λ (y : Lent). y .moved .«sub_steps») e, (ap (λ (y : Lent). y .neg) e, ap (λ (y : Lent). y .pos) e))))
+
+  told-by : (b : Bool) → lent r a c ≡ cond b (lent (record { refusal = 0; state = w; «sub_steps» = n }) (z .anode .«c_s») (z .cathode .«c_s»)) (lent (refusedMove notFinite) (s .anode .«c_s») (s .cathode .«c_s»))
+      → Told (cond b (stepBy 0 w n z) (refusedStep notFinite s)) r a c
+  told-by true e = by-parts _ e
+  told-by false e = by-parts _ e
+
+followed-told : (q : SpmParts) (p : Plan) (a c : List Float) (i dt t : Float) (r : SpmMoved) (a' c' : List Float)
+    → lent r a' c' ≡ followedOn q p a c i dt t → Told (followed (cellOf q a c) p i dt t) r a' c'
+unfolding followedOn finishedOn finiteOn reportOn finished finiteStep reported voltageOf currentDensity advanced
+followed-told q p a c i dt t r a' c' e =
+    let s = cellOf q a c in
+    told-by r a' c' s (advanced s p dt) (reported (advanced s p dt) p i t) (subStepsOf p) (finiteStep (advanced s p dt) (reported (advanced s p dt) p i t)) e
 
 cell-refusal-requires : tie.Need-cell-refusal-requires
 cell-refusal-requires c κs = search needs
@@ -89,7 +114,7 @@ returns-3 c =
     let a = c .before .before .before .before .before .before .before .before .before .before .before .before .before .args in
     let s = cellOf (a .q) (a .c-neg .now) (a .c-pos .now) in
     rw (to-end s (a .current-a) (a .dt) (a .temp-k) _ _ _ (c .before .before .before .before .before .before .before .before .before .before .cell-refusal .ensures) (c .before .before .before .before .before .before .before .before .before .argument-refusal .ensures) (c .before .before .before .before .before .before .before .before .first-met .ensures) (c .before .before .before .before .before .before .before .if1 .left) _ (c .before .before .before .before .before .plan-of .ensures _ _) _ (c .before .before .before .before .plan-refusal .ensures) (c .before .before .before .if2 .left))
-    (c .follow .ensures)
+    (followed-told (a .q) _ (a .c-neg .now) (a .c-pos .now) (a .current-a) (a .dt) (a .temp-k) _ _ _ (c .follow .ensures))
 
 pub step-lent-spec : {M : Type 1} → statement M
 step-lent-spec =

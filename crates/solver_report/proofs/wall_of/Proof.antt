@@ -1,7 +1,7 @@
--- `solver::wall_of` meets its contract. Assumes nothing.
+-- `solver_report::wall_of` meets its contract. Assumes nothing.
 use borrow.Author.Needs.{needs}
-use Rattle.solver.proofs.wall_of.Statement.{statement}
-use Rattle.solver.proofs.wall_of.Tie as tie
+use Rattle.solver_report.proofs.wall_of.Statement.{statement}
+use Rattle.solver_report.proofs.wall_of.Tie as tie
 
 surface-theta-requires : tie.Need-surface-theta-requires
 surface-theta-requires c κs = search needs

@@ -1,7 +1,7 @@
--- `solver::refused_move` meets its contract. Assumes nothing.
+-- `solver_step::refused_move` meets its contract. Assumes nothing.
 use borrow.Author.Needs.{needs}
-use Rattle.solver.proofs.refused_move.Statement.{statement}
-use Rattle.solver.proofs.refused_move.Tie as tie
+use Rattle.solver_step.proofs.refused_move.Statement.{statement}
+use Rattle.solver_step.proofs.refused_move.Tie as tie
 
 no-state-requires : tie.Need-no-state-requires
 no-state-requires c κs = search needs

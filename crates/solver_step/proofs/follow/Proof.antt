@@ -1,6 +1,6 @@
--- `solver::follow` meets its contract. Assumes nothing.
+-- `solver_step::follow` meets its contract. Assumes nothing.
 use Prim.Native.Nat.{ℕ}
-use mathlib.Core.Path.{_≡_, refl, ap₂, sym, _∙_}
+use mathlib.Core.Path.{_≡_, ap₂, sym, _∙_}
 use mathlib.Core.Bool.{Bool, cond, _&&_}
 use mathlib.Core.List.{List}
 use lib.Ieee.{Float}
@@ -10,38 +10,33 @@ use Rattle.diffusion.specs.SubStep.{subStep}
 use Rattle.refusal.specs.Numbers.{notFinite}
 use Rattle.profile.specs.Places.{finiteProfile}
 use Rattle.particle.specs.declared.ParticleDiffusion.{ParticleDiffusion}
-use Rattle.particle.specs.Particle.{driveWith, withProfile}
+use Rattle.particle.specs.Particle.{particleOf, driveWith}
 use Rattle.solver_plan.specs.declared.Plan.{Plan}
 use Rattle.solver_plan.specs.Plans.{subStepsOf}
-use Rattle.solver.specs.declared.SpmSolver.{SpmSolver}
-use Rattle.solver.specs.declared.SpmState.{SpmState}
-use Rattle.solver.specs.declared.Wall.{Wall}
-use Rattle.solver.specs.Step.{currentDensity, profileAfter, advanced, wallOf, reported, reportWith, report-is, finiteWith, finiteStep, refusedStep, finished}
-use Rattle.solver.specs.Parts.{cellOf, cellWith, stepBy, followed}
+use Rattle.solver_report.specs.declared.SpmState.{SpmState}
+use Rattle.solver_step.specs.declared.SpmParts.{SpmParts}
+use Rattle.solver_report.specs.declared.Wall.{Wall}
+use Rattle.solver_report.specs.Report.{wallOf, reportWith, finiteWith}
+use Rattle.solver_step.specs.Moves.{profileAfter, Lent, lent, refusedMove, negAfter, posAfter, reportOn, finiteOn, finishedOn, followedOn}
 use borrow.Author.Needs.{needs}
-use Rattle.solver.proofs.follow.Statement.{statement}
-use Rattle.solver.proofs.follow.Tie as tie
+use Rattle.solver_step.proofs.follow.Statement.{statement}
+use Rattle.solver_step.proofs.follow.Tie as tie
 
--- the cell with new profiles; what was found of it
-module _ (s : SpmSolver) (i dt t : Float) (p : Plan) where
-  module _ (a c : List Float) (ea : a ≡ profileAfter (s .anode) (p .«d_neg») (p .«j_neg») dt (subStepsOf p)) (ec : c ≡ profileAfter (s .cathode) (p .«d_pos») (p .«j_pos») dt (subStepsOf p)) where
-    cell-is : cellWith s dt a c ≡ advanced s p dt
-    unfolding advanced
-    cell-is = ap₂ (cellWith s dt) ea ec
+-- new profiles; what was found of them
+module _ (q : SpmParts) (i dt t : Float) (p : Plan) (old-neg old-pos a c : List Float) (ea : a ≡ negAfter q p old-neg dt) (ec : c ≡ posAfter q p old-pos dt) where
+  report-of : (w v : Wall) (r : SpmState) → w ≡ wallOf (q .config) (particleOf (q .neg) (q .«n_neg») a) (p .«j_neg») t → v ≡ wallOf (q .config) (particleOf (q .pos) (q .«n_pos») c) (p .«j_pos») t
+      → r ≡ reportWith (q .config) (i ⊘ q .neg .area) w v i (q .«time_s» ⊕ dt) → r ≡ reportOn q p a c i dt t
+  unfolding reportOn
+  report-of w v r ew ev er = er ∙ ap₂ (λ (x y : Wall). reportWith (q .config) (i ⊘ q .neg .area) x y i (q .«time_s» ⊕ dt)) ew ev
 
-    report-of : (w v : Wall) (r : SpmState) → w ≡ wallOf (s .config) (withProfile (s .anode) a) (p .«j_neg») t → v ≡ wallOf (s .config) (withProfile (s .cathode) c) (p .«j_pos») t
-        → r ≡ reportWith (s .config) (currentDensity s i) w v i (s .«time_s» ⊕ dt) → r ≡ reported (cellWith s dt a c) p i t
-    unfolding currentDensity
-    report-of w v r ew ev er = er ∙ ap₂ (λ (x y : Wall). reportWith (s .config) (currentDensity s i) x y i (s .«time_s» ⊕ dt)) ew ev ∙ sym (report-is (cellWith s dt a c) p i t)
+  tested : (fa fc f : Bool) (r : SpmState) → fa ≡ finiteProfile a → fc ≡ finiteProfile c → f ≡ finiteWith (fa && fc) r → f ≡ finiteOn a c r
+  unfolding finiteOn
+  tested fa fc f r ga gc g = g ∙ ap₂ (λ (x y : Bool). finiteWith (x && y) r) ga gc
 
-    tested : (fa fc f : Bool) (r : SpmState) → fa ≡ finiteProfile a → fc ≡ finiteProfile c → f ≡ finiteWith (fa && fc) r → f ≡ finiteStep (cellWith s dt a c) r
-    unfolding finiteStep
-    tested fa fc f r ga gc g = g ∙ ap₂ (λ (x y : Bool). finiteWith (x && y) r) ga gc
-
-    to-end : (r : SpmState) (f : Bool) → r ≡ reported (cellWith s dt a c) p i t → f ≡ finiteStep (cellWith s dt a c) r
-        → followed s p i dt t ≡ cond f (stepBy 0 r (subStepsOf p) (cellWith s dt a c)) (refusedStep notFinite s)
-    unfolding finished
-    to-end r f er g = rw (← cell-is, ← er, ← g)
+  to-end : (r : SpmState) (f : Bool) → r ≡ reportOn q p a c i dt t → f ≡ finiteOn a c r
+      → followedOn q p old-neg old-pos i dt t ≡ cond f (lent (record { refusal = 0; state = r; «sub_steps» = subStepsOf p }) a c) (lent (refusedMove notFinite) old-neg old-pos)
+  unfolding followedOn finishedOn
+  to-end r f er g = rw (← ea, ← ec, ← er, ← g)
 
 -- the profile as the program makes it: the count of sub-steps worked out once
 profile-by : (p : Plan) (dt : Float) (q : ParticleDiffusion) (d j : Float) (k : ℕ) (x : Float) → k ≡ subStepsOf p → x ≡ count k
@@ -80,35 +75,31 @@ finite-with-requires : tie.Need-finite-with-requires
 finite-with-requires c κs = search needs
 
 returns : tie.Need-returns
-unfolding currentDensity
 returns c =
     let a = c .before .before .before .before .before .before .before .before .before .before .before .before .before .before .before .before .before .before .before .before .before .args in
-    let s = cellOf (a .q) (a .c-neg .now) (a .c-pos .now) in
     let n = c .before .before .before .before .before .before .before .before .before .before .before .before .before .before .before .before .before .before .ceil-count .ensures in
     let m = c .before .before .before .before .before .before .before .before .before .before .before .before .before .before .before .before .before .nearest-u64-to-f64 .ensures in
     let neg = c .before .before .before .before .before .before .before .before .before .before .before .before .before .before .before .advance .ensures ∙ profile-by (a .p) (a .dt) _ _ _ _ _ n m in
     let pos = c .before .before .before .before .before .before .before .before .before .before .before .before .before .advance2 .ensures ∙ profile-by (a .p) (a .dt) _ _ _ _ _ n m in
-    let e = to-end s (a .current-a) (a .dt) (a .temp-k) (a .p) _ _ neg pos _ _
-    (report-of s (a .current-a) (a .dt) (a .temp-k) (a .p) _ _ neg pos _ _ _ (c .before .before .before .before .before .before .before .before .before .before .before .wall-of .ensures) (c .before .before .before .before .before .before .before .before .before .wall-of2 .ensures) (c .before .before .before .before .before .before .reported .ensures))
-    (tested s (a .current-a) (a .dt) (a .temp-k) (a .p) _ _ neg pos _ _ _ _ (c .before .before .before .before .profile-finite .ensures) (c .before .before .profile-finite2 .ensures) (c .before .finite-with .ensures)) in
-    rw (e, c .if1 .taken) (refl, (refl, (n, (refl, refl))))
+    let e = to-end (a .q) (a .current-a) (a .dt) (a .temp-k) (a .p) (a .c-neg .now) (a .c-pos .now) _ _ neg pos _ _
+    (report-of (a .q) (a .current-a) (a .dt) (a .temp-k) (a .p) (a .c-neg .now) (a .c-pos .now) _ _ neg pos _ _ _ (c .before .before .before .before .before .before .before .before .before .before .before .wall-of .ensures) (c .before .before .before .before .before .before .before .before .before .wall-of2 .ensures) (c .before .before .before .before .before .before .reported .ensures))
+    (tested (a .q) (a .current-a) (a .dt) (a .temp-k) (a .p) (a .c-neg .now) (a .c-pos .now) _ _ neg pos _ _ _ _ (c .before .before .before .before .profile-finite .ensures) (c .before .before .profile-finite2 .ensures) (c .before .finite-with .ensures)) in
+    rw (e, c .if1 .taken, ← n)
 
 refused-move-requires : tie.Need-refused-move-requires
 refused-move-requires c κs = search needs
 
 returns-2 : tie.Need-returns-2
-unfolding currentDensity
 returns-2 c =
     let a = c .before .before .before .before .before .before .before .before .before .before .before .before .before .before .before .before .before .before .before .before .before .before .args in
-    let s = cellOf (a .q) (a .c-neg .now) (a .c-pos .now) in
     let n = c .before .before .before .before .before .before .before .before .before .before .before .before .before .before .before .before .before .before .before .ceil-count .ensures in
     let m = c .before .before .before .before .before .before .before .before .before .before .before .before .before .before .before .before .before .before .nearest-u64-to-f64 .ensures in
     let neg = c .before .before .before .before .before .before .before .before .before .before .before .before .before .before .before .before .advance .ensures ∙ profile-by (a .p) (a .dt) _ _ _ _ _ n m in
     let pos = c .before .before .before .before .before .before .before .before .before .before .before .before .before .before .advance2 .ensures ∙ profile-by (a .p) (a .dt) _ _ _ _ _ n m in
-    let e = to-end s (a .current-a) (a .dt) (a .temp-k) (a .p) _ _ neg pos _ _
-    (report-of s (a .current-a) (a .dt) (a .temp-k) (a .p) _ _ neg pos _ _ _ (c .before .before .before .before .before .before .before .before .before .before .before .before .wall-of .ensures) (c .before .before .before .before .before .before .before .before .before .before .wall-of2 .ensures) (c .before .before .before .before .before .before .before .reported .ensures))
-    (tested s (a .current-a) (a .dt) (a .temp-k) (a .p) _ _ neg pos _ _ _ _ (c .before .before .before .before .before .profile-finite .ensures) (c .before .before .before .profile-finite2 .ensures) (c .before .before .finite-with .ensures)) in
-    rw (e, c .before .if1 .left, c .refused-move .ensures) (refl, (refl, (refl, (refl, refl))))
+    let e = to-end (a .q) (a .current-a) (a .dt) (a .temp-k) (a .p) (a .c-neg .now) (a .c-pos .now) _ _ neg pos _ _
+    (report-of (a .q) (a .current-a) (a .dt) (a .temp-k) (a .p) (a .c-neg .now) (a .c-pos .now) _ _ neg pos _ _ _ (c .before .before .before .before .before .before .before .before .before .before .before .before .wall-of .ensures) (c .before .before .before .before .before .before .before .before .before .before .wall-of2 .ensures) (c .before .before .before .before .before .before .before .reported .ensures))
+    (tested (a .q) (a .current-a) (a .dt) (a .temp-k) (a .p) (a .c-neg .now) (a .c-pos .now) _ _ neg pos _ _ _ _ (c .before .before .before .before .before .profile-finite .ensures) (c .before .before .before .profile-finite2 .ensures) (c .before .before .finite-with .ensures)) in
+    rw (e, c .before .if1 .left, c .refused-move .ensures)
 
 pub follow-spec : {M : Type 1} → statement M
 follow-spec =

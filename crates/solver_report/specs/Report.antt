@@ -1,0 +1,57 @@
+-- The report of a step, from what both particles show at their walls. Definitions only.
+use mathlib.Core.Bool.{Bool, false, _&&_, _||_}
+use lib.Ieee.{Float, lt, neg}
+use Rattle.binary64.specs.Operators.{_⊗_, f64}
+use Rattle.refusal.specs.Ranges.{finite}
+use Rattle.particle.specs.declared.ParticleDiffusion.{ParticleDiffusion}
+use Rattle.particle.specs.Particle.{surfaceTheta, surfacePotential, averageTheta}
+use Rattle.kinetics.specs.declared.SpmConfig.{SpmConfig}
+use Rattle.kinetics.specs.Kinetics.{overpotential, terminalVoltage}
+use Rattle.solver_report.specs.declared.SpmState.{SpmState}
+use Rattle.solver_report.specs.declared.Wall.{Wall}
+
+-- what a particle shows at its wall: stoichiometries, open-circuit potential, overpotential
+abbrev pub wallOf : SpmConfig → ParticleDiffusion → Float → Float → Wall
+wallOf g p j t = record {
+  theta = surfaceTheta p;
+  «theta_avg» = averageTheta p;
+  potential = surfacePotential p;
+  overpotential = overpotential g j p t;
+}
+
+abbrev reportAt : SpmConfig → Wall → Wall → Float → Float → Float → SpmState
+reportAt g a c i time v = record {
+  voltage = v;
+  current = i;
+  «theta_neg» = a .theta;
+  «theta_pos» = c .theta;
+  «theta_neg_avg» = a .«theta_avg»;
+  «theta_pos_avg» = c .«theta_avg»;
+  «time_s» = time;
+  cutoff = lt v (g .«v_min») || lt (g .«v_max») v;
+}
+
+-- from both walls
+abbrev pub reportWith : SpmConfig → Float → Wall → Wall → Float → Float → SpmState
+reportWith g density a c i time =
+    reportAt g a c i time
+    (terminalVoltage (a .potential) (c .potential) (neg (a .overpotential)) (neg (c .overpotential)) (density ⊗ g .«r_electrolyte_ohm_m2») i)
+
+-- 8: no NaN and no infinity in the new profiles and the report (the current is the one that was given)
+abbrev pub finiteWith : Bool → SpmState → Bool
+finiteWith profiles r =
+    profiles && finite (r .voltage) && finite (r .«theta_neg») && finite (r .«theta_pos») && finite (r .«theta_neg_avg») && finite (r .«theta_pos_avg»)
+    && finite (r .«time_s»)
+
+-- beside a refusal
+unfoldable pub noState : SpmState
+noState = record {
+  voltage = f64 0;
+  current = f64 0;
+  «theta_neg» = f64 0;
+  «theta_pos» = f64 0;
+  «theta_neg_avg» = f64 0;
+  «theta_pos_avg» = f64 0;
+  «time_s» = f64 0;
+  cutoff = false;
+}
