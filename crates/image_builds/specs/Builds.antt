@@ -21,7 +21,8 @@ use Rattle.dfn.specs.Build as D
 use Rattle.cell_images.specs.Images.{putCell}
 use Rattle.sheet_images.specs.Images.{sheetAt, configAt, putSheet, putParticle}
 use Rattle.electrolyte_images.specs.Images.{saltAt, putSalt, putElectrolyte}
-use Rattle.porous_images.specs.Images.{paramsAt, putParams}
+use Rattle.parameter_images.specs.Images.{paramsAt, putParams}
+use Rattle.parameter_images.specs.Images as G
 use Rattle.porous_images.specs.Images as I
 use Rattle.image_rows.specs.Written.{written}
 
@@ -57,7 +58,7 @@ electrolyteBuilt s =
 
 -- 12: parameters and grid
 unfoldable pub dfnMade : List ℕ → DfnBuild
-dfnMade s = D.made (paramsAt s) (I.configAt s)
+dfnMade s = D.made (paramsAt s) (G.configAt s)
 
 unfoldable pub newNumber : ℕ → List ℕ → ℕ
 newNumber call s =

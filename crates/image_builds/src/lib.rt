@@ -9,9 +9,9 @@ use electrolyte_images::electrolyte_at;
 use electrolyte_images::put_electrolyte;
 use electrolyte_images::put_salt;
 use electrolyte_parameters::ElectrolyteParams;
+use parameter_images::params_at;
+use parameter_images::put_params;
 use particle::ParticleDiffusion;
-use porous_images::params_at;
-use porous_images::put_params;
 use sheet_images::config_at;
 use sheet_images::put_particle;
 use sheet_images::put_sheet;
@@ -131,7 +131,7 @@ fn new_dfn(image: &[u8], answer: &mut [u8]) -> u64
     ensures number { λ r. ⌜ r ≡ dfnMade (now (image .entry)) .refusal ⌝ }
     ensures written { λ _. ⌜ now (answer .exit) ≡ written (dfnMade (now (image .entry)) .refusal) (P.putCell (now (answer .entry)) (dfnMade (now (image .entry)) .cell)) (now (answer .entry)) ⌝ }
 {
-    let new = DfnSolver::new(params_at(image), porous_images::config_at(image));
+    let new = DfnSolver::new(params_at(image), parameter_images::config_at(image));
     let refusal = new.refusal;
     if refusal == 0 {
         let made = new.cell;

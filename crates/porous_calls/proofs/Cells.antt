@@ -11,7 +11,8 @@ use Rattle.dfn.specs.declared.DfnReported.{DfnReported}
 use Rattle.dfn.specs.declared.DfnAnswer.{DfnAnswer}
 use Rattle.dfn.specs.Step.{stepped}
 use Rattle.dfn.specs.Parts.{Told, StepOf, cellBy, answerOf, answer-kept, answer-made}
-use Rattle.porous_images.specs.Images.{paramsAt, configAt, cellAt, putCellPlaces, putLast, putCell, putReport}
+use Rattle.parameter_images.specs.Images.{paramsAt, configAt}
+use Rattle.porous_images.specs.Images.{cellAt, putCellPlaces, putLast, putCell, putReport}
 use Rattle.image_rows.specs.Written.{accepted, refused}
 use Rattle.porous_calls.specs.Steps.{putStepped, dfnNumber, dfnAfter}
 

@@ -68,8 +68,8 @@ pub fn dfn_step(cell: &[u8], current_a: f64, dt_s: f64, answer: &mut [u8]) -> u6
     ensures number { λ r. ⌜ r ≡ dfnNumber (now (cell .entry)) «current_a» «dt_s» ⌝ }
     ensures written { λ _. ⌜ now (answer .exit) ≡ dfnAfter (now (cell .entry)) «current_a» «dt_s» (now (answer .entry)) ⌝ }
 {
-    let p = porous_images::params_at(cell);
-    let g = porous_images::config_at(cell);
+    let p = parameter_images::params_at(cell);
+    let g = parameter_images::config_at(cell);
     let t = codec::read_f64(cell, 1121);
     let mut neg = [0.0; 512];
     fill_512(cell, 64, &mut neg);

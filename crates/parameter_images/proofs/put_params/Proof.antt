@@ -1,8 +1,8 @@
--- `porous_images::put_params` meets its contract. Assumes nothing.
-use Rattle.porous_images.specs.Images.{putParams}
+-- `parameter_images::put_params` meets its contract. Assumes nothing.
+use Rattle.parameter_images.specs.Images.{putParams}
 use borrow.Author.Needs.{needs}
-use Rattle.porous_images.proofs.put_params.Statement.{statement}
-use Rattle.porous_images.proofs.put_params.Tie as tie
+use Rattle.parameter_images.proofs.put_params.Statement.{statement}
+use Rattle.parameter_images.proofs.put_params.Tie as tie
 
 numbers-of-requires : tie.Need-numbers-of-requires
 numbers-of-requires c κs = search needs

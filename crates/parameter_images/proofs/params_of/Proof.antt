@@ -1,9 +1,9 @@
--- `porous_images::params_of` meets its contract. Assumes nothing.
-use Rattle.porous_images.specs.Images.{paramsOf}
+-- `parameter_images::params_of` meets its contract. Assumes nothing.
+use Rattle.parameter_images.specs.Images.{paramsOf}
 use mathlib.Core.Path.{refl}
 use borrow.Author.Needs.{needs}
-use Rattle.porous_images.proofs.params_of.Statement.{statement}
-use Rattle.porous_images.proofs.params_of.Tie as tie
+use Rattle.parameter_images.proofs.params_of.Statement.{statement}
+use Rattle.parameter_images.proofs.params_of.Tie as tie
 
 array-read-t9 : tie.Need-array-read-t9
 array-read-t9 c = search needs

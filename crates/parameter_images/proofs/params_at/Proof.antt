@@ -1,8 +1,8 @@
--- `porous_images::params_at` meets its contract. Assumes nothing.
-use Rattle.porous_images.specs.Images.{paramsAt}
+-- `parameter_images::params_at` meets its contract. Assumes nothing.
+use Rattle.parameter_images.specs.Images.{paramsAt}
 use borrow.Author.Needs.{needs}
-use Rattle.porous_images.proofs.params_at.Statement.{statement}
-use Rattle.porous_images.proofs.params_at.Tie as tie
+use Rattle.parameter_images.proofs.params_at.Statement.{statement}
+use Rattle.parameter_images.proofs.params_at.Tie as tie
 
 slice-aggregate-read-places : tie.Need-slice-aggregate-read-places
 slice-aggregate-read-places c = search needs

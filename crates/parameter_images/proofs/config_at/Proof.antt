@@ -1,8 +1,8 @@
--- `porous_images::config_at` meets its contract. Assumes nothing.
-use Rattle.porous_images.specs.Images.{configAt}
+-- `parameter_images::config_at` meets its contract. Assumes nothing.
+use Rattle.parameter_images.specs.Images.{configAt}
 use borrow.Author.Needs.{needs}
-use Rattle.porous_images.proofs.config_at.Statement.{statement}
-use Rattle.porous_images.proofs.config_at.Tie as tie
+use Rattle.parameter_images.proofs.config_at.Statement.{statement}
+use Rattle.parameter_images.proofs.config_at.Tie as tie
 
 read-word-requires : tie.Need-read-word-requires
 read-word-requires c κs = search needs

@@ -1,8 +1,8 @@
--- `porous_images::put_config` meets its contract. Assumes nothing.
-use Rattle.porous_images.specs.Images.{putConfig}
+-- `parameter_images::put_config` meets its contract. Assumes nothing.
+use Rattle.parameter_images.specs.Images.{putConfig}
 use borrow.Author.Needs.{needs}
-use Rattle.porous_images.proofs.put_config.Statement.{statement}
-use Rattle.porous_images.proofs.put_config.Tie as tie
+use Rattle.parameter_images.proofs.put_config.Statement.{statement}
+use Rattle.parameter_images.proofs.put_config.Tie as tie
 
 write-word-requires : tie.Need-write-word-requires
 write-word-requires c κs = search needs
