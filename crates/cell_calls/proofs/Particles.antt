@@ -4,15 +4,14 @@ use mathlib.Core.List.{List}
 use Prim.Native.Nat.{ℕ}
 use lib.Ieee.{Float}
 use Rattle.binary64.specs.Operators.{_⊕_}
-use Rattle.codec.specs.Words.{putFloat, placesAt}
-use Rattle.particle.specs.Particle.{particleOf}
+use Rattle.codec.specs.Words.{placesAt}
 use Rattle.solver_step.specs.declared.SpmParts.{SpmParts}
 use Rattle.solver_step.specs.declared.SpmMoved.{SpmMoved}
 use Rattle.solver.specs.declared.SpmStep.{SpmStep}
-use Rattle.solver.specs.Step.{stepped, refusedStep}
+use Rattle.solver.specs.Step.{stepped}
 use Rattle.solver.specs.Parts.{partsOf, Told, StepOf, cellWith, stepBy, answer-kept, answer-made}
 use Rattle.cell_images.specs.Images.{cellAt, putCell, putReport}
-use Rattle.sheet_images.specs.Images.{particleAt, putParticle, putConfig}
+use Rattle.sheet_images.specs.Images.{particleAt}
 use Rattle.image_rows.specs.Written.{accepted, refused}
 use Rattle.cell_calls.specs.Steps.{putStepped, cellNumber, cellAfter}
 

@@ -6,13 +6,12 @@ use lib.Ieee.{Float}
 use Rattle.codec.specs.Words.{floatAt, placesAt}
 use Rattle.dfn_parameters.specs.declared.DfnParams.{DfnParams}
 use Rattle.dfn_parameters.specs.declared.DfnConfig.{DfnConfig}
-use Rattle.dfn.specs.declared.DfnStep.{DfnStep}
 use Rattle.dfn.specs.declared.DfnReported.{DfnReported}
 use Rattle.dfn.specs.declared.DfnAnswer.{DfnAnswer}
 use Rattle.dfn.specs.Step.{stepped}
 use Rattle.dfn.specs.Parts.{Told, StepOf, cellBy, answerOf, answer-kept, answer-made}
 use Rattle.parameter_images.specs.Images.{paramsAt, configAt}
-use Rattle.porous_images.specs.Images.{cellAt, putCellPlaces, putLast, putCell, putReport}
+use Rattle.porous_images.specs.Images.{cellAt, putCell, putReport}
 use Rattle.image_rows.specs.Written.{accepted, refused}
 use Rattle.porous_calls.specs.Steps.{putStepped, dfnNumber, dfnAfter}
 

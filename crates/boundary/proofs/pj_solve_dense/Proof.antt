@@ -1,8 +1,7 @@
 -- `boundary::pj_solve_dense` meets its contract. Assumes nothing.
 use mathlib.Core.Path.{refl}
-use lib.ListN.{length}
 use Rattle.dense.specs.declared.Solved.{Solved}
-use Rattle.codec.specs.Words.{putRow, putPlaces}
+use Rattle.codec.specs.Words.{putRow}
 use Rattle.image_rows.specs.Written.{accepted, refused}
 use Rattle.boundary.specs.Calls.{met, denseNumber, denseAfter}
 use Rattle.boundary.proofs.Answers.{on, off}
