@@ -29,6 +29,10 @@ rowCleared n col pivot row s = rowLess n col row (entry (s .matrix) row col ⊘ 
 unfoldable pub columnCleared : ℕ → ℕ → System → System
 columnCleared n col s = forRange (col + 1) n (rowCleared n col (entry (s .matrix) col col)) s
 
--- row `row` exchanged with row `col`, then the column cleared. The Rust leaves the exchange out where the two rows are one; it changes nothing then.
+-- row `row` exchanged with row `col`. The Rust leaves the exchange out where the two rows are one; it changes nothing then.
+abbrev pub rowsExchanged : ℕ → ℕ → ℕ → System → System
+rowsExchanged n col row s = system (rowsSwapped col row n (s .matrix)) (swapped col row (s .side))
+
+-- row `row` exchanged with row `col`, then the column cleared
 unfoldable pub pivotTaken : ℕ → ℕ → ℕ → System → System
-pivotTaken n col row s = columnCleared n col (system (rowsSwapped col row n (s .matrix)) (swapped col row (s .side)))
+pivotTaken n col row s = columnCleared n col (rowsExchanged n col row s)

@@ -5,7 +5,7 @@ use matrix_rows::swap_places;
 use matrix_rows::swap_rows;
 ghost use mathlib.Core.Path.{_≡_};
 ghost use Prim.Native.Nat.{_<_, _≤_};
-ghost use Rattle.matrix_columns.specs.Columns.{system, columnCleared, pivotTaken};
+ghost use Rattle.matrix_columns.specs.Columns.{system, columnCleared, rowsExchanged, pivotTaken};
 
 // Clears column `col` below its pivot, on both sides.
 fn clear_column(a: &mut [f64; 1024], x: &mut [f64; 32], col: usize, n: usize)
@@ -20,12 +20,23 @@ fn clear_column(a: &mut [f64; 1024], x: &mut [f64; 32], col: usize, n: usize)
     }
 }
 
-// Takes the pivot of column `col` from row `row`. A row swapped with itself stays as it is.
+// Exchanges the rows `col` and `row`, on both sides; a row with itself stays as it is.
+fn exchange_rows(a: &mut [f64; 1024], x: &mut [f64; 32], col: usize, row: usize, n: usize)
+    requires { ⌜ (col < n) × ((row < n) × (n ≤ 32)) ⌝ }
+    ensures { λ _. ⌜ system (now (a .exit)) (now (x .exit)) ≡ rowsExchanged n col row (system (now (a .entry)) (now (x .entry))) ⌝ }
+{
+    if row == col {
+        return;
+    }
+    swap_rows(a, col, row, n);
+    swap_places(x, col, row);
+}
+
+// Takes the pivot of column `col` from row `row`.
 pub fn take_pivot(a: &mut [f64; 1024], x: &mut [f64; 32], col: usize, row: usize, n: usize)
     requires { ⌜ (col < n) × ((row < n) × (n ≤ 32)) ⌝ }
     ensures { λ _. ⌜ system (now (a .exit)) (now (x .exit)) ≡ pivotTaken n col row (system (now (a .entry)) (now (x .entry))) ⌝ }
 {
-    swap_rows(a, col, row, n);
-    swap_places(x, col, row);
+    exchange_rows(a, x, col, row, n);
     clear_column(a, x, col, n);
 }
