@@ -36,7 +36,7 @@ module _ (q : SpmParts) (i dt t : Float) (p : Plan) (old-neg old-pos a c : List 
   to-end : (r : SpmState) (f : Bool) → r ≡ reportOn q p a c i dt t → f ≡ finiteOn a c r
       → followedOn q p old-neg old-pos i dt t ≡ cond f (lent (record { refusal = 0; state = r; «sub_steps» = subStepsOf p }) a c) (lent (refusedMove notFinite) old-neg old-pos)
   unfolding followedOn finishedOn
-  to-end r f er g = rw (← ea, ← ec, ← er, ← g)
+  to-end r f er g = rw (g, er, ea, ec)
 
 -- the profile as the program makes it: the count of sub-steps worked out once
 profile-by : (p : Plan) (dt : Float) (q : ParticleDiffusion) (d j : Float) (k : ℕ) (x : Float) → k ≡ subStepsOf p → x ≡ count k
