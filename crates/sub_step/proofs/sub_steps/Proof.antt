@@ -1,6 +1,6 @@
 -- `sub_step::sub_steps` meets its contract: k sub-steps are made after k turns. Assumes nothing.
 use Prim.Native.Nat.{_≤_, _-_}
-use mathlib.Core.Path.{_≡_, refl}
+use mathlib.Core.Path.{_≡_, refl, ap, _∙_}
 use native.Mathlib.Omega.{arith}
 use native.Mathlib.Numerals.{add-one}
 use Rattle.turns.specs.Turns.{times}
@@ -30,7 +30,10 @@ loop-less c = search needs
 
 loop-again : tie.Need-loop-again Inv-loop μ-loop
 unfolding times
-loop-again c = (search needs, rw (add-one, c .sub-step .ensures, c .before .before .loop .inv .1))
+loop-again c =
+    let old = c .before .before .loop in
+    let a = c .before .before .before .args in
+    (search needs, rw add-one (c .sub-step .ensures ∙ ap (subStepBy (a .v) (a .w .now)) (old .inv .1)))
 
 returns : tie.Need-returns Inv-loop μ-loop
 returns c = let e : c .before .loop .k ≡ c .before .before .args .turns = omega arith in
