@@ -88,30 +88,22 @@ fn shell_node(v: Drive, w: f64, before: f64, here: f64, after: f64) -> f64
     moved(v, here, shell_rate(v, w, before, here, after))
 }
 
-// Moves every node of a profile in place, each from its old neighbours, of which the one before is kept aside. The flux gives
-// the surface a neighbour outside.
-fn move_nodes(v: Drive, w: &[f64; 64], c: &mut [f64; 64])
-    requires { ⌜ (3 ≤ v .n) × (v .n ≤ 64) ⌝ }
-    ensures { λ _. ⌜ now (c .exit) ≡ subStepBy v (now (w .entry)) (now (c .entry)) ⌝ }
-{
-    let last = v.n - 1;
-    let mut before = c[0];
-    c[0] = moved(v, before, centre_rate(v, before, c[1]));
-    for i in 1..last {
-        let here = c[i];
-        c[i] = shell_node(v, w[i], before, here, c[i + 1]);
-        before = here;
-    }
-    c[last] = shell_node(v, w[last], before, c[last], before + v.push);
-}
-
-// The profile after a sub-step.
+// The profile after a sub-step: each node from its old neighbours, of which the one before is kept aside. The flux gives the surface a
+// neighbour outside.
 fn sub_step(v: Drive, w: &[f64; 64], c: [f64; 64]) -> [f64; 64]
     requires { ⌜ (3 ≤ v .n) × (v .n ≤ 64) ⌝ }
     ensures { λ r. ⌜ r ≡ subStepBy v (now (w .entry)) c ⌝ }
 {
+    let last = v.n - 1;
     let mut out = c;
-    move_nodes(v, w, &mut out);
+    let mut before = out[0];
+    out[0] = moved(v, before, centre_rate(v, before, out[1]));
+    for i in 1..last {
+        let here = out[i];
+        out[i] = shell_node(v, w[i], before, here, out[i + 1]);
+        before = here;
+    }
+    out[last] = shell_node(v, w[last], before, out[last], before + v.push);
     out
 }
 
