@@ -6,7 +6,7 @@
  * even that of an empty slice, and what one call is lent must not overlap. Images may lie at any address; doubles are aligned.
  *
  * Each call returns 0, or the number of a refusal (document 01's table). A wrong length of an image or of an answer is
- * refused with 10 before all else; a number of a call that is not listed here with 2, whatever the lengths. A refusal changes nothing
+ * refused with 10 before the table's 1; a number of a call that is not listed here with 2, whatever the lengths. A refusal changes nothing
  * that was lent; but a run that is refused after its first row keeps its finished rows and gives the answer: the cell after
  * them, 4, the count of rows. A run that is refused before its first row writes no answer.
  */
