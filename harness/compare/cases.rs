@@ -534,6 +534,13 @@ fn dfn_steps(draw: &mut Draw, _: u64) -> Case {
     listed(draw, Record::DfnCell, &cell.slots(), build, turns)
 }
 
+/// A step in which all digits of the electrolyte's diffusivities show.
+fn dfn_exponents(draw: &mut Draw, _: u64) -> Case {
+    let (cell, dt) = records::by_exponents(draw);
+    let current = records::current(draw, cell.params.numbers[3]);
+    Case { start: image_of(Record::DfnCell.parts(), &cell.slots()), turns: vec![Turn::new(draw, Function::DfnStep, &[current, dt])] }
+}
+
 fn galvanostatic(draw: &mut Draw, _: u64) -> Case {
     let (mut cell, mut build) = some_dfn(draw);
     let (current, dt) = (dfn_current(draw, &cell), dfn_interval(draw, &cell));
@@ -657,10 +664,10 @@ fn random_byte(draw: &mut Draw, turn: u64) -> Case {
 }
 
 /// The plans in turn, some more often than others.
-pub const PLANS: [Plan; 24] = [
+pub const PLANS: [Plan; 25] = [
     sheet_numbers, particle_steps, cell_steps, electrolyte_steps, dfn_steps, solve, discharges, galvanostatic, ready, salt_numbers,
     particle_steps, cell_steps, random_byte, dfn_steps, solve, sphere, electrolyte_steps, random_images, particle_steps, cell_steps,
-    sheet_numbers, dfn_steps, discharges, galvanostatic,
+    sheet_numbers, dfn_steps, discharges, galvanostatic, dfn_exponents,
 ];
 
 /// A case by its number; it depends on the seed and the number alone.
