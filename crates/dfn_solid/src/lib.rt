@@ -3,7 +3,7 @@
 
 ghost use mathlib.Core.Path.{_≡_};
 ghost use Prim.Native.Nat.{_+_, _<_, _≤_};
-ghost use Rattle.dfn_solid.specs.Solid.{dSolid, dSolids, innerWith, surfaceWith, centreWith, nodeWith, particleWith, atLeastOne, solidAfter};
+ghost use Rattle.dfn_solid.specs.Solid.{dSolid, dSolids, innerWith, surfaceWith, centreWith, particleWith, atLeastOne, solidAfter};
 
 // What the particles of one electrode work with: nodes of each, their distance, diffusivity, largest concentration, flux, interval.
 pub struct Grain {
@@ -67,29 +67,18 @@ fn centre_node(v: Grain, c: &[f64; 512], d: &[f64; 512], base: usize) -> f64
     inner_node(v, c, d, base + 1, 1)
 }
 
-// The node i of the particle at `base`.
-fn node(v: Grain, c: &[f64; 512], d: &[f64; 512], base: usize, i: usize) -> f64
-    requires { ⌜ (2 ≤ v .n) × ((base + v .n ≤ 512) × (i < v .n)) ⌝ }
-    ensures { λ r. ⌜ r ≡ nodeWith v (now (c .entry)) (now (d .entry)) base i ⌝ }
-{
-    if i == 0 {
-        return centre_node(v, c, d, base);
-    }
-    if i + 1 < v.n {
-        return inner_node(v, c, d, base + i, i);
-    }
-    surface_node(v, c, d, base + i)
-}
-
-// Puts the particle at `base` anew, each node held to 0 to the largest concentration.
+// Puts the particle at `base` anew, each node held to 0 to the largest concentration: the centre, the nodes between, whose loop has no
+// branch, and the surface.
 fn move_particle(v: Grain, c: &[f64; 512], d: &[f64; 512], base: usize, out: &mut [f64; 512])
     requires { ⌜ (2 ≤ v .n) × (base + v .n ≤ 512) ⌝ }
     ensures { λ _. ⌜ now (out .exit) ≡ particleWith v (now (c .entry)) (now (d .entry)) base (now (out .entry)) ⌝ }
 {
-    let n = v.n;
-    for i in 0..n {
-        out[base + i] = choice::clamp(node(v, c, d, base, i), 0.0, v.c_max);
+    let last = v.n - 1;
+    out[base] = choice::clamp(centre_node(v, c, d, base), 0.0, v.c_max);
+    for i in 1..last {
+        out[base + i] = choice::clamp(inner_node(v, c, d, base + i, i), 0.0, v.c_max);
     }
+    out[base + last] = choice::clamp(surface_node(v, c, d, base + last), 0.0, v.c_max);
 }
 
 // A count, or 1 for none.

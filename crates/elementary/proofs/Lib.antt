@@ -1,4 +1,5 @@
 pub mod ExpLaws
+pub mod LastTermsLaws
 pub mod LnLaws
 pub mod LnSplits
 pub mod Literals

@@ -1,4 +1,5 @@
 pub mod Exp
+pub mod LastTerms
 pub mod Ln
 pub mod Asinh
 pub mod Power

@@ -5,6 +5,7 @@ ghost use mathlib.Core.Path.{_≡_};
 ghost use Prim.Native.Nat.{_≤_};
 ghost use lib.Ieee.{binary64, ofInt, minus};
 ghost use Rattle.elementary.specs.Exp.{one, series, squarings, expOf};
+ghost use Rattle.elementary.specs.LastTerms.{lastTerms, MeetAtSeries};
 ghost use Rattle.elementary.specs.Ln.{lnParts, lnOf};
 ghost use Rattle.elementary.specs.Asinh.{asinhOf};
 ghost use Rattle.elementary.specs.Power.{powfOf, squareOf, cubeOf, fourthOf};
@@ -20,6 +21,57 @@ fn exp_series(y: f64) -> f64
         k -= 1;
     }
     a
+}
+
+// The last terms of the series, from a start below what the terms before them give and from one above.
+struct Bracket {
+    low: f64,
+    high: f64,
+}
+
+// The last terms of the series of y, from 3/4 and from 5/4: two chains of divisions, neither of which waits for the other.
+fn last_terms(y: f64, terms: u32) -> Bracket
+    ensures { λ r. ⌜ r ≡ lastTerms terms y ⌝ }
+{
+    let mut low: f64 = 0.75;
+    let mut high: f64 = 1.25;
+    let mut k = terms;
+    while k > 0 {
+        let d = k as f64;
+        low = 1.0 + (low * y) / d;
+        high = 1.0 + (high * y) / d;
+        k -= 1;
+    }
+    Bracket { low, high }
+}
+
+// The series of y: what its last terms come to from both starts, where that is one number, else from its first term.
+fn series_from_last(b: Bracket, y: f64) -> f64
+    requires { ⌜ MeetAtSeries b y ⌝ }
+    ensures { λ r. ⌜ r ≡ series 18 y one ⌝ }
+{
+    if b.low == b.high {
+        return b.low;
+    }
+    exp_series(y)
+}
+
+// The same series with fewer divisions to wait for. The terms before the last ones give a number between the two starts, and each term
+// keeps the order of two numbers or turns it round; so where the last terms come to one number from both starts, the series comes to it.
+// How many terms bring them together is found by trial: where they are too few, the whole series is made.
+fn short_series(y: f64) -> f64
+    ensures { λ r. ⌜ r ≡ series 18 y one ⌝ }
+{
+    if (-0.125 <= y) & (y <= 0.125) {
+        if (-0.001953125 <= y) & (y <= 0.001953125) {
+            return series_from_last(last_terms(y, 6), y);
+        }
+        if (-0.015625 <= y) & (y <= 0.015625) {
+            return series_from_last(last_terms(y, 8), y);
+        }
+        return series_from_last(last_terms(y, 12), y);
+    }
+    exp_series(y)
 }
 
 // a to the power 1024.
@@ -49,7 +101,7 @@ pub fn exp(t: f64) -> f64
     if t < -708.0 {
         return 0.0;
     }
-    exp_squarings(exp_series(t / 1024.0))
+    exp_squarings(short_series(t / 1024.0))
 }
 
 // w - 1074 as a float.

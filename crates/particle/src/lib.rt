@@ -9,7 +9,6 @@ use refusal::Answer;
 use sub_step::count_f64;
 use sub_step::inverse_radii;
 use sub_step::prepare;
-use sub_step::sub_step;
 use sub_step::sub_steps;
 ghost use mathlib.Core.Path.{_≡_};
 ghost use Prim.Native.Nat.{_≤_};
@@ -100,34 +99,23 @@ pub fn average_theta(params: ElectrodeParams, n: usize, c: &[f64; 64]) -> f64
     average(params, n, c) / params.c_s_max
 }
 
-// The profile after one sub-step of the length dt.
-fn after(params: ElectrodeParams, n: usize, c: [f64; 64], d_s: f64, j_n: f64, dt: f64) -> [f64; 64]
-    requires { ⌜ (3 ≤ n) × (n ≤ 64) ⌝ }
-    ensures { λ r. ⌜ r ≡ subStep (driveWith (particleOf params n c) «d_s» «j_n» dt) c ⌝ }
-{
-    let dr = spacing(params, n);
-    let v = prepare(n, dr, d_s, params.c_s_max, j_n, dt);
-    let w = inverse_radii(n, dr);
-    sub_step(v, &w, c)
-}
-
-// So many sub-steps of the length dt, in place.
+// The profile after so many sub-steps of the length dt.
 pub fn advance(
     params: ElectrodeParams,
     n: usize,
-    c: &mut [f64; 64],
+    c: [f64; 64],
     d_s: f64,
     j_n: f64,
     dt: f64,
     turns: usize,
-)
+) -> [f64; 64]
     requires { ⌜ (3 ≤ n) × (n ≤ 64) ⌝ }
-    ensures { λ _. ⌜ now (c .exit) ≡ times turns (subStep (driveWith (particleOf params n (now (c .entry))) «d_s» «j_n» dt)) (now (c .entry)) ⌝ }
+    ensures { λ r. ⌜ r ≡ times turns (subStep (driveWith (particleOf params n c) «d_s» «j_n» dt)) c ⌝ }
 {
     let dr = spacing(params, n);
     let v = prepare(n, dr, d_s, params.c_s_max, j_n, dt);
     let w = inverse_radii(n, dr);
-    sub_steps(v, &w, c, turns);
+    sub_steps(v, &w, c, turns)
 }
 
 impl ParticleDiffusion {
@@ -228,7 +216,7 @@ impl ParticleDiffusion {
         let params = self.params;
         let d_s = params.diffusivity_at(temp_k);
         let old = self.c_s;
-        let c_s = after(params, self.n_nodes, old, d_s, j_n, dt);
+        let c_s = advance(params, self.n_nodes, old, d_s, j_n, dt, 1);
         self.accepted(c_s)
     }
 

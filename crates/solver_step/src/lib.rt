@@ -43,7 +43,7 @@ pub fn refused_move(number: u64) -> SpmMoved
     }
 }
 
-// The sub-steps of a plan and the report after them; the profiles are put back where a number is not finite.
+// The sub-steps of a plan and the report after them; the profiles stay as they were where a number is not finite.
 pub fn follow(
     q: SpmParts,
     p: Plan,
@@ -56,25 +56,23 @@ pub fn follow(
     requires { ⌜ ((3 ≤ q .«n_neg») × (q .«n_neg» ≤ 64)) × ((3 ≤ q .«n_pos») × (q .«n_pos» ≤ 64)) ⌝ }
     ensures { λ r. ⌜ lent r (now («c_neg» .exit)) (now («c_pos» .exit)) ≡ followedOn q p (now («c_neg» .entry)) (now («c_pos» .entry)) «current_a» dt «temp_k» ⌝ }
 {
-    let old_neg = *c_neg;
-    let old_pos = *c_pos;
     let turns = choice::ceil_count(p.q);
     let k = turns as usize;
     let h = dt / std::num::nearest_u64_to_f64(turns);
-    advance(q.neg, q.n_neg, c_neg, p.d_neg, p.j_neg, h, k);
-    advance(q.pos, q.n_pos, c_pos, p.d_pos, p.j_pos, h, k);
-    let anode = wall_of(q.config, q.neg, q.n_neg, c_neg, p.j_neg, temp_k);
-    let cathode = wall_of(q.config, q.pos, q.n_pos, c_pos, p.j_pos, temp_k);
+    let neg = advance(q.neg, q.n_neg, *c_neg, p.d_neg, p.j_neg, h, k);
+    let pos = advance(q.pos, q.n_pos, *c_pos, p.d_pos, p.j_pos, h, k);
+    let anode = wall_of(q.config, q.neg, q.n_neg, &neg, p.j_neg, temp_k);
+    let cathode = wall_of(q.config, q.pos, q.n_pos, &pos, p.j_pos, temp_k);
     let i_app = current_a / q.neg.area;
     let state = reported(q.config, i_app, anode, cathode, current_a, q.time_s + dt);
-    if finite_with(profile_finite(c_neg) & profile_finite(c_pos), state) {
+    if finite_with(profile_finite(&neg) & profile_finite(&pos), state) {
+        *c_neg = neg;
+        *c_pos = pos;
         return SpmMoved {
             refusal: 0,
             state,
             sub_steps: turns,
         };
     }
-    *c_neg = old_neg;
-    *c_pos = old_pos;
     refused_move(refusal::NOT_FINITE)
 }

@@ -106,7 +106,7 @@ fn move_nodes(v: Drive, w: &[f64; 64], c: &mut [f64; 64])
 }
 
 // The profile after a sub-step.
-pub fn sub_step(v: Drive, w: &[f64; 64], c: [f64; 64]) -> [f64; 64]
+fn sub_step(v: Drive, w: &[f64; 64], c: [f64; 64]) -> [f64; 64]
     requires { ⌜ (3 ≤ v .n) × (v .n ≤ 64) ⌝ }
     ensures { λ r. ⌜ r ≡ subStepBy v (now (w .entry)) c ⌝ }
 {
@@ -115,12 +115,15 @@ pub fn sub_step(v: Drive, w: &[f64; 64], c: [f64; 64]) -> [f64; 64]
     out
 }
 
-// So many sub-steps, in place.
-pub fn sub_steps(v: Drive, w: &[f64; 64], c: &mut [f64; 64], turns: usize)
+// The profile after so many sub-steps.
+pub fn sub_steps(v: Drive, w: &[f64; 64], c: [f64; 64], turns: usize) -> [f64; 64]
     requires { ⌜ (3 ≤ v .n) × (v .n ≤ 64) ⌝ }
-    ensures { λ _. ⌜ now (c .exit) ≡ times turns (subStepBy v (now (w .entry))) (now (c .entry)) ⌝ }
+    ensures { λ r. ⌜ r ≡ times turns (subStepBy v (now (w .entry))) c ⌝ }
 {
+    let mut out = c;
     for k in 0..turns {
-        move_nodes(v, w, c);
+        let next = sub_step(v, w, out);
+        out = next;
     }
+    out
 }

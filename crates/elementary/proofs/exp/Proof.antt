@@ -23,8 +23,8 @@ returns-2 c = sym (exp-high (c .before .before .args .t) (c .if2 .taken))
 returns-3 : tie.Need-returns-3
 returns-3 c = sym (exp-low (c .before .before .before .args .t) (c .before .if2 .left) (c .if3 .taken))
 
-exp-series-requires : tie.Need-exp-series-requires
-exp-series-requires c κs = search needs
+short-series-requires : tie.Need-short-series-requires
+short-series-requires c κs = search needs
 
 exp-squarings-requires : tie.Need-exp-squarings-requires
 exp-squarings-requires c κs = search needs
@@ -32,7 +32,7 @@ exp-squarings-requires c κs = search needs
 returns-4 : tie.Need-returns-4
 returns-4 c =
     let start = c .before .before .before .before .before in
-    c .exp-squarings .ensures ∙ ap (squarings 10) (c .before .exp-series .ensures) ∙ powered-is (start .args .t) ∙ sym (exp-mid (start .args .t) (c .before .before .before .if2 .left) (c .before .before .if3 .left))
+    c .exp-squarings .ensures ∙ ap (squarings 10) (c .before .short-series .ensures) ∙ powered-is (start .args .t) ∙ sym (exp-mid (start .args .t) (c .before .before .before .if2 .left) (c .before .before .if3 .left))
 
 pub exp-spec : {M : Type 1} → statement M
-exp-spec = tie.close (tie.spec returns float-from-bits-result returns-2 returns-3 exp-series-requires exp-squarings-requires returns-4)
+exp-spec = tie.close (tie.spec returns float-from-bits-result returns-2 returns-3 short-series-requires exp-squarings-requires returns-4)

@@ -16,13 +16,13 @@ inverse-radii-requires : tie.Need-inverse-radii-requires
 inverse-radii-requires c κs = search needs
 
 sub-steps-requires : tie.Need-sub-steps-requires
-sub-steps-requires c κs = rw (c .before .before .before .prepare .ensures) (c .before .before .before .before .before .pre)
+sub-steps-requires c κs = rw (c .before .before .prepare .ensures) (c .before .before .before .before .pre)
 
 returns : tie.Need-returns
-returns c = let a = c .before .before .before .before .before .before .args in
-    let p = particleOf (a .params) (a .n) (a .c .now) in
-    rw (c .sub-steps .ensures, c .before .before .before .before .prepare .ensures, c .before .before .before .inverse-radii .ensures, c .before .before .before .before .before .spacing .ensures (a .c .now))
-    (times-cong _ _ (a .turns) (same-sub-step (driveWith p (a .d-s) (a .j-n) (a .dt)) (c .before .before .before .before .before .before .pre .1)) (a .c .now))
+returns c = let a = c .before .before .before .before .before .args in
+    let p = particleOf (a .params) (a .n) (a .c) in
+    rw (c .sub-steps .ensures, c .before .before .before .prepare .ensures, c .before .before .inverse-radii .ensures, c .before .before .before .before .spacing .ensures (a .c))
+    (times-cong _ _ (a .turns) (same-sub-step (driveWith p (a .d-s) (a .j-n) (a .dt)) (c .before .before .before .before .before .pre .1)) (a .c))
 
 pub advance-spec : {M : Type 1} → statement M
 advance-spec =

@@ -51,16 +51,16 @@ nearest-u64-to-f64-requires : tie.Need-nearest-u64-to-f64-requires
 nearest-u64-to-f64-requires c κs = search needs
 
 advance-requires : tie.Need-advance-requires
-advance-requires c κs = c .before .before .before .before .before .pre .0
+advance-requires c κs = c .before .before .before .pre .0
 
 advance-requires-2 : tie.Need-advance-requires-2
-advance-requires-2 c κs = c .before .before .before .before .before .before .before .pre .1
+advance-requires-2 c κs = c .before .before .before .before .before .pre .1
 
 wall-of-requires : tie.Need-wall-of-requires
-wall-of-requires c κs = c .before .before .before .before .before .before .before .before .before .pre .0
+wall-of-requires c κs = c .before .before .before .before .before .before .before .pre .0
 
 wall-of-requires-2 : tie.Need-wall-of-requires-2
-wall-of-requires-2 c κs = c .before .before .before .before .before .before .before .before .before .before .before .pre .1
+wall-of-requires-2 c κs = c .before .before .before .before .before .before .before .before .before .pre .1
 
 reported-requires : tie.Need-reported-requires
 reported-requires c κs = search needs
@@ -76,29 +76,45 @@ finite-with-requires c κs = search needs
 
 returns : tie.Need-returns
 returns c =
-    let a = c .before .before .before .before .before .before .before .before .before .before .before .before .before .before .before .before .before .before .before .before .before .args in
-    let n = c .before .before .before .before .before .before .before .before .before .before .before .before .before .before .before .before .before .before .ceil-count .ensures in
-    let m = c .before .before .before .before .before .before .before .before .before .before .before .before .before .before .before .before .before .nearest-u64-to-f64 .ensures in
-    let neg = c .before .before .before .before .before .before .before .before .before .before .before .before .before .before .before .advance .ensures ∙ profile-by (a .p) (a .dt) _ _ _ _ _ n m in
-    let pos = c .before .before .before .before .before .before .before .before .before .before .before .before .before .advance2 .ensures ∙ profile-by (a .p) (a .dt) _ _ _ _ _ n m in
+    let tested-at = c .before in
+    let reported-at = tested-at .before .before .before .before .before in
+    let cathode-at = reported-at .before .before .before in
+    let anode-at = cathode-at .before .before in
+    let pos-at = anode-at .before .before in
+    let neg-at = pos-at .before .before in
+    let length-at = neg-at .before .before in
+    let count = length-at .before .ceil-count .ensures in
+    let a = length-at .before .before .args in
+    let neg = neg-at .advance .ensures ∙ profile-by (a .p) (a .dt) _ _ _ _ _ count (length-at .nearest-u64-to-f64 .ensures) in
+    let pos = pos-at .advance2 .ensures ∙ profile-by (a .p) (a .dt) _ _ _ _ _ count (length-at .nearest-u64-to-f64 .ensures) in
     let e = to-end (a .q) (a .current-a) (a .dt) (a .temp-k) (a .p) (a .c-neg .now) (a .c-pos .now) _ _ neg pos _ _
-    (report-of (a .q) (a .current-a) (a .dt) (a .temp-k) (a .p) (a .c-neg .now) (a .c-pos .now) _ _ neg pos _ _ _ (c .before .before .before .before .before .before .before .before .before .before .before .wall-of .ensures) (c .before .before .before .before .before .before .before .before .before .wall-of2 .ensures) (c .before .before .before .before .before .before .reported .ensures))
-    (tested (a .q) (a .current-a) (a .dt) (a .temp-k) (a .p) (a .c-neg .now) (a .c-pos .now) _ _ neg pos _ _ _ _ (c .before .before .before .before .profile-finite .ensures) (c .before .before .profile-finite2 .ensures) (c .before .finite-with .ensures)) in
-    rw (e, c .if1 .taken, ← n)
+    (report-of (a .q) (a .current-a) (a .dt) (a .temp-k) (a .p) (a .c-neg .now) (a .c-pos .now) _ _ neg pos _ _ _
+    (anode-at .wall-of .ensures) (cathode-at .wall-of2 .ensures) (reported-at .reported .ensures))
+    (tested (a .q) (a .current-a) (a .dt) (a .temp-k) (a .p) (a .c-neg .now) (a .c-pos .now) _ _ neg pos _ _ _ _
+    (tested-at .before .before .before .profile-finite .ensures) (tested-at .before .profile-finite2 .ensures) (tested-at .finite-with .ensures)) in
+    rw (e, c .if1 .taken, ← count)
 
 refused-move-requires : tie.Need-refused-move-requires
 refused-move-requires c κs = search needs
 
 returns-2 : tie.Need-returns-2
 returns-2 c =
-    let a = c .before .before .before .before .before .before .before .before .before .before .before .before .before .before .before .before .before .before .before .before .before .before .args in
-    let n = c .before .before .before .before .before .before .before .before .before .before .before .before .before .before .before .before .before .before .before .ceil-count .ensures in
-    let m = c .before .before .before .before .before .before .before .before .before .before .before .before .before .before .before .before .before .before .nearest-u64-to-f64 .ensures in
-    let neg = c .before .before .before .before .before .before .before .before .before .before .before .before .before .before .before .before .advance .ensures ∙ profile-by (a .p) (a .dt) _ _ _ _ _ n m in
-    let pos = c .before .before .before .before .before .before .before .before .before .before .before .before .before .before .advance2 .ensures ∙ profile-by (a .p) (a .dt) _ _ _ _ _ n m in
+    let tested-at = c .before .before in
+    let reported-at = tested-at .before .before .before .before .before in
+    let cathode-at = reported-at .before .before .before in
+    let anode-at = cathode-at .before .before in
+    let pos-at = anode-at .before .before in
+    let neg-at = pos-at .before .before in
+    let length-at = neg-at .before .before in
+    let count = length-at .before .ceil-count .ensures in
+    let a = length-at .before .before .args in
+    let neg = neg-at .advance .ensures ∙ profile-by (a .p) (a .dt) _ _ _ _ _ count (length-at .nearest-u64-to-f64 .ensures) in
+    let pos = pos-at .advance2 .ensures ∙ profile-by (a .p) (a .dt) _ _ _ _ _ count (length-at .nearest-u64-to-f64 .ensures) in
     let e = to-end (a .q) (a .current-a) (a .dt) (a .temp-k) (a .p) (a .c-neg .now) (a .c-pos .now) _ _ neg pos _ _
-    (report-of (a .q) (a .current-a) (a .dt) (a .temp-k) (a .p) (a .c-neg .now) (a .c-pos .now) _ _ neg pos _ _ _ (c .before .before .before .before .before .before .before .before .before .before .before .before .wall-of .ensures) (c .before .before .before .before .before .before .before .before .before .before .wall-of2 .ensures) (c .before .before .before .before .before .before .before .reported .ensures))
-    (tested (a .q) (a .current-a) (a .dt) (a .temp-k) (a .p) (a .c-neg .now) (a .c-pos .now) _ _ neg pos _ _ _ _ (c .before .before .before .before .before .profile-finite .ensures) (c .before .before .before .profile-finite2 .ensures) (c .before .before .finite-with .ensures)) in
+    (report-of (a .q) (a .current-a) (a .dt) (a .temp-k) (a .p) (a .c-neg .now) (a .c-pos .now) _ _ neg pos _ _ _
+    (anode-at .wall-of .ensures) (cathode-at .wall-of2 .ensures) (reported-at .reported .ensures))
+    (tested (a .q) (a .current-a) (a .dt) (a .temp-k) (a .p) (a .c-neg .now) (a .c-pos .now) _ _ neg pos _ _ _ _
+    (tested-at .before .before .before .profile-finite .ensures) (tested-at .before .profile-finite2 .ensures) (tested-at .finite-with .ensures)) in
     rw (e, c .before .if1 .left, c .refused-move .ensures)
 
 pub follow-spec : {M : Type 1} → statement M

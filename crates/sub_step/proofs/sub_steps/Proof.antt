@@ -10,17 +10,17 @@ use Rattle.sub_step.proofs.sub_steps.Statement.{statement}
 use Rattle.sub_step.proofs.sub_steps.Tie as tie
 
 abbrev Inv-loop : tie.InvT-loop
-Inv-loop v w c₀ turns k₀ c k = (k ≤ turns) × (c ≡ times k (subStepBy v w) c₀)
+Inv-loop v w turns out₀ k₀ out k = (k ≤ turns) × (out ≡ times k (subStepBy v w) out₀)
 
 abbrev μ-loop : tie.MeasureT-loop
-μ-loop v w c₀ turns k₀ c k = turns - k
+μ-loop v w turns out₀ k₀ out k = turns - k
 
 loop-holds : tie.Need-loop-holds Inv-loop μ-loop
 unfolding times
 loop-holds c = (search needs, refl)
 
-move-nodes-requires : tie.Need-move-nodes-requires Inv-loop μ-loop
-move-nodes-requires c κs = search needs
+sub-step-requires : tie.Need-sub-step-requires Inv-loop μ-loop
+sub-step-requires c κs = search needs
 
 add-k : tie.Need-add-k Inv-loop μ-loop
 add-k c = omega arith
@@ -30,7 +30,7 @@ loop-less c = search needs
 
 loop-again : tie.Need-loop-again Inv-loop μ-loop
 unfolding times
-loop-again c = (search needs, rw (add-one, c .move-nodes .ensures, c .before .before .before .loop .inv .1))
+loop-again c = (search needs, rw (add-one, c .sub-step .ensures, c .before .before .loop .inv .1))
 
 returns : tie.Need-returns Inv-loop μ-loop
 returns c = let e : c .before .loop .k ≡ c .before .before .args .turns = omega arith in
@@ -39,4 +39,4 @@ returns c = let e : c .before .loop .k ≡ c .before .before .args .turns = omeg
 pub sub-steps-spec : {M : Type 1} → statement M
 sub-steps-spec =
     tie.close
-    (tie.spec Inv-loop μ-loop loop-holds move-nodes-requires add-k loop-less loop-again returns)
+    (tie.spec Inv-loop μ-loop loop-holds sub-step-requires add-k loop-less loop-again returns)
