@@ -111,8 +111,8 @@ bench-cells = record {
   crossed = refl;
   least-pivot = refl;
   below-least = refl;
-  count-4096 = record { passes = refl; reports = λ s after r h. rw (is-true (finiteStep after r) h) };
-  count-above-1 = record { passes = refl; reports = λ s after r h. rw (is-true (finiteStep after r) h) };
+  count-4096 = record { passes = refl; reports = λ s after r h. rw (is-true (finiteStep after r) h) refl };
+  count-above-1 = record { passes = refl; reports = λ s after r h. rw (is-true (finiteStep after r) h) refl };
   weights = refl;
   two-nodes = refl;
 }
