@@ -42,7 +42,7 @@ unfolding placeFits plusZero le toBits
 nan-unfit true lo hi t = and-r (le lo nan) (le nan hi) t
 nan-unfit false lo hi t = t
 
-abbrev fitsTo : ℕ → List Float → ℕ → Float → Float → Bool
+abbrev pub fitsTo : ℕ → List Float → ℕ → Float → Float → Bool
 fitsTo size c n lo hi = allBelow size (λ i. placeFits (at c i) (ltb i n) lo hi)
 
 -- so a list whose places fit is long enough

@@ -23,4 +23,5 @@ pub mod Demand
 pub mod Ordered
 pub mod Ranking
 pub mod RunLists
+pub mod Acceptance
 pub mod Instance
