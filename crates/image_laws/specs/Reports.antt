@@ -1,31 +1,28 @@
--- THE REPORT that a step leaves after the cell is read back too. It repeats the current that was given, so that must be a number of binary64, as every one from C is. Assumes nothing.
-use Prim.Native.Nat.{ℕ, _≤_, _<_, _+_, _^_}
-use mathlib.Core.Path.{_≡_, refl, ap, _∙_}
+-- What a call adds to a cell, the report of a step or the ending of a run, is read back. Assumes nothing.
+use Prim.Native.Nat.{ℕ, _≤_, _<_, _+_, _*_, _^_}
+use mathlib.Core.Path.{_≡_, refl, _∙_}
 use mathlib.Core.Bool.{Bool, true, false, cond}
 use mathlib.Core.Logic.{inl}
 use mathlib.Core.List.{List}
 use native.Mathlib.Omega.{arith}
-use lib.Dec.{T, lit≤, eqb}
+use native.Mathlib.Nat.{le-refl}
+use lib.Dec.{lit≤, eqb}
 use lib.ListN.{length, getD}
-use lib.Ieee.{Float, nan, binary64, fits}
-use lib.Ieee.Fits.{add-fits, sub-fits, div-fits}
-use Rattle.particle.specs.Particle.{surfaceTheta, averageTheta}
+use lib.Ieee.{Float, nan}
 use Rattle.solver_report.specs.declared.SpmState.{SpmState}
-use Rattle.solver.specs.declared.SpmSolver.{SpmSolver}
-use Rattle.solver.specs.declared.SpmStep.{SpmStep}
-use Rattle.solver.specs.Step as S
-use Rattle.solver_laws.specs.Closure.{Leads, leads, report}
+use Rattle.dfn.specs.declared.DfnStep.{DfnStep}
 use Rattle.codec.specs.Words.{wordAt, floatAt, putWord, putRow}
-use Rattle.cell_images.specs.Images.{cellAt, putCell, stateNumbers, putReport}
-use Rattle.cell_calls.specs.Steps.{cellNumber, cellAfter}
-use Rattle.image_laws.specs.Words.{word-back}
-use Rattle.image_laws.specs.Rows.{Writes, same-below, same-float, writes-then, writes-word, writes-places, RowHeld, held-none, held-one, place-back}
-use Rattle.image_laws.specs.Images.{writes-cell}
-use Rattle.image_laws.specs.Steps.{accepted-held, answer-is}
+use Rattle.image_rows.specs.Written.{putEnding}
+use Rattle.cell_images.specs.Images as C
+use Rattle.porous_images.specs.Images as D
+use Rattle.image_laws.specs.Words.{word-read-back}
+use Rattle.image_laws.specs.Encodable.{EncodableRow}
+use Rattle.image_laws.specs.Rows.{Writes, same-below, same-float, writes-then, writes-word, writes-places, place-read-back}
 
--- the report from word 157 on
-unfoldable pub stateAt : List ℕ → SpmState
-stateAt s = record {
+-- ---- how a report is read
+-- of a single-particle cell, from word 157 on
+unfoldable pub cellReportAt : List ℕ → SpmState
+cellReportAt s = record {
   voltage = floatAt s 157;
   current = floatAt s 158;
   «theta_neg» = floatAt s 159;
@@ -36,58 +33,114 @@ stateAt s = record {
   cutoff = eqb (wordAt s 164) 1;
 }
 
-flag : (b : Bool) → eqb (cond b 1 0) 1 ≡ b
-flag true = refl
-flag false = refl
+-- of a Doyle-Fuller-Newman cell, from word 1126 on
+unfoldable pub dfnReportAt : List ℕ → DfnStep
+dfnReportAt s = record {
+  voltage = floatAt s 1126;
+  current = floatAt s 1127;
+  «time_s» = floatAt s 1128;
+  «theta_neg» = floatAt s 1129;
+  «theta_pos» = floatAt s 1130;
+  «delta_c_e_max» = floatAt s 1131;
+  cutoff = eqb (wordAt s 1132) 1;
+  «newton_iter» = wordAt s 1133;
+}
 
-bit : (b : Bool) → cond b 1 0 < 2 ^ 64
-bit true = lit≤ tt
-bit false = lit≤ tt
+-- ---- numbers, a flag and a count from word `at` on
+flag-is : (b : Bool) → eqb (cond b 1 0) 1 ≡ b
+flag-is true = refl
+flag-is false = refl
 
-pub state-back : (s : List ℕ) (r : SpmState) (n : ℕ) → 1328 ≤ length s → RowHeld (stateNumbers r) → stateAt (putReport s r n) ≡ r
-unfolding stateAt putReport
-state-back s r n h k =
-    let t = putRow s 157 (stateNumbers r) in
-    let u = putWord t 164 (cond (r .cutoff) 1 0) in
-    let v = putWord u 165 n in
-    let wt = writes-places 7 s 157 (stateNumbers r) in
-    let wv : Writes 164 166 t v = writes-then (lit≤ tt) (lit≤ tt) (writes-word t 164 (cond (r .cutoff) 1 0)) (writes-word u 165 n) in
-    let at : (i j : ℕ) → i < 7 → j ≡ 157 + i → floatAt v j ≡ getD (stateNumbers r) i nan =
-    λ i j l m. same-float (same-below {a = 0} {b = 164} (lit≤ tt) wv) j (omega arith) (omega (arith, l, m)) ∙ place-back s 157 (stateNumbers r) (omega (arith, h)) k i j l m in
-    let cut : wordAt v 164 ≡ cond (r .cutoff) 1 0 =
-    writes-word u 165 n .outside 164 (inl (lit≤ tt)) ∙ word-back t 164 (cond (r .cutoff) 1 0) (rw (wt .size) (omega (arith, h))) (bit (r .cutoff)) in
-    rw (
-      at 0 157 (lit≤ tt) refl,
-      at 1 158 (lit≤ tt) refl,
-      at 2 159 (lit≤ tt) refl,
-      at 3 160 (lit≤ tt) refl,
-      at 4 161 (lit≤ tt) refl,
-      at 5 162 (lit≤ tt) refl,
-      at 6 163 (lit≤ tt) refl,
-      cut,
-      flag (r .cutoff),
-    )
+flag-most : (b : Bool) → cond b 1 0 < 2 ^ 64
+flag-most true = lit≤ tt
+flag-most false = lit≤ tt
 
-voltage-held : (s : SpmSolver) (i dt t : Float) → T (fits binary64 (report s i dt t .voltage))
-unfolding S.reported S.voltageOf
-voltage-held s i dt t = sub-fits binary64 _ _
+module _ (s : List ℕ) (at : ℕ) (x : List Float) (b : Bool) (k : ℕ) where
+  abbrev r1 : List ℕ
+  r1 = putRow s at x
 
-report-held : (s : SpmSolver) (i dt t : Float) → T (fits binary64 i) → RowHeld (stateNumbers (report s i dt t))
-unfolding S.reported S.advanced surfaceTheta averageTheta
-report-held s i dt t f =
-    held-one (voltage-held s i dt t) (held-one f (held-one (div-fits binary64 _ _) (held-one (div-fits binary64 _ _) (held-one (div-fits binary64 _ _) (held-one (div-fits binary64 _ _) (held-one (add-fits binary64 _ _) held-none))))))
+  abbrev r2 : List ℕ
+  r2 = putWord r1 (at + length x) (cond b 1 0)
 
-accepted-report : (s : SpmSolver) (i dt t : Float) → T (fits binary64 i) → S.stepped s i dt t .refusal ≡ 0 → RowHeld (stateNumbers (S.stepped s i dt t .state))
-accepted-report s i dt t f = go (S.stepped s i dt t) (leads s i dt t)
-  where
-    go : (r : SpmStep) → Leads s i dt t r → r .refusal ≡ 0 → RowHeld (stateNumbers (r .state))
-    go r (Leads.refused k) z = absurd (omega (arith, z))
-    go r (Leads.moved h g q) z = report-held s i dt t f
+  abbrev pub putNumbers : List ℕ
+  putNumbers = putWord r2 (at + length x + 1) k
 
--- THE REPORT OF THE ANSWER is that of the step
-pub report-answer : (s : List ℕ) (i dt t : Float) (a : List ℕ) → T (fits binary64 i) → cellNumber s i dt t ≡ 0 → length a ≡ 1328 → stateAt (cellAfter s i dt t a) ≡ S.stepped (cellAt s) i dt t .state
-unfolding cellNumber
-report-answer s i dt t a f h l =
-    let r = S.stepped (cellAt s) i dt t in
-    let n : length (putCell a (r .solver)) ≡ 1328 = writes-cell a (r .solver) (accepted-held s i dt t h) .size ∙ l in
-    ap stateAt (answer-is s i dt t a h) ∙ state-back (putCell a (r .solver)) (r .state) (r .«sub_steps») (rw n (lit≤ tt)) (accepted-report (cellAt s) i dt t f h)
+  flag-and-count : Writes (at + length x) (at + length x + 1 + 1) r1 putNumbers
+  flag-and-count = writes-then (omega arith) (omega arith) (writes-word r1 (at + length x) (cond b 1 0)) (writes-word r2 (at + length x + 1) k)
+
+  pub writes-numbers : Writes at (at + length x + 1 + 1) s putNumbers
+  writes-numbers = writes-then (omega arith) (omega arith) (writes-places (length x) s at x) flag-and-count
+
+  module _ (l : (at + length x + 2) * 8 ≤ length s) where
+    pub number-read-back : EncodableRow x → (i j : ℕ) → i < length x → j ≡ at + i → floatAt putNumbers j ≡ getD x i nan
+    number-read-back h i j m e =
+        same-float (same-below {a = 0} (le-refl (at + length x)) flag-and-count) j (omega arith) (omega (arith, m, e)) ∙ place-read-back s at x (omega (arith, l)) h i j m e
+
+    pub flag-read-back : eqb (wordAt putNumbers (at + length x)) 1 ≡ b
+    flag-read-back =
+        rw (writes-word r2 (at + length x + 1) k .outside (at + length x) (inl (omega arith)), word-read-back r1 (at + length x) (cond b 1 0) (rw (writes-places (length x) s at x .size) (omega (arith, l))) (flag-most b)) (flag-is b)
+
+    pub count-read-back : k < 2 ^ 64 → wordAt putNumbers (at + length x + 1) ≡ k
+    count-read-back m =
+        word-read-back r2 (at + length x + 1) k (rw (writes-word r1 (at + length x) (cond b 1 0) .size, writes-places (length x) s at x .size) (omega (arith, l))) m
+
+-- ---- a single-particle cell's report
+module _ (s : List ℕ) (r : SpmState) (n : ℕ) where
+  pub writes-cell-report : Writes 157 166 s (C.putReport s r n)
+  unfolding C.putReport
+  writes-cell-report = writes-numbers s 157 (C.stateNumbers r) (r .cutoff) n
+
+  pub cell-report-read-back : 1328 ≤ length s → EncodableRow (C.stateNumbers r) → cellReportAt (C.putReport s r n) ≡ r
+  unfolding cellReportAt C.putReport
+  cell-report-read-back l h =
+      let x = number-read-back s 157 (C.stateNumbers r) (r .cutoff) n l h in
+      rw (
+        x 0 157 (lit≤ tt) refl,
+        x 1 158 (lit≤ tt) refl,
+        x 2 159 (lit≤ tt) refl,
+        x 3 160 (lit≤ tt) refl,
+        x 4 161 (lit≤ tt) refl,
+        x 5 162 (lit≤ tt) refl,
+        x 6 163 (lit≤ tt) refl,
+        flag-read-back s 157 (C.stateNumbers r) (r .cutoff) n l,
+      )
+
+  pub sub-steps-read-back : 1328 ≤ length s → n < 2 ^ 64 → wordAt (C.putReport s r n) 165 ≡ n
+  unfolding C.putReport
+  sub-steps-read-back l m = count-read-back s 157 (C.stateNumbers r) (r .cutoff) n l m
+
+-- ---- a Doyle-Fuller-Newman cell's report
+module _ (s : List ℕ) (r : DfnStep) where
+  pub writes-dfn-report : Writes 1126 1134 s (D.putReport s r)
+  unfolding D.putReport
+  writes-dfn-report = writes-numbers s 1126 (D.reportNumbers r) (r .cutoff) (r .«newton_iter»)
+
+  pub dfn-report-read-back : 9072 ≤ length s → EncodableRow (D.reportNumbers r) → r .«newton_iter» < 2 ^ 64 → dfnReportAt (D.putReport s r) ≡ r
+  unfolding dfnReportAt D.putReport
+  dfn-report-read-back l h m =
+      let x = number-read-back s 1126 (D.reportNumbers r) (r .cutoff) (r .«newton_iter») l h in
+      rw (
+        x 0 1126 (lit≤ tt) refl,
+        x 1 1127 (lit≤ tt) refl,
+        x 2 1128 (lit≤ tt) refl,
+        x 3 1129 (lit≤ tt) refl,
+        x 4 1130 (lit≤ tt) refl,
+        x 5 1131 (lit≤ tt) refl,
+        flag-read-back s 1126 (D.reportNumbers r) (r .cutoff) (r .«newton_iter») l,
+        count-read-back s 1126 (D.reportNumbers r) (r .cutoff) (r .«newton_iter») l m,
+      )
+
+-- ---- a run's ending and its count of rows, from word `at` on
+module _ (s : List ℕ) (at ending rows : ℕ) where
+  pub writes-ending : Writes at (at + 1 + 1) s (putEnding s at ending rows)
+  unfolding putEnding
+  writes-ending = writes-then (omega arith) (omega arith) (writes-word s at ending) (writes-word (putWord s at ending) (at + 1) rows)
+
+  module _ (l : (at + 2) * 8 ≤ length s) where
+    pub ending-read-back : ending < 2 ^ 64 → wordAt (putEnding s at ending rows) at ≡ ending
+    unfolding putEnding
+    ending-read-back m = writes-word (putWord s at ending) (at + 1) rows .outside at (inl (omega arith)) ∙ word-read-back s at ending (omega (arith, l)) m
+
+    pub rows-read-back : rows < 2 ^ 64 → wordAt (putEnding s at ending rows) (at + 1) ≡ rows
+    unfolding putEnding
+    rows-read-back m = word-read-back (putWord s at ending) (at + 1) rows (rw (writes-word s at ending .size) (omega (arith, l))) m

@@ -2,18 +2,16 @@
 use Prim.Native.Nat.{ℕ, zero, suc, _≤_, _<_, _+_, _*_}
 use mathlib.Core.Path.{_≡_, refl, sym, ap, _∙_}
 use mathlib.Core.Logic.{inl, inr, ⊎-elim}
-use mathlib.Core.List.{List, [], _∷_}
+use mathlib.Core.List.{List}
 use native.Mathlib.Omega.{arith}
 use native.Mathlib.Nat.{not-suc-le-zero, eq-or-lt-of-le, le-of-suc-le-suc, le-refl}
-use lib.Dec.{T}
-use lib.ListN.{length, getD, set, replicate, length-replicate}
+use lib.ListN.{length, getD, replicate, length-replicate}
 use lib.Seq.{ext-getD}
-use lib.Ieee.{Float, nan, binary64, fits, ofBits, toBits}
-use lib.Ieee.Bits.{ofBits-fits}
-use lib.Ieee.Fits.{nan-fits}
+use lib.Ieee.{Float, nan, binary64, ofBits, toBits}
 use Rattle.turns.specs.Turns.{firstBy, first-length, first-below, first-cong}
 use Rattle.codec.specs.Words.{wordAt, putWord, floatAt, putFloat, putPlaces, placesAt, putRow}
-use Rattle.image_laws.specs.Words.{Outside, word-length, word-other, float-back}
+use Rattle.image_laws.specs.Words.{Outside, word-length, word-other, float-read-back}
+use Rattle.image_laws.specs.Encodable.{EncodableRow}
 
 -- ---- from s to s' at most words a to b - 1 change
 pub record Writes (a b : ℕ) (s s' : List ℕ) : Type 0 where
@@ -21,20 +19,20 @@ pub record Writes (a b : ℕ) (s s' : List ℕ) : Type 0 where
   pub outside : (k : ℕ) → Outside a b k → wordAt s' k ≡ wordAt s k
 
 -- words a to b - 1 are the same
-pub record Same (a b : ℕ) (s s' : List ℕ) : Type 0 where
+pub record SameWords (a b : ℕ) (s s' : List ℕ) : Type 0 where
   pub words : (k : ℕ) → a ≤ k → k < b → wordAt s' k ≡ wordAt s k
 
-pub same-trans : {a b : ℕ} {s s' s'' : List ℕ} → Same a b s s' → Same a b s' s'' → Same a b s s''
+pub same-trans : {a b : ℕ} {s s' s'' : List ℕ} → SameWords a b s s' → SameWords a b s' s'' → SameWords a b s s''
 same-trans p q = record { words = λ k l m. q .words k l m ∙ p .words k l m }
 
-pub same-part : {a b c d : ℕ} {s s' : List ℕ} → a ≤ c → d ≤ b → Same a b s s' → Same c d s s'
+pub same-part : {a b c d : ℕ} {s s' : List ℕ} → a ≤ c → d ≤ b → SameWords a b s s' → SameWords c d s s'
 same-part h l p = record { words = λ k m n. p .words k (omega (arith, h, m)) (omega (arith, l, n)) }
 
 -- what is written after b leaves words a to b - 1
-pub same-below : {a b c d : ℕ} {s s' : List ℕ} → b ≤ c → Writes c d s s' → Same a b s s'
+pub same-below : {a b c d : ℕ} {s s' : List ℕ} → b ≤ c → Writes c d s s' → SameWords a b s s'
 same-below h w = record { words = λ k l m. w .outside k (inl (omega (arith, h, m))) }
 
-pub same-float : {a b : ℕ} {s s' : List ℕ} → Same a b s s' → (k : ℕ) → a ≤ k → k < b → floatAt s' k ≡ floatAt s k
+pub same-float : {a b : ℕ} {s s' : List ℕ} → SameWords a b s s' → (k : ℕ) → a ≤ k → k < b → floatAt s' k ≡ floatAt s k
 unfolding floatAt
 same-float p k l m = ap (ofBits binary64) (p .words k l m)
 
@@ -53,20 +51,6 @@ unfolding putFloat
 writes-float s k x = writes-word s k (toBits binary64 x)
 
 -- ---- a row
--- each place is a number that binary64 holds
-pub record RowHeld (c : List Float) : Type 0 where
-  pub place : (i : ℕ) → T (fits binary64 (getD c i nan))
-
-pub held-none : RowHeld []
-held-none = record { place = λ i. nan-fits binary64 }
-
-pub held-one : {x : Float} {c : List Float} → T (fits binary64 x) → RowHeld c → RowHeld (x ∷ c)
-held-one {x} {c} f h = record { place = go }
-  where
-    go : (i : ℕ) → T (fits binary64 (getD (x ∷ c) i nan))
-    go zero = f
-    go (suc i) = h .place i
-
 pub writes-places : (n : ℕ) (s : List ℕ) (at : ℕ) (c : List Float) → Writes at (at + n) s (putPlaces n s at c)
 unfolding putPlaces
 writes-places zero s at c = record { size = refl; outside = λ k o. refl }
@@ -75,61 +59,33 @@ writes-places (suc n) s at c =
     rw e (writes-then (omega arith) (omega arith) (writes-places n s at c) (writes-float (putPlaces n s at c) (at + n) (getD c n nan)))
 
 -- EACH PLACE THAT IS WRITTEN is read
-pub places-back : (n : ℕ) (s : List ℕ) (at : ℕ) (c : List Float) → (at + n) * 8 ≤ length s → RowHeld c → (i : ℕ) → i < n → floatAt (putPlaces n s at c) (at + i) ≡ getD c i nan
+pub places-read-back : (n : ℕ) (s : List ℕ) (at : ℕ) (c : List Float) → (at + n) * 8 ≤ length s → EncodableRow c → (i : ℕ) → i < n → floatAt (putPlaces n s at c) (at + i) ≡ getD c i nan
 unfolding putPlaces
-places-back zero s at c h f i l = absurd (not-suc-le-zero l)
-places-back (suc n) s at c h f i l =
+places-read-back zero s at c h f i l = absurd (not-suc-le-zero l)
+places-read-back (suc n) s at c h f i l =
     let t = putPlaces n s at c in
     let e : length t ≡ length s = writes-places n s at c .size in
     ⊎-elim
-    (λ (q : i ≡ n). rw q (float-back t (at + n) (getD c n nan) (rw e (omega (arith, h))) (f .place n)))
-    (λ (q : i < n). same-float (same-below {a = 0} {b = at + n} (le-refl (at + n)) (writes-float t (at + n) (getD c n nan))) (at + i) (omega arith) (omega (arith, q)) ∙ places-back n s at c (omega (arith, h)) f i q)
+    (λ (q : i ≡ n). rw q (float-read-back t (at + n) (getD c n nan) (rw e (omega (arith, h))) (f .place n)))
+    (λ (q : i < n). same-float (same-below {a = 0} {b = at + n} (le-refl (at + n)) (writes-float t (at + n) (getD c n nan))) (at + i) (omega arith) (omega (arith, q)) ∙ places-read-back n s at c (omega (arith, h)) f i q)
     (eq-or-lt-of-le (le-of-suc-le-suc l))
 
 -- word k of a row, wherever it starts
-pub place-back : (s : List ℕ) (at : ℕ) (c : List Float) → (at + length c) * 8 ≤ length s → RowHeld c → (i k : ℕ) → i < length c → k ≡ at + i → floatAt (putRow s at c) k ≡ getD c i nan
-place-back s at c h f i k l e = rw e (places-back (length c) s at c h f i l)
+pub place-read-back : (s : List ℕ) (at : ℕ) (c : List Float) → (at + length c) * 8 ≤ length s → EncodableRow c → (i k : ℕ) → i < length c → k ≡ at + i → floatAt (putRow s at c) k ≡ getD c i nan
+place-read-back s at c h f i k l e = rw e (places-read-back (length c) s at c h f i l)
 
 -- THE ROW THAT IS WRITTEN is read
-pub row-back : (n : ℕ) (s : List ℕ) (at : ℕ) (c : List Float) → length c ≡ n → (at + n) * 8 ≤ length s → RowHeld c → placesAt n (putRow s at c) at ≡ c
-row-back n s at c e h f =
+pub row-read-back : (n : ℕ) (s : List ℕ) (at : ℕ) (c : List Float) → length c ≡ n → (at + n) * 8 ≤ length s → EncodableRow c → placesAt n (putRow s at c) at ≡ c
+row-read-back n s at c e h f =
     let r : ℕ → Float = λ k. floatAt (putPlaces (length c) s at c) (at + k) in
     let z : List Float = replicate n (ofBits binary64 0) in
     let m : length (firstBy n r z) ≡ n = first-length r z n ∙ length-replicate n (ofBits binary64 0) in
     ext-getD nan (firstBy n r z) c (m ∙ sym e)
     (λ i l.
     let q : i < n = rw m at l in
-    first-below r z n i nan q (rw (length-replicate n (ofBits binary64 0)) (le-refl n)) ∙ places-back (length c) s at c (rw e h) f i (rw e q))
+    first-below r z n i nan q (rw (length-replicate n (ofBits binary64 0)) (le-refl n)) ∙ places-read-back (length c) s at c (rw e h) f i (rw e q))
 
 -- rows of the same words
-pub row-same : (n : ℕ) (s s' : List ℕ) (at : ℕ) → Same at (at + n) s s' → placesAt n s' at ≡ placesAt n s at
+pub row-same : (n : ℕ) (s s' : List ℕ) (at : ℕ) → SameWords at (at + n) s s' → placesAt n s' at ≡ placesAt n s at
 row-same n s s' at p = first-cong (λ k. floatAt s' (at + k)) (λ k. floatAt s (at + k)) (replicate n (ofBits binary64 0)) n (λ i l. same-float p (at + i) (omega arith) (omega (arith, l)))
 
--- ---- rows that are held
-pub held-rest : {x : Float} {c : List Float} → RowHeld (x ∷ c) → RowHeld c
-held-rest h = record { place = λ i. h .place (suc i) }
-
-pub set-held : (c : List Float) (i : ℕ) (x : Float) → T (fits binary64 x) → RowHeld c → RowHeld (set c i x)
-set-held [] i x f h = h
-set-held (y ∷ c) zero x f h = held-one f (held-rest h)
-set-held (y ∷ c) (suc i) x f h = held-one (h .place 0) (set-held c i x f (held-rest h))
-
-pub first-held : (k : ℕ) (g : ℕ → Float) (c : List Float) → ((i : ℕ) → T (fits binary64 (g i))) → RowHeld c → RowHeld (firstBy k g c)
-unfolding firstBy
-first-held zero g c f h = h
-first-held (suc k) g c f h = set-held (firstBy k g c) k (g k) (f k) (first-held k g c f h)
-
-pub copies-held : (n : ℕ) (x : Float) → T (fits binary64 x) → RowHeld (replicate n x)
-copies-held zero x f = held-none
-copies-held (suc n) x f = held-one f (copies-held n x f)
-
--- what is read from an image
-pub float-held : (s : List ℕ) (k : ℕ) → T (fits binary64 (floatAt s k))
-unfolding floatAt
-float-held s k = ofBits-fits binary64 _
-
-pub places-held : (n : ℕ) (s : List ℕ) (at : ℕ) → RowHeld (placesAt n s at)
-places-held n s at = first-held n (λ k. floatAt s (at + k)) (replicate n (ofBits binary64 0)) (λ i. float-held s (at + i)) (copies-held n (ofBits binary64 0) (ofBits-fits binary64 0))
-
-pub places-long : (n : ℕ) (s : List ℕ) (at : ℕ) → length (placesAt n s at) ≡ n
-places-long n s at = first-length (λ k. floatAt s (at + k)) (replicate n (ofBits binary64 0)) n ∙ length-replicate n (ofBits binary64 0)

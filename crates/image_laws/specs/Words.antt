@@ -44,15 +44,15 @@ number-other (suc j) k s a n b h =
     )
 
 -- the number that is written, where it fits
-number-back : (k : ℕ) (s : List ℕ) (a n : ℕ) → a + k < length s → n < 256 ^ suc k → bytesAt k (putBytes k s a n) a ≡ n
+number-read-back : (k : ℕ) (s : List ℕ) (a n : ℕ) → a + k < length s → n < 256 ^ suc k → bytesAt k (putBytes k s a n) a ≡ n
 unfolding bytesAt putBytes
-number-back zero s a n h m = getD-set-same s a (n % 256) 0 (omega (arith, h)) ∙ mod-eq-of-lt m
-number-back (suc k) s a n h m =
+number-read-back zero s a n h m = getD-set-same s a (n % 256) 0 (omega (arith, h)) ∙ mod-eq-of-lt m
+number-read-back (suc k) s a n h m =
     let l : a + 1 + k < length (set s a (n % 256)) = rw (length-set s a (n % 256)) (omega (arith, h)) in
     let q : n / 256 < 256 ^ suc k = omega (arith, m, pow-suc 256 (suc k)) in
     let o : Outside (a + 1) (a + 1 + k + 1) a = inl (omega arith) in
     let e : getD (putBytes k (set s a (n % 256)) (a + 1) (n / 256)) a 0 ≡ n % 256 = byte-other k (set s a (n % 256)) (a + 1) (n / 256) a o ∙ getD-set-same s a (n % 256) 0 (omega (arith, h)) in
-    rw (e, number-back k (set s a (n % 256)) (a + 1) (n / 256) l q) (mod-add-div n 256)
+    rw (e, number-read-back k (set s a (n % 256)) (a + 1) (n / 256) l q) (mod-add-div n 256)
 
 number-take : (k m : ℕ) (s : List ℕ) (a : ℕ) → a + k < m → bytesAt k (take m s) a ≡ bytesAt k s a
 unfolding bytesAt
@@ -83,15 +83,15 @@ unfolding wordAt
 word-other s k n j h = rw (word-length s k n) (ap (λ w. cond (leb (j * 8 + 8) (length s)) w 0) (other-bytes s k n j h))
 
 -- THE WORD THAT IS WRITTEN is read
-pub word-back : (s : List ℕ) (k n : ℕ) → k * 8 + 8 ≤ length s → n < 2 ^ 64 → wordAt (putWord s k n) k ≡ n
+pub word-read-back : (s : List ℕ) (k n : ℕ) → k * 8 + 8 ≤ length s → n < 2 ^ 64 → wordAt (putWord s k n) k ≡ n
 unfolding wordAt putWord
-word-back s k n h m =
-    rw (le-leb (k * 8 + 8) (length s) h, bytes-length 7 s (k * 8) n, le-leb (k * 8 + 8) (length s) h) (number-back 7 s (k * 8) n (omega (arith, h)) m)
+word-read-back s k n h m =
+    rw (le-leb (k * 8 + 8) (length s) h, bytes-length 7 s (k * 8) n, le-leb (k * 8 + 8) (length s) h) (number-read-back 7 s (k * 8) n (omega (arith, h)) m)
 
 -- so is a number that binary64 holds, the NaN too
-pub float-back : (s : List ℕ) (k : ℕ) (x : Float) → k * 8 + 8 ≤ length s → T (fits binary64 x) → floatAt (putFloat s k x) k ≡ x
+pub float-read-back : (s : List ℕ) (k : ℕ) (x : Float) → k * 8 + 8 ≤ length s → T (fits binary64 x) → floatAt (putFloat s k x) k ≡ x
 unfolding floatAt putFloat
-float-back s k x h f = rw (word-back s k (toBits binary64 x) h (toBits-lt binary64 x f)) (ofBits-toBits binary64 x f)
+float-read-back s k x h f = rw (word-read-back s k (toBits binary64 x) h (toBits-lt binary64 x f)) (ofBits-toBits binary64 x f)
 
 -- a word of the first m bytes
 pub word-take : (m : ℕ) (s : List ℕ) (k : ℕ) → k * 8 + 8 ≤ m → m ≤ length s → wordAt (take m s) k ≡ wordAt s k

@@ -1,8 +1,7 @@
--- THE ANSWER OF A RUN holds the cell after it, where the answer is written at all: the cell after as many calls of `step` as turns were made. Assumes nothing.
-use Prim.Native.Nat.{ℕ, zero, suc, _≤_, _+_, _/_}
+-- The answer of a run is read back as the cell after it, where the answer is written. Assumes nothing.
+use Prim.Native.Nat.{ℕ, zero, suc, _≤_, _/_}
 use mathlib.Core.Path.{_≡_, refl, sym, _∙_, subst}
 use mathlib.Core.List.{List, [], _∷_}
-use native.Mathlib.Omega.{arith}
 use native.Mathlib.Nat.{zero-lt-suc}
 use lib.Dec.{T, lit≤, eqb·suc-zero}
 use lib.ListN.{length, replicate}
@@ -16,18 +15,18 @@ use Rattle.discharge_run.specs.declared.Feed.{Feed}
 use Rattle.discharge_run.specs.Discharge.{RunSaid, feedOf, started, finishedRun, allTurns, runRefusal, discharged}
 use Rattle.solver_laws.specs.Demand.{Call, answer, cellAfter}
 use Rattle.solver_laws.specs.RunLists.{callOf, turnsMade, run-is-list}
-use Rattle.codec.specs.Words.{putWord}
 use Rattle.image_rows.specs.Written.{putEnding}
 use Rattle.cell_images.specs.Images.{cellAt, putCell}
 use Rattle.cell_calls.specs.Runs.{dischargeAfter}
-use Rattle.image_laws.specs.Rows.{Writes, same-below, writes-then, writes-word}
-use Rattle.image_laws.specs.Images.{CellHeld, cell-same, cell-back}
-use Rattle.image_laws.specs.Held.{cell-read, step-held}
+use Rattle.image_laws.specs.Rows.{same-below}
+use Rattle.image_laws.specs.CellImages.{EncodableCell, cell-same, cell-read-back}
+use Rattle.image_laws.specs.Reports.{writes-ending}
+use Rattle.image_laws.specs.CellEncodable.{cellAt-encodable, step-encodable}
 
-pub list-held : (qs : List Call) (s : SpmSolver) → CellHeld s → CellHeld (cellAfter s qs)
+pub list-encodable : (qs : List Call) (s : SpmSolver) → EncodableCell s → EncodableCell (cellAfter s qs)
 unfolding cellAfter
-list-held [] s h = h
-list-held (q ∷ qs) s h = list-held qs (answer s q .solver) (step-held s (q .current) (q .dt) (q .temp) h)
+list-encodable [] s h = h
+list-encodable (q ∷ qs) s h = list-encodable qs (answer s q .solver) (step-encodable s (q .current) (q .dt) (q .temp) h)
 
 -- a run that is not refused as a whole: its cell passes the checks
 module _ (w : Feed) (s : SpmSolver) (places : ℕ) (h : runRefusal w s places ≡ 0) where
@@ -59,10 +58,6 @@ told-run w s places = go (runRefusal w s places) refl
     go zero e t = e
     go (suc k) e t = absurd (rw (e, eqb·suc-zero k, eqb·suc-zero k) at t)
 
-pub writes-ending : (s : List ℕ) (at ending rows : ℕ) → Writes at (at + 1 + 1) s (putEnding s at ending rows)
-unfolding putEnding
-writes-ending s at ending rows = writes-then (omega arith) (omega arith) (writes-word s at ending) (writes-word (putWord s at ending) (at + 1) rows)
-
 module _ (s : List ℕ) (i dt t limit : Float) (places : ℕ) where
   abbrev said : RunSaid
   said = discharged (feedOf i dt t limit) (cellAt s) places
@@ -73,7 +68,7 @@ module _ (s : List ℕ) (i dt t limit : Float) (places : ℕ) where
   run-answer a h l =
       let z = told-run (feedOf i dt t limit) (cellAt s) places h in
       let e = run-cell (feedOf i dt t limit) (cellAt s) places z in
-      let k : CellHeld (said .solver) = subst CellHeld (sym e) (list-held _ (cellAt s) (cell-read s (run-passes (feedOf i dt t limit) (cellAt s) places z))) in
+      let k : EncodableCell (said .solver) = subst EncodableCell (sym e) (list-encodable _ (cellAt s) (cellAt-encodable s (run-passes (feedOf i dt t limit) (cellAt s) places z))) in
       let new = putCell a (said .solver) in
       rw (is-true (told (said .ended .refusal) (said .rows)) h)
-      (cell-same new (putEnding new 157 (said .ended .ending) (said .rows)) (same-below (lit≤ tt) (writes-ending new 157 (said .ended .ending) (said .rows))) ∙ cell-back a (said .solver) k l)
+      (cell-same new (putEnding new 157 (said .ended .ending) (said .rows)) (same-below (lit≤ tt) (writes-ending new 157 (said .ended .ending) (said .rows))) ∙ cell-read-back a (said .solver) k l)

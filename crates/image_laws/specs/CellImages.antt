@@ -1,4 +1,4 @@
--- A sheet, a particle, a configuration and a single-particle cell that are written into an image are read from it as they were. Assumes nothing.
+-- A sheet, a particle, a configuration and a single-particle cell that are written into an image are read back. Assumes nothing.
 use Prim.Native.Nat.{ℕ, _≤_, _<_, _+_, _*_, _^_}
 use mathlib.Core.Path.{_≡_, refl, _∙_}
 use mathlib.Core.Logic.{inl}
@@ -15,31 +15,32 @@ use Rattle.kinetics.specs.declared.SpmConfig.{SpmConfig}
 use Rattle.solver.specs.declared.SpmSolver.{SpmSolver}
 use Rattle.sheet_images.specs.Images.{sheetAt, sheetNumbers, putSheet, particleAt, putParticle, configAt, putConfig}
 use Rattle.cell_images.specs.Images.{cellAt, putCell}
-use Rattle.image_laws.specs.Words.{word-back, float-back}
-use Rattle.image_laws.specs.Rows.{Writes, Same, same-part, same-below, same-float, writes-then, writes-word, writes-float, writes-places, RowHeld, place-back, row-back, row-same}
+use Rattle.image_laws.specs.Words.{word-read-back, float-read-back}
+use Rattle.image_laws.specs.Encodable.{EncodableRow}
+use Rattle.image_laws.specs.Rows.{Writes, SameWords, same-part, same-below, same-float, writes-then, writes-word, writes-float, writes-places, place-read-back, row-read-back, row-same}
 
 -- ---- what an image can hold: words of 64 bits, numbers of binary64, profiles of 64 places
-pub record SheetHeld (p : ElectrodeParams) : Type 0 where
+pub record EncodableSheet (p : ElectrodeParams) : Type 0 where
   pub chemistry : p .«electrode_type» < 2 ^ 64
-  pub numbers : RowHeld (sheetNumbers p)
+  pub numbers : EncodableRow (sheetNumbers p)
 
-pub record ParticleHeld (p : ParticleDiffusion) : Type 0 where
-  pub sheet : SheetHeld (p .params)
+pub record EncodableParticle (p : ParticleDiffusion) : Type 0 where
+  pub sheet : EncodableSheet (p .params)
   pub nodes : p .«n_nodes» < 2 ^ 64
   pub long : length (p .«c_s») ≡ 64
-  pub places : RowHeld (p .«c_s»)
+  pub places : EncodableRow (p .«c_s»)
 
 abbrev pub configNumbers : SpmConfig → List Float
 configNumbers c = c .«v_min» ∷ c .«v_max» ∷ c .faraday ∷ c .«r_gas» ∷ c .«r_electrolyte_ohm_m2» ∷ []
 
-pub record ConfigHeld (c : SpmConfig) : Type 0 where
+pub record EncodableConfig (c : SpmConfig) : Type 0 where
   pub nodes : c .«n_nodes» < 2 ^ 64
-  pub numbers : RowHeld (configNumbers c)
+  pub numbers : EncodableRow (configNumbers c)
 
-pub record CellHeld (s : SpmSolver) : Type 0 where
-  pub config : ConfigHeld (s .config)
-  pub anode : ParticleHeld (s .anode)
-  pub cathode : ParticleHeld (s .cathode)
+pub record EncodableCell (s : SpmSolver) : Type 0 where
+  pub config : EncodableConfig (s .config)
+  pub anode : EncodableParticle (s .anode)
+  pub cathode : EncodableParticle (s .cathode)
   pub clock : T (fits binary64 (s .«time_s»))
 
 -- ---- a sheet: ten words
@@ -49,7 +50,7 @@ writes-sheet s at p =
     let e : at + 10 ≡ at + 1 + 9 = omega arith in
     rw e (writes-then (omega arith) (omega arith) (writes-word s at (p .«electrode_type»)) (writes-places 9 (putWord s at (p .«electrode_type»)) (at + 1) (sheetNumbers p)))
 
-pub sheet-same : (s s' : List ℕ) (at : ℕ) → Same at (at + 10) s s' → sheetAt s' at ≡ sheetAt s at
+pub sheet-same : (s s' : List ℕ) (at : ℕ) → SameWords at (at + 10) s s' → sheetAt s' at ≡ sheetAt s at
 unfolding sheetAt
 sheet-same s s' at p =
     rw (
@@ -65,14 +66,14 @@ sheet-same s s' at p =
       same-float p (at + 9) (omega arith) (omega arith),
     )
 
-pub sheet-back : (s : List ℕ) (at : ℕ) (p : ElectrodeParams) → (at + 10) * 8 ≤ length s → SheetHeld p → sheetAt (putSheet s at p) at ≡ p
+pub sheet-read-back : (s : List ℕ) (at : ℕ) (p : ElectrodeParams) → (at + 10) * 8 ≤ length s → EncodableSheet p → sheetAt (putSheet s at p) at ≡ p
 unfolding sheetAt putSheet
-sheet-back s at p h k =
+sheet-read-back s at p h k =
     let t = putWord s at (p .«electrode_type») in
     let l : (at + 1 + 9) * 8 ≤ length t = rw (writes-word s at (p .«electrode_type») .size) (omega (arith, h)) in
     let first : wordAt (putRow t (at + 1) (sheetNumbers p)) at ≡ p .«electrode_type» =
-    writes-places 9 t (at + 1) (sheetNumbers p) .outside at (inl (omega arith)) ∙ word-back s at (p .«electrode_type») (omega (arith, h)) (k .chemistry) in
-    let next : (i j : ℕ) → i < 9 → j ≡ at + 1 + i → floatAt (putRow t (at + 1) (sheetNumbers p)) j ≡ getD (sheetNumbers p) i nan = place-back t (at + 1) (sheetNumbers p) l (k .numbers) in
+    writes-places 9 t (at + 1) (sheetNumbers p) .outside at (inl (omega arith)) ∙ word-read-back s at (p .«electrode_type») (omega (arith, h)) (k .chemistry) in
+    let next : (i j : ℕ) → i < 9 → j ≡ at + 1 + i → floatAt (putRow t (at + 1) (sheetNumbers p)) j ≡ getD (sheetNumbers p) i nan = place-read-back t (at + 1) (sheetNumbers p) l (k .numbers) in
     rw (
       first,
       next 0 (at + 1) (lit≤ tt) (omega arith),
@@ -98,7 +99,7 @@ writes-particle s at p l =
     rw e
     (writes-then (omega arith) (omega arith) (writes-then (omega arith) (omega arith) (writes-sheet s at (p .params)) w) (writes-places (length (p .«c_s»)) u (at + 11) (p .«c_s»)))
 
-pub particle-same : (s s' : List ℕ) (at : ℕ) → Same at (at + 75) s s' → particleAt s' at ≡ particleAt s at
+pub particle-same : (s s' : List ℕ) (at : ℕ) → SameWords at (at + 75) s s' → particleAt s' at ≡ particleAt s at
 unfolding particleAt
 particle-same s s' at p =
     rw (
@@ -107,9 +108,9 @@ particle-same s s' at p =
       row-same 64 s s' (at + 11) (same-part (omega arith) (omega arith) p),
     )
 
-pub particle-back : (s : List ℕ) (at : ℕ) (p : ParticleDiffusion) → (at + 75) * 8 ≤ length s → ParticleHeld p → particleAt (putParticle s at p) at ≡ p
+pub particle-read-back : (s : List ℕ) (at : ℕ) (p : ParticleDiffusion) → (at + 75) * 8 ≤ length s → EncodableParticle p → particleAt (putParticle s at p) at ≡ p
 unfolding particleAt putParticle
-particle-back s at p h k =
+particle-read-back s at p h k =
     let t = putSheet s at (p .params) in
     let u = putWord t (at + 10) (p .«n_nodes») in
     let v = putRow u (at + 11) (p .«c_s») in
@@ -118,16 +119,16 @@ particle-back s at p h k =
     let wu = writes-word t (at + 10) (p .«n_nodes») in
     let wv = writes-places (length (p .«c_s»)) u (at + 11) (p .«c_s») in
     let sheet : sheetAt v at ≡ p .params =
-    sheet-same u v at (same-below (omega arith) wv) ∙ sheet-same t u at (same-below (le-refl (at + 10)) wu) ∙ sheet-back s at (p .params) (omega (arith, h)) (k .sheet) in
-    let nodes : wordAt v (at + 10) ≡ p .«n_nodes» = wv .outside (at + 10) (inl (omega arith)) ∙ word-back t (at + 10) (p .«n_nodes») (rw lt (omega (arith, h))) (k .nodes) in
-    rw (sheet, nodes, row-back 64 u (at + 11) (p .«c_s») (k .long) (rw lu (omega (arith, h))) (k .places))
+    sheet-same u v at (same-below (omega arith) wv) ∙ sheet-same t u at (same-below (le-refl (at + 10)) wu) ∙ sheet-read-back s at (p .params) (omega (arith, h)) (k .sheet) in
+    let nodes : wordAt v (at + 10) ≡ p .«n_nodes» = wv .outside (at + 10) (inl (omega arith)) ∙ word-read-back t (at + 10) (p .«n_nodes») (rw lt (omega (arith, h))) (k .nodes) in
+    rw (sheet, nodes, row-read-back 64 u (at + 11) (p .«c_s») (k .long) (rw lu (omega (arith, h))) (k .places))
 
 -- ---- a configuration in the first six words
 pub writes-config : (s : List ℕ) (c : SpmConfig) → Writes 0 6 s (putConfig s c)
 unfolding putConfig
 writes-config s c = writes-then (lit≤ tt) (lit≤ tt) (writes-word s 0 (c .«n_nodes»)) (writes-places 5 (putWord s 0 (c .«n_nodes»)) 1 (configNumbers c))
 
-pub config-same : (s s' : List ℕ) → Same 0 6 s s' → configAt s' ≡ configAt s
+pub config-same : (s s' : List ℕ) → SameWords 0 6 s s' → configAt s' ≡ configAt s
 unfolding configAt
 config-same s s' p =
     rw (
@@ -139,17 +140,17 @@ config-same s s' p =
       same-float p 5 (lit≤ tt) (lit≤ tt),
     )
 
-pub config-back : (s : List ℕ) (c : SpmConfig) → 48 ≤ length s → ConfigHeld c → configAt (putConfig s c) ≡ c
+pub config-read-back : (s : List ℕ) (c : SpmConfig) → 48 ≤ length s → EncodableConfig c → configAt (putConfig s c) ≡ c
 unfolding configAt putConfig
-config-back s c h k =
+config-read-back s c h k =
     let t = putWord s 0 (c .«n_nodes») in
     let l : (1 + 5) * 8 ≤ length t = rw (writes-word s 0 (c .«n_nodes») .size) h in
-    let first : wordAt (putRow t 1 (configNumbers c)) 0 ≡ c .«n_nodes» = writes-places 5 t 1 (configNumbers c) .outside 0 (inl (lit≤ tt)) ∙ word-back s 0 (c .«n_nodes») (omega (arith, h)) (k .nodes) in
-    let next : (i j : ℕ) → i < 5 → j ≡ 1 + i → floatAt (putRow t 1 (configNumbers c)) j ≡ getD (configNumbers c) i nan = place-back t 1 (configNumbers c) l (k .numbers) in
+    let first : wordAt (putRow t 1 (configNumbers c)) 0 ≡ c .«n_nodes» = writes-places 5 t 1 (configNumbers c) .outside 0 (inl (lit≤ tt)) ∙ word-read-back s 0 (c .«n_nodes») (omega (arith, h)) (k .nodes) in
+    let next : (i j : ℕ) → i < 5 → j ≡ 1 + i → floatAt (putRow t 1 (configNumbers c)) j ≡ getD (configNumbers c) i nan = place-read-back t 1 (configNumbers c) l (k .numbers) in
     rw (first, next 0 1 (lit≤ tt) refl, next 1 2 (lit≤ tt) refl, next 2 3 (lit≤ tt) refl, next 3 4 (lit≤ tt) refl, next 4 5 (lit≤ tt) refl)
 
 -- ---- a cell: configuration, anode, cathode, clock
-pub cell-same : (s s' : List ℕ) → Same 0 157 s s' → cellAt s' ≡ cellAt s
+pub cell-same : (s s' : List ℕ) → SameWords 0 157 s s' → cellAt s' ≡ cellAt s
 unfolding cellAt
 cell-same s s' p =
     rw (
@@ -159,7 +160,7 @@ cell-same s s' p =
       same-float p 156 (lit≤ tt) (lit≤ tt),
     )
 
-module _ (s : List ℕ) (c : SpmSolver) (k : CellHeld c) where
+module _ (s : List ℕ) (c : SpmSolver) (k : EncodableCell c) where
   abbrev s1 : List ℕ
   s1 = putConfig s (c .config)
 
@@ -187,14 +188,14 @@ module _ (s : List ℕ) (c : SpmSolver) (k : CellHeld c) where
       writes-then (lit≤ tt) (lit≤ tt) (writes-then (lit≤ tt) (lit≤ tt) (writes-then (lit≤ tt) (lit≤ tt) w1 w2) w3) w4
 
   -- THE CELL THAT IS WRITTEN is read
-  pub cell-back : 1256 ≤ length s → cellAt (putCell s c) ≡ c
+  pub cell-read-back : 1256 ≤ length s → cellAt (putCell s c) ≡ c
   unfolding cellAt putCell
-  cell-back h =
+  cell-read-back h =
       let u = putFloat s3 156 (c .«time_s») in
       let config : configAt u ≡ c .config =
-      config-same s3 u (same-below (lit≤ tt) w4) ∙ config-same s2 s3 (same-below (lit≤ tt) w3) ∙ config-same s1 s2 (same-below (lit≤ tt) w2) ∙ config-back s (c .config) (omega (arith, h)) (k .config) in
+      config-same s3 u (same-below (lit≤ tt) w4) ∙ config-same s2 s3 (same-below (lit≤ tt) w3) ∙ config-same s1 s2 (same-below (lit≤ tt) w2) ∙ config-read-back s (c .config) (omega (arith, h)) (k .config) in
       let anode : particleAt u 6 ≡ c .anode =
-      particle-same s3 u 6 (same-below (lit≤ tt) w4) ∙ particle-same s2 s3 6 (same-below (lit≤ tt) w3) ∙ particle-back s1 6 (c .anode) (rw (w1 .size) (omega (arith, h))) (k .anode) in
+      particle-same s3 u 6 (same-below (lit≤ tt) w4) ∙ particle-same s2 s3 6 (same-below (lit≤ tt) w3) ∙ particle-read-back s1 6 (c .anode) (rw (w1 .size) (omega (arith, h))) (k .anode) in
       let cathode : particleAt u 81 ≡ c .cathode =
-      particle-same s3 u 81 (same-below (lit≤ tt) w4) ∙ particle-back s2 81 (c .cathode) (rw (w2 .size, w1 .size) (omega (arith, h))) (k .cathode) in
-      rw (config, anode, cathode, float-back s3 156 (c .«time_s») (rw (w3 .size, w2 .size, w1 .size) (omega (arith, h))) (k .clock))
+      particle-same s3 u 81 (same-below (lit≤ tt) w4) ∙ particle-read-back s2 81 (c .cathode) (rw (w2 .size, w1 .size) (omega (arith, h))) (k .cathode) in
+      rw (config, anode, cathode, float-read-back s3 156 (c .«time_s») (rw (w3 .size, w2 .size, w1 .size) (omega (arith, h))) (k .clock))

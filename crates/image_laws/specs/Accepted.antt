@@ -1,0 +1,37 @@
+-- What it means that a call returns 0: its lengths are right, its inputs pass, and its answer is what it writes. Assumes nothing.
+use Prim.Native.Nat.{ℕ, zero, suc}
+use mathlib.Core.Path.{_≡_, refl, sym, _∙_}
+use mathlib.Core.Bool.{Bool, true, false, cond}
+use mathlib.Core.List.{List}
+use native.Mathlib.Omega.{arith}
+use borrow.Author.Tests.{eqb-true}
+use lib.Dec.{eqb, eqb·suc-zero}
+use lib.ListN.{length}
+use Rattle.refusal.specs.Numbers as N
+use Rattle.boundary.specs.Calls.{lengths, met}
+
+-- one of two values of which both have a property
+pub cond-both : {A : Type 0} (P : A → Type 0) (b : Bool) (x y : A) → P x → P y → P (cond b x y)
+cond-both P true x y p q = p
+cond-both P false x y p q = q
+
+-- an answer that is x where the inputs' number k is 0 and else y, which has the number k
+pub inputs-pass : {A : Type 0} (number : A → ℕ) (k : ℕ) (x y : A) → number y ≡ k → number (cond (eqb k 0) x y) ≡ 0 → k ≡ 0
+inputs-pass number zero x y e h = refl
+inputs-pass number (suc k) x y e h = let z : suc k ≡ 0 = sym e ∙ (rw (eqb·suc-zero k) at h) in z
+
+-- a call of the boundary that returns 0: image s of m bytes, answer a of n bytes, the number k, and `new` in the answer
+pub record Accepted (s a : List ℕ) (m n k : ℕ) (new : List ℕ) : Type 0 where
+  pub image : length s ≡ m
+  pub answer : length a ≡ n
+  pub number : k ≡ 0
+  pub writes : cond (lengths (length s) m (length a) n) new a ≡ new
+
+pub accepted : (s a : List ℕ) (m n k : ℕ) (new : List ℕ) → met (lengths (length s) m (length a) n) k ≡ 0 → Accepted s a m n k new
+unfolding met
+accepted s a m n k new = go (eqb (length s) m) (eqb (length a) n) refl refl
+  where
+    go : (x y : Bool) → eqb (length s) m ≡ x → eqb (length a) n ≡ y → met (lengths (length s) m (length a) n) k ≡ 0 → Accepted s a m n k new
+    go true true d e h = record { image = eqb-true _ _ d; answer = eqb-true _ _ e; number = rw (d, e) at h; writes = rw (d, e) }
+    go true false d e h = let z : N.length ≡ 0 = rw (d, e) at h in absurd (omega (arith, z))
+    go false y d e h = let z : N.length ≡ 0 = rw d at h in absurd (omega (arith, z))
