@@ -1,10 +1,10 @@
 -- A Doyle-Fuller-Newman cell of an image that passes the checks can be written into an image, and so can what a step makes of it. Assumes nothing.
-use Prim.Native.Nat.{ℕ, zero, suc, _≤_, _+_, _*_}
+use Prim.Native.Nat.{ℕ, zero, suc, _≤_, _<_, _+_, _*_, _^_}
 use mathlib.Core.Path.{_≡_, refl, _∙_}
-use mathlib.Core.Bool.{Bool, true, false, cond, _&&_}
+use mathlib.Core.Bool.{cond, _&&_}
 use mathlib.Core.List.{List}
 use native.Mathlib.Omega.{arith}
-use lib.Dec.{T, eqb, ltb}
+use lib.Dec.{T, lit≤, eqb, ltb}
 use lib.ListN.{length}
 use lib.Ieee.{Float, binary64, fits, neg}
 use lib.Ieee.Bits.{ofBits-fits}
@@ -18,16 +18,19 @@ use Rattle.dfn_electrolyte.specs.declared.Region.{Region}
 use Rattle.dfn_electrolyte.specs.Electrolyte as DE
 use Rattle.dfn_solid.specs.declared.Grain.{Grain}
 use Rattle.dfn_solid.specs.Solid as DS
+use Rattle.dfn_places.specs.Places.{changeAfter}
 use Rattle.dfn_voltage.specs.Voltage.{voltageOf}
 use Rattle.dfn.specs.declared.DfnSolver.{DfnSolver}
+use Rattle.dfn.specs.declared.DfnStep.{DfnStep}
 use Rattle.dfn.specs.declared.DfnAnswer.{DfnAnswer}
 use Rattle.dfn.specs.Checks as DC
 use Rattle.dfn.specs.Step as D
 use Rattle.codec.specs.Words.{wordAt, placesAt}
 use Rattle.parameter_images.specs.Images.{paramsOf, paramsAt, paramsNumbers, configAt}
-use Rattle.porous_images.specs.Images.{cellAt}
+use Rattle.porous_images.specs.Images.{cellAt, reportNumbers}
 use Rattle.porous_calls.specs.Steps.{electrolyteAfter}
-use Rattle.image_laws.specs.Encodable.{EncodableRow, []ᵉ, _∷ᵉ_, first-encodable, placesBy-encodable, clamp-fits, float-encodable, places-encodable, places-count}
+use Rattle.image_laws.specs.Accepted.{cond-both}
+use Rattle.image_laws.specs.Encodable.{EncodableRow, []ᵉ, _∷ᵉ_, first-encodable, placesBy-encodable, clamp-fits, max-fits, abs-fits, literal, float-encodable, places-encodable, places-count}
 use Rattle.image_laws.specs.DfnImages.{EncodableParams, EncodableGrid, EncodableDfn}
 
 -- ---- a Doyle-Fuller-Newman cell that passes the checks
@@ -137,15 +140,39 @@ dfn-moved d i dt f h = record {
   last = add-fits binary64 _ _ ∷ᵉ voltage-fits (d .params) _ _ _ i ∷ᵉ f ∷ᵉ div-fits binary64 _ _ ∷ᵉ div-fits binary64 _ _ ∷ᵉ []ᵉ;
 }
 
-one-dfn : (b : Bool) (x y : DfnAnswer) → EncodableDfn (x .cell) → EncodableDfn (y .cell) → EncodableDfn (cond b x y .cell)
-one-dfn true x y h k = h
-one-dfn false x y h k = k
-
 pub dfn-step-encodable : (d : DfnSolver) (i dt : Float) → T (fits binary64 i) → EncodableDfn d → EncodableDfn (D.stepped d i dt .cell)
 unfolding D.stepped D.advanced D.followed D.answered
 dfn-step-encodable d i dt f h =
     let r = D.reportOf d (D.movedBy d i dt) i dt in
     let new = D.cellWith d (D.movedBy d i dt) r in
     let all : DfnAnswer = record { refusal = 0; report = r; cell = new } in
-    one-dfn (eqb (DC.stepRefusal d i dt) 0) (cond (D.allNumbers new r) all (D.refusedWith notFinite d)) (D.refusedWith (DC.stepRefusal d i dt) d)
-    (one-dfn (D.allNumbers new r) all (D.refusedWith notFinite d) (dfn-moved d i dt f h) h) h
+    let P : DfnAnswer → Type 0 = λ a. EncodableDfn (a .cell) in
+    cond-both P (eqb (DC.stepRefusal d i dt) 0) (cond (D.allNumbers new r) all (D.refusedWith notFinite d)) (D.refusedWith (DC.stepRefusal d i dt) d)
+    (cond-both P (D.allNumbers new r) all (D.refusedWith notFinite d) (dfn-moved d i dt f h) h) h
+
+-- ---- and its report
+change-fits : (new old : List Float) (k : ℕ) → T (fits binary64 (changeAfter new old k))
+unfolding changeAfter
+change-fits new old zero = ofBits-fits binary64 0
+change-fits new old (suc k) = max-fits (changeAfter new old k) _ (change-fits new old k) (abs-fits _ (sub-fits binary64 _ _))
+
+moved-report : (d : DfnSolver) (i dt : Float) → T (fits binary64 i) → EncodableRow (reportNumbers (D.reportOf d (D.movedBy d i dt) i dt))
+unfolding D.reportOf D.movedBy DS.solidAfter
+moved-report d i dt f =
+    voltage-fits (d .params) _ _ _ i ∷ᵉ f ∷ᵉ add-fits binary64 _ _ ∷ᵉ div-fits binary64 _ _ ∷ᵉ div-fits binary64 _ _ ∷ᵉ change-fits _ _ _ ∷ᵉ []ᵉ
+
+-- the report of an accepted step
+pub record EncodableReport (r : DfnStep) : Type 0 where
+  pub numbers : EncodableRow (reportNumbers r)
+  pub count : r .«newton_iter» < 2 ^ 64
+
+pub dfn-report-encodable : (d : DfnSolver) (i dt : Float) → T (fits binary64 i) → EncodableReport (D.stepped d i dt .report)
+unfolding D.stepped D.advanced D.followed D.answered D.reportOf D.noReport
+dfn-report-encodable d i dt f =
+    let r = D.reportOf d (D.movedBy d i dt) i dt in
+    let new = D.cellWith d (D.movedBy d i dt) r in
+    let all : DfnAnswer = record { refusal = 0; report = r; cell = new } in
+    let P : DfnAnswer → Type 0 = λ a. EncodableReport (a .report) in
+    let none : EncodableReport D.noReport = record { numbers = literal _ ∷ᵉ literal _ ∷ᵉ literal _ ∷ᵉ literal _ ∷ᵉ literal _ ∷ᵉ literal _ ∷ᵉ []ᵉ; count = lit≤ tt } in
+    cond-both P (eqb (DC.stepRefusal d i dt) 0) (cond (D.allNumbers new r) all (D.refusedWith notFinite d)) (D.refusedWith (DC.stepRefusal d i dt) d)
+    (cond-both P (D.allNumbers new r) all (D.refusedWith notFinite d) (record { numbers = moved-report d i dt f; count = lit≤ tt }) none) none

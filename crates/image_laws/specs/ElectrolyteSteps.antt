@@ -1,10 +1,9 @@
 -- The answer of an accepted step of an electrolyte is read back as what `stepped` gives. Assumes nothing.
-use Prim.Native.Nat.{ℕ, zero, suc, _≤_}
+use Prim.Native.Nat.{ℕ, _≤_}
 use mathlib.Core.Path.{_≡_, refl, _∙_}
-use mathlib.Core.Bool.{Bool, true, false, cond}
 use mathlib.Core.List.{List}
 use native.Mathlib.Omega.{arith}
-use lib.Dec.{T, eqb, eqb·suc-zero}
+use lib.Dec.{T, eqb}
 use lib.ListN.{length}
 use lib.Ieee.{Float, binary64, fits, neg}
 use lib.Ieee.Bits.{ofBits-fits}
@@ -23,11 +22,11 @@ use Rattle.electrolyte.specs.Accepted as EA
 use Rattle.image_rows.specs.Written.{written}
 use Rattle.electrolyte_images.specs.Images.{saltAt, electrolyteAt}
 use Rattle.porous_calls.specs.Steps.{electrolyteNumber, electrolyteAfter}
-use Rattle.image_laws.specs.Accepted.{accepted}
+use Rattle.image_laws.specs.Accepted.{cond-both, inputs-pass, accepted}
 use Rattle.image_laws.specs.Encodable.{EncodableRow, []ᵉ, _∷ᵉ_, first-encodable, max-fits, float-encodable, places-encodable, places-count}
 use Rattle.image_laws.specs.ElectrolyteImages.{saltNumbers, EncodableElectrolyte, writes-electrolyte, electrolyte-read-back}
 
--- ---- an electrolyte
+-- ---- an electrolyte of an image
 pub saltAt-encodable : (s : List ℕ) → EncodableRow (saltNumbers (saltAt s))
 unfolding saltAt
 saltAt-encodable s = float-encodable s 0 ∷ᵉ float-encodable s 1 ∷ᵉ float-encodable s 2 ∷ᵉ float-encodable s 3 ∷ᵉ float-encodable s 4 ∷ᵉ float-encodable s 5 ∷ᵉ float-encodable s 6 ∷ᵉ []ᵉ
@@ -62,38 +61,31 @@ electrolyte-profile e v h = record {
   places = first-encodable (v .n) (nodeNew v (e .«c_e»)) (e .«c_e») (electrolyte-node v (e .«c_e»)) (h .places);
 }
 
-one-electrolyte : (b : Bool) (x y : StateAnswer) → EncodableElectrolyte (x .state) → EncodableElectrolyte (y .state) → EncodableElectrolyte (cond b x y .state)
-one-electrolyte true x y h k = h
-one-electrolyte false x y h k = k
-
 pub electrolyte-step-encodable : (e : ElectrolyteState) (jNeg jPos dt t : Float) → EncodableElectrolyte e → EncodableElectrolyte (E.stepped e jNeg jPos dt t .state)
 unfolding E.stepped E.accepted
 electrolyte-step-encodable e jNeg jPos dt t h =
     let c = profileNew (driveOf e jNeg jPos dt t) (e .«c_e») in
-    one-electrolyte (eqb (E.stepRefusal e jNeg jPos dt t) 0) (cond (EP.allFinite c) (E.answer 0 (withProfile e c)) (E.answer notFinite e)) (E.answer (E.stepRefusal e jNeg jPos dt t) e)
-    (one-electrolyte (EP.allFinite c) (E.answer 0 (withProfile e c)) (E.answer notFinite e) (electrolyte-profile e (driveOf e jNeg jPos dt t) h) h) h
+    let P : StateAnswer → Type 0 = λ a. EncodableElectrolyte (a .state) in
+    cond-both P (eqb (E.stepRefusal e jNeg jPos dt t) 0) (E.accepted e c) (E.answer (E.stepRefusal e jNeg jPos dt t) e)
+    (cond-both P (EP.allFinite c) (E.answer 0 (withProfile e c)) (E.answer notFinite e) (electrolyte-profile e (driveOf e jNeg jPos dt t) h) h) h
 
-module _ (s : List ℕ) (jNeg jPos dt t : Float) where
-  electrolyte-accepted : E.stepped (electrolyteAt s) jNeg jPos dt t .refusal ≡ 0 → E.stateRefusal (electrolyteAt s) ≡ 0
-  unfolding E.stepped
-  electrolyte-accepted = go (E.stepRefusal (electrolyteAt s) jNeg jPos dt t) refl
-    where
-      go : (k : ℕ) → E.stepRefusal (electrolyteAt s) jNeg jPos dt t ≡ k → E.stepped (electrolyteAt s) jNeg jPos dt t .refusal ≡ 0 → E.stateRefusal (electrolyteAt s) ≡ 0
-      go zero e z = EA.step-state (electrolyteAt s) jNeg jPos dt t e
-      go (suc k) e z = let y : suc k ≡ 0 = rw (e, eqb·suc-zero k) at z in absurd (omega (arith, y))
+-- ---- a step's answer
+module _ (s : List ℕ) (jNeg jPos dt t : Float) (a : List ℕ) (h : electrolyteNumber s jNeg jPos dt t ≡ 0) where
+  abbrev after : ElectrolyteState
+  after = E.stepped (electrolyteAt s) jNeg jPos dt t .state
 
-  accepted-electrolyte : electrolyteNumber s jNeg jPos dt t ≡ 0 → EncodableElectrolyte (E.stepped (electrolyteAt s) jNeg jPos dt t .state)
-  unfolding electrolyteNumber
-  accepted-electrolyte h = electrolyte-step-encodable (electrolyteAt s) jNeg jPos dt t (electrolyteAt-encodable s (electrolyte-accepted h))
+  electrolyte-passes : E.stateRefusal (electrolyteAt s) ≡ 0
+  unfolding electrolyteNumber E.stepped
+  electrolyte-passes =
+      EA.step-state (electrolyteAt s) jNeg jPos dt t (inputs-pass (λ (x : StateAnswer). x .refusal) (E.stepRefusal (electrolyteAt s) jNeg jPos dt t) _ _ refl h)
 
-  -- THE ELECTROLYTE OF THE ANSWER is the stepped one
-  pub electrolyte-answer : (a : List ℕ) → electrolyteNumber s jNeg jPos dt t ≡ 0 → 896 ≤ length a
-      → electrolyteAt (electrolyteAfter s jNeg jPos dt t a) ≡ E.stepped (electrolyteAt s) jNeg jPos dt t .state
+  stepped-electrolyte : EncodableElectrolyte after
+  stepped-electrolyte = electrolyte-step-encodable (electrolyteAt s) jNeg jPos dt t (electrolyteAt-encodable s electrolyte-passes)
+
+  pub electrolyte-answer : 896 ≤ length a → electrolyteAt (electrolyteAfter s jNeg jPos dt t a) ≡ E.stepped (electrolyteAt s) jNeg jPos dt t .state
   unfolding electrolyteAfter written
-  electrolyte-answer a h l =
-      rw (eq-eqb (electrolyteNumber s jNeg jPos dt t) 0 h) (electrolyte-read-back a (E.stepped (electrolyteAt s) jNeg jPos dt t .state) (accepted-electrolyte h) l)
+  electrolyte-answer l = rw (eq-eqb (electrolyteNumber s jNeg jPos dt t) 0 h) (electrolyte-read-back a after stepped-electrolyte l)
 
-  pub electrolyte-answer-length : (a : List ℕ) → electrolyteNumber s jNeg jPos dt t ≡ 0 → length (electrolyteAfter s jNeg jPos dt t a) ≡ length a
+  pub electrolyte-answer-length : length (electrolyteAfter s jNeg jPos dt t a) ≡ length a
   unfolding electrolyteAfter written
-  electrolyte-answer-length a h =
-      rw (eq-eqb (electrolyteNumber s jNeg jPos dt t) 0 h) (writes-electrolyte a (E.stepped (electrolyteAt s) jNeg jPos dt t .state) (accepted-electrolyte h) .size)
+  electrolyte-answer-length = rw (eq-eqb (electrolyteNumber s jNeg jPos dt t) 0 h) (writes-electrolyte a after stepped-electrolyte .size)

@@ -5,11 +5,11 @@ use mathlib.Core.Bool.{cond, _||_}
 use mathlib.Core.List.{List, [], _∷_}
 use lib.Dec.{T}
 use lib.ListN.{length, getD, set, replicate, length-replicate}
-use lib.Ieee.{Float, nan, isNan, lt, binary64, fits, ofBits}
+use lib.Ieee.{Float, nan, inf, fin, isNan, lt, binary64, fits, ofBits}
 use lib.Ieee.Bits.{ofBits-fits}
 use lib.Ieee.Fits.{nan-fits, cond-fits}
 use Rattle.binary64.specs.Operators.{f64}
-use Rattle.choice.specs.Choice.{clampOf, maxOf}
+use Rattle.choice.specs.Choice.{absOf, clampOf, maxOf}
 use Rattle.turns.specs.Turns.{firstBy, first-length}
 use Rattle.places.specs.Places.{placesBy}
 use Rattle.codec.specs.Words.{floatAt, placesAt}
@@ -68,6 +68,13 @@ clamp-fits x lo hi f l h =
 
 pub max-fits : (a b : Float) → T (fits binary64 a) → T (fits binary64 b) → T (fits binary64 (maxOf a b))
 max-fits a b f g = cond-fits binary64 (isNan a || lt a b) b a g f
+
+pub abs-fits : (x : Float) → T (fits binary64 x) → T (fits binary64 (absOf x))
+unfolding fits
+abs-fits nan f = f
+abs-fits (inf s) f = f
+abs-fits (fin s zero e) f = f
+abs-fits (fin s (suc m) e) f = f
 
 -- the numbers of a C call: any pattern of 64 bits
 pub literal : (bits : ℕ) → T (fits binary64 (f64 bits))
