@@ -1,81 +1,155 @@
--- The answer of a run of a Doyle-Fuller-Newman cell is read back as the cell after it, where the answer is written. Assumes nothing.
-use Prim.Native.Nat.{ℕ, zero, suc, _≤_, _/_}
-use mathlib.Core.Path.{_≡_, refl, _∙_}
-use mathlib.Core.Bool.{Bool, true, false, cond}
+-- The answer of a run of a Doyle-Fuller-Newman cell, where it is written, is read back as the cell after the run, its ending and its count of rows. Assumes nothing.
+use Prim.Native.Nat.{ℕ, zero, suc, _≤_, _<_, _+_, _/_, _^_}
+use mathlib.Core.Path.{_≡_, refl, sym, ap, _∙_}
+use mathlib.Core.Bool.{cond}
 use mathlib.Core.List.{List}
+use native.Mathlib.Omega.{arith}
+use native.Mathlib.Nat.{le-refl}
 use lib.Dec.{T, lit≤, eqb, eqb·suc-zero}
-use lib.ListN.{length}
+use lib.ListN.{length, take}
+use lib.Seq.{length-take-le}
 use lib.Ieee.{Float, binary64, fits}
 use lib.Ieee.Bits.{is-true}
-use Rattle.refusal.specs.Numbers.{none-met}
+use Rattle.refusal.specs.Numbers.{none-met, notFinite}
 use Rattle.runs.specs.Told.{told}
 use Rattle.runs.specs.Rows.{runAfter}
+use Rattle.runs.specs.Endings.{byRefusal}
 use Rattle.dfn.specs.declared.DfnSolver.{DfnSolver}
 use Rattle.dfn.specs.declared.DfnAnswer.{DfnAnswer}
 use Rattle.dfn.specs.Checks as DC
-use Rattle.dfn.specs.Step.{stepped}
+use Rattle.dfn.specs.Step as D
 use Rattle.galvanostatic_run.specs.declared.Feed.{Feed}
 use Rattle.galvanostatic_run.specs.declared.Course.{Course}
 use Rattle.galvanostatic_run.specs.Galvanostatic.{RunSaid, feedOf, started, followed, turned, overOf, lastRow, finishedRun, allTurns, runRefusal, galvanostatic}
+use Rattle.codec.specs.Words.{wordAt}
 use Rattle.image_rows.specs.Written.{putEnding}
 use Rattle.porous_images.specs.Images.{cellAt, putCell}
 use Rattle.porous_calls.specs.Runs.{galvanostaticAfter}
+use Rattle.image_laws.specs.Accepted.{cond-both}
 use Rattle.image_laws.specs.Rows.{same-below}
-use Rattle.image_laws.specs.Reports.{writes-ending}
-use Rattle.image_laws.specs.DfnImages.{EncodableDfn, dfn-same, dfn-read-back}
+use Rattle.image_laws.specs.Reports.{writes-ending, ending-read-back, rows-read-back}
+use Rattle.image_laws.specs.DfnImages.{EncodableDfn, dfn-same, writes-dfn, dfn-read-back}
+use Rattle.image_laws.specs.Turns.{run-keeps, run-rows, ending-most}
 use Rattle.image_laws.specs.DfnEncodable.{dfnAt-encodable, dfn-step-encodable}
+use Rattle.image_laws.specs.DfnSteps.{first-dfn}
 
-one-course : (b : Bool) (x y : Course) → EncodableDfn (x .cell) → EncodableDfn (y .cell) → EncodableDfn (cond b x y .cell)
-one-course true x y h k = h
-one-course false x y h k = k
+-- ---- a refused step leaves the cell
+pub dfn-step-refused : (d : DfnSolver) (i dt : Float) → (D.stepped d i dt .refusal ≡ 0 → ⊥) → D.stepped d i dt .cell ≡ d
+unfolding D.stepped D.advanced D.followed D.answered
+dfn-step-refused d i dt =
+    let r = D.reportOf d (D.movedBy d i dt) i dt in
+    let new = D.cellWith d (D.movedBy d i dt) r in
+    let all : DfnAnswer = record { refusal = 0; report = r; cell = new } in
+    let P : DfnAnswer → Type 0 = λ a. (a .refusal ≡ 0 → ⊥) → a .cell ≡ d in
+    cond-both P (eqb (DC.stepRefusal d i dt) 0) (cond (D.allNumbers new r) all (D.refusedWith notFinite d)) (D.refusedWith (DC.stepRefusal d i dt) d)
+    (cond-both P (D.allNumbers new r) all (D.refusedWith notFinite d) (λ n. absurd (n refl)) (λ n. refl)) (λ n. refl)
 
-followed-encodable : (w : Feed) (c : Course) (a : DfnAnswer) → EncodableDfn (a .cell) → EncodableDfn (followed w c a .cell)
-unfolding followed
-followed-encodable w c a h = one-course (eqb (a .refusal) 0) _ _ h h
+-- ---- what a run makes of its cell
+module _ (w : Feed) where
+  turned-encodable : T (fits binary64 (w .current)) → (c : Course) → EncodableDfn (c .cell) → EncodableDfn (turned w c .cell)
+  unfolding turned followed
+  turned-encodable f c h =
+      let a = D.stepped (c .cell) (w .current) (w .dt) in
+      let k = dfn-step-encodable (c .cell) (w .current) (w .dt) f h in
+      cond-both (λ (x : Course). EncodableDfn (x .cell)) (eqb (a .refusal) 0) _ _ k k
 
-turned-encodable : (w : Feed) (c : Course) → T (fits binary64 (w .current)) → EncodableDfn (c .cell) → EncodableDfn (turned w c .cell)
-unfolding turned
-turned-encodable w c f h = followed-encodable w c (stepped (c .cell) (w .current) (w .dt)) (dfn-step-encodable (c .cell) (w .current) (w .dt) f h)
+  turned-rows : (c : Course) → turned w c .rows ≤ c .rows + 1
+  unfolding turned followed
+  turned-rows c = cond-both (λ (x : Course). x .rows ≤ c .rows + 1) (eqb (D.stepped (c .cell) (w .current) (w .dt) .refusal) 0) _ _ (le-refl (c .rows + 1)) (omega arith)
 
-turns-encodable : (k : ℕ) (w : Feed) (c : Course) → T (fits binary64 (w .current)) → EncodableDfn (c .cell) → EncodableDfn (runAfter overOf (turned w) lastRow k c .cell)
-unfolding runAfter
-turns-encodable zero w c f h = h
-turns-encodable (suc k) w c f h =
-    let r = runAfter overOf (turned w) lastRow k c in
-    one-course (eqb (r .over) 0) (turned w r) r (turned-encodable w r f (turns-encodable k w c f h)) (turns-encodable k w c f h)
-
-run-passes : (d : DfnSolver) (w : Feed) (n : ℕ) → runRefusal d w n ≡ 0 → DC.cellRefusal d ≡ 0
-unfolding runRefusal
-run-passes d w n h = DC.step-cell d (w .current) (w .dt) (none-met _ _ (none-met _ _ (none-met _ _ h .1) .1) .0)
-
-module _ (d : DfnSolver) (i dt limit : Float) (n : ℕ) where
-  abbrev after : RunSaid
-  after = galvanostatic d i dt limit n
-
-  told-run : T (told (after .ended .refusal) (after .rows)) → runRefusal d (feedOf i dt limit) n ≡ 0
-  unfolding galvanostatic
-  told-run = go (runRefusal d (feedOf i dt limit) n) refl
+  -- a run without a row leaves the cell
+  turned-idle : (d : DfnSolver) (c : Course) → (c .rows ≡ 0 → c .cell ≡ d) → turned w c .rows ≡ 0 → turned w c .cell ≡ d
+  unfolding turned followed
+  turned-idle d c f = go (D.stepped (c .cell) (w .current) (w .dt) .refusal) refl
     where
-      go : (k : ℕ) → runRefusal d (feedOf i dt limit) n ≡ k → T (told (after .ended .refusal) (after .rows)) → runRefusal d (feedOf i dt limit) n ≡ 0
+      go : (k : ℕ) → D.stepped (c .cell) (w .current) (w .dt) .refusal ≡ k → turned w c .rows ≡ 0 → turned w c .cell ≡ d
+      go zero e z = let y : c .rows + 1 ≡ 0 = rw e at z in absurd (omega (arith, y))
+      go (suc k) e z =
+          let y : c .rows ≡ 0 = rw (e, eqb·suc-zero k) at z in
+          rw (e, eqb·suc-zero k)
+          (dfn-step-refused (c .cell) (w .current) (w .dt) (λ (x : D.stepped (c .cell) (w .current) (w .dt) .refusal ≡ 0). let v : suc k ≡ 0 = sym e ∙ x in omega (arith, v)) ∙ f y)
+
+module _ (d : DfnSolver) (i dt limit : Float) (places : ℕ) where
+  abbrev over : RunSaid
+  over = allTurns (feedOf i dt limit) (started d) (places / 8)
+
+  abbrev none : RunSaid
+  none = record { ended = record { ending = byRefusal; refusal = runRefusal d (feedOf i dt limit) places }; rows = 0; cell = d }
+
+  pub dfn-run-encodable : T (fits binary64 i) → EncodableDfn d → EncodableDfn (galvanostatic d i dt limit places .cell)
+  unfolding galvanostatic allTurns finishedRun started
+  dfn-run-encodable f h =
+      cond-both (λ (x : RunSaid). EncodableDfn (x .cell)) (eqb (runRefusal d (feedOf i dt limit) places) 0) over none
+      (run-keeps overOf (turned (feedOf i dt limit)) lastRow (λ (c : Course). EncodableDfn (c .cell)) (turned-encodable (feedOf i dt limit) f) (places / 8) (started d) h) h
+
+  pub dfn-run-idle : galvanostatic d i dt limit places .rows ≡ 0 → galvanostatic d i dt limit places .cell ≡ d
+  unfolding galvanostatic allTurns finishedRun started
+  dfn-run-idle =
+      cond-both (λ (x : RunSaid). x .rows ≡ 0 → x .cell ≡ d) (eqb (runRefusal d (feedOf i dt limit) places) 0) over none
+      (run-keeps overOf (turned (feedOf i dt limit)) lastRow (λ (c : Course). c .rows ≡ 0 → c .cell ≡ d) (turned-idle (feedOf i dt limit) d) (places / 8) (started d) (λ z. refl)) (λ z. refl)
+
+  dfn-rows-most : galvanostatic d i dt limit places .rows ≤ places
+  unfolding galvanostatic allTurns finishedRun started
+  dfn-rows-most =
+      let n : runAfter overOf (turned (feedOf i dt limit)) lastRow (places / 8) (started d) .rows ≤ 0 + places / 8 =
+      run-rows overOf (turned (feedOf i dt limit)) lastRow (λ (c : Course). c .rows) (turned-rows (feedOf i dt limit)) (places / 8) (started d) in
+      cond-both (λ (x : RunSaid). x .rows ≤ places) (eqb (runRefusal d (feedOf i dt limit) places) 0) over none (omega (arith, n)) (omega arith)
+
+  dfn-run-ending : galvanostatic d i dt limit places .ended .ending ≤ 4
+  unfolding galvanostatic allTurns finishedRun
+  dfn-run-ending = cond-both (λ (x : RunSaid). x .ended .ending ≤ 4) (eqb (runRefusal d (feedOf i dt limit) places) 0) over none (ending-most _ _) (le-refl 4)
+
+  -- an answer that is written comes from a cell that passes the checks
+  written-run : T (told (galvanostatic d i dt limit places .ended .refusal) (galvanostatic d i dt limit places .rows)) → runRefusal d (feedOf i dt limit) places ≡ 0
+  unfolding galvanostatic
+  written-run = go (runRefusal d (feedOf i dt limit) places) refl
+    where
+      go : (k : ℕ) → runRefusal d (feedOf i dt limit) places ≡ k → T (told (galvanostatic d i dt limit places .ended .refusal) (galvanostatic d i dt limit places .rows)) → runRefusal d (feedOf i dt limit) places ≡ 0
       go zero e t = e
       go (suc k) e t = absurd (rw (e, eqb·suc-zero k, eqb·suc-zero k) at t)
 
-  run-encodable : T (fits binary64 i) → runRefusal d (feedOf i dt limit) n ≡ 0 → EncodableDfn d → EncodableDfn (after .cell)
-  unfolding galvanostatic allTurns finishedRun started
-  run-encodable f h k = rw h (turns-encodable (n / 8) (feedOf i dt limit) (started d) f k)
+  run-passes : runRefusal d (feedOf i dt limit) places ≡ 0 → DC.cellRefusal d ≡ 0
+  unfolding runRefusal
+  run-passes h = DC.step-cell d i dt (none-met _ _ (none-met _ _ (none-met _ _ h .1) .1) .0)
 
-module _ (s : List ℕ) (i dt limit : Float) (n : ℕ) where
-  abbrev said : RunSaid
-  said = galvanostatic (cellAt s) i dt limit n
+-- ---- the answer
+module _ (s : List ℕ) (i dt limit : Float) (places : ℕ) (a : List ℕ) (f : T (fits binary64 i))
+    (h : T (told (galvanostatic (cellAt s) i dt limit places .ended .refusal) (galvanostatic (cellAt s) i dt limit places .rows))) where
+  abbrev run : RunSaid
+  run = galvanostatic (cellAt s) i dt limit places
 
-  -- THE CELL OF THE ANSWER is the one after the run
-  pub dfn-run-answer : (a : List ℕ) → T (fits binary64 i) → T (told (said .ended .refusal) (said .rows)) → 9008 ≤ length a
-      → cellAt (galvanostaticAfter s i dt limit n a) ≡ galvanostatic (cellAt s) i dt limit n .cell
+  abbrev new : List ℕ
+  new = putCell a (run .cell)
+
+  run-cell : EncodableDfn (run .cell)
+  run-cell = dfn-run-encodable (cellAt s) i dt limit places f (dfnAt-encodable s (run-passes (cellAt s) i dt limit places (written-run (cellAt s) i dt limit places h)))
+
+  answer-is : galvanostaticAfter s i dt limit places a ≡ putEnding new 1126 (run .ended .ending) (run .rows)
   unfolding galvanostaticAfter
-  dfn-run-answer a f h l =
-      let z = told-run (cellAt s) i dt limit n h in
-      let k = run-encodable (cellAt s) i dt limit n f z (dfnAt-encodable s (run-passes (cellAt s) (feedOf i dt limit) n z)) in
-      let new = putCell a (said .cell) in
-      rw (is-true (told (said .ended .refusal) (said .rows)) h)
-      (dfn-same new (putEnding new 1126 (said .ended .ending) (said .rows)) (same-below (lit≤ tt) (writes-ending new 1126 (said .ended .ending) (said .rows)))
-      ∙ dfn-read-back a (said .cell) k l)
+  answer-is = rw (is-true (told (run .ended .refusal) (run .rows)) h)
+
+  new-length : length new ≡ length a
+  new-length = writes-dfn a (run .cell) run-cell .size
+
+  pub dfn-run-answer-length : length (galvanostaticAfter s i dt limit places a) ≡ length a
+  dfn-run-answer-length = ap length answer-is ∙ writes-ending new 1126 (run .ended .ending) (run .rows) .size ∙ new-length
+
+  module _ (l : length a ≡ 9024) where
+    pub dfn-run-answer-first : cellAt (take 9008 (galvanostaticAfter s i dt limit places a)) ≡ galvanostatic (cellAt s) i dt limit places .cell
+    dfn-run-answer-first =
+        first-dfn (galvanostaticAfter s i dt limit places a) (rw (dfn-run-answer-length ∙ l) (lit≤ tt)) ∙ ap cellAt answer-is
+        ∙ dfn-same new (putEnding new 1126 (run .ended .ending) (run .rows)) (same-below (lit≤ tt) (writes-ending new 1126 (run .ended .ending) (run .rows)))
+        ∙ dfn-read-back a (run .cell) run-cell (rw l (lit≤ tt))
+
+    pub dfn-run-first-length : length (take 9008 (galvanostaticAfter s i dt limit places a)) ≡ 9008
+    dfn-run-first-length = length-take-le 9008 (galvanostaticAfter s i dt limit places a) (rw (dfn-run-answer-length ∙ l) (lit≤ tt))
+
+    pub dfn-run-ending-answer : wordAt (galvanostaticAfter s i dt limit places a) 1126 ≡ galvanostatic (cellAt s) i dt limit places .ended .ending
+    dfn-run-ending-answer =
+        let m = dfn-run-ending (cellAt s) i dt limit places in
+        ap (λ (b : List ℕ). wordAt b 1126) answer-is ∙ ending-read-back new 1126 (run .ended .ending) (run .rows) (rw (new-length ∙ l) (lit≤ tt)) (omega (arith, m))
+
+    pub dfn-run-rows-answer : places < 2 ^ 64 → wordAt (galvanostaticAfter s i dt limit places a) 1127 ≡ galvanostatic (cellAt s) i dt limit places .rows
+    dfn-run-rows-answer n =
+        let m = dfn-rows-most (cellAt s) i dt limit places in
+        ap (λ (b : List ℕ). wordAt b 1127) answer-is ∙ rows-read-back new 1126 (run .ended .ending) (run .rows) (rw (new-length ∙ l) (lit≤ tt)) (omega (arith, m, n))

@@ -8,6 +8,7 @@ pub mod ElectrolyteImages
 pub mod DfnImages
 pub mod CellEncodable
 pub mod CellSteps
+pub mod Turns
 pub mod CellRuns
 pub mod CellBuilds
 pub mod ElectrolyteSteps
