@@ -4,7 +4,7 @@ use mathlib.Core.Path.{_≡_, refl, sym, _∙_}
 use mathlib.Core.Bool.{Bool, true, false, cond}
 use mathlib.Core.List.{List}
 use native.Mathlib.Omega.{arith}
-use borrow.Author.Tests.{eqb-true}
+use borrow.Author.Tests.{eqb-true, eq-eqb}
 use lib.Dec.{eqb, eqb·suc-zero}
 use lib.ListN.{length}
 use Rattle.refusal.specs.Numbers as N
@@ -16,9 +16,21 @@ cond-both P true x y p q = p
 cond-both P false x y p q = q
 
 -- an answer that is x where the inputs' number k is 0 and else y, which has the number k
-pub inputs-pass : {A : Type 0} (number : A → ℕ) (k : ℕ) (x y : A) → number y ≡ k → number (cond (eqb k 0) x y) ≡ 0 → k ≡ 0
-inputs-pass number zero x y e h = refl
-inputs-pass number (suc k) x y e h = let z : suc k ≡ 0 = sym e ∙ (rw (eqb·suc-zero k) at h) in z
+module _ {A : Type 0} (number : A → ℕ) (k : ℕ) (x y : A) (e : number y ≡ k) (h : number (cond (eqb k 0) x y) ≡ 0) where
+  refused-number : (j : ℕ) → k ≡ suc j → k ≡ 0
+  refused-number j d = let z : number y ≡ 0 = rw (d, eqb·suc-zero j) at h in sym e ∙ z
+
+  -- it is accepted: its inputs pass
+  pub inputs-pass : k ≡ 0
+  inputs-pass = go k refl
+    where
+      go : (j : ℕ) → k ≡ j → k ≡ 0
+      go zero d = d
+      go (suc j) d = refused-number j d
+
+  -- and it is x
+  pub accepted-is : cond (eqb k 0) x y ≡ x
+  accepted-is = rw (eq-eqb k 0 inputs-pass)
 
 -- a call of the boundary that returns 0: image s of m bytes, answer a of n bytes, the number k, and `new` in the answer
 pub record Accepted (s a : List ℕ) (m n k : ℕ) (new : List ℕ) : Type 0 where

@@ -1,11 +1,11 @@
 -- The answer of an accepted build of a particle or a single-particle cell is read back as what was built. Assumes nothing.
-use Prim.Native.Nat.{ℕ, zero, suc, _≤_}
-use mathlib.Core.Path.{_≡_, refl}
-use mathlib.Core.Bool.{Bool, true, false, cond, _&&_}
+use Prim.Native.Nat.{ℕ, _≤_}
+use mathlib.Core.Path.{_≡_, refl, sym, ap, _∙_}
+use mathlib.Core.Bool.{false, _&&_}
 use mathlib.Core.List.{List}
 use native.Mathlib.Omega.{arith}
 use native.Mathlib.Nat.{zero-lt-suc}
-use lib.Dec.{T, eqb, eqb·suc-zero}
+use lib.Dec.{T, eqb}
 use lib.ListN.{length}
 use lib.Ieee.{binary64}
 use lib.Ieee.Bits.{ofBits-fits}
@@ -20,14 +20,17 @@ use Rattle.particle.specs.Checks.{nodes-met}
 use Rattle.particle.specs.Calls as P
 use Rattle.kinetics.specs.declared.SpmConfig.{SpmConfig}
 use Rattle.kinetics.specs.Kinetics.{configFits}
+use Rattle.particle.specs.declared.ParticleAnswer.{ParticleAnswer}
+use Rattle.solver.specs.declared.SpmAnswer.{SpmAnswer}
 use Rattle.solver.specs.Cell as S
 use Rattle.codec.specs.Words.{wordAt}
 use Rattle.image_rows.specs.Written.{written}
 use Rattle.sheet_images.specs.Images.{sheetAt, sheetNumbers, particleAt, configAt}
-use Rattle.cell_images.specs.Images.{cellAt}
+use Rattle.cell_images.specs.Images.{cellAt, putCell}
 use Rattle.image_builds.specs.Builds.{particleMade, cellBuilt, newNumber, newAfter}
+use Rattle.image_laws.specs.Accepted.{cond-both, inputs-pass, accepted-is}
 use Rattle.image_laws.specs.Encodable.{EncodableRow, []ᵉ, _∷ᵉ_, filled-encodable, filled-length, literal}
-use Rattle.image_laws.specs.CellImages.{EncodableSheet, EncodableParticle, configNumbers, EncodableCell, particle-read-back, cell-read-back}
+use Rattle.image_laws.specs.CellImages.{EncodableSheet, EncodableParticle, configNumbers, EncodableCell, writes-particle, particle-read-back, writes-cell, cell-read-back}
 use Rattle.image_laws.specs.CellEncodable.{sheetAt-row, sheet-encodable, configAt-row}
 
 -- ---- a particle
@@ -46,16 +49,24 @@ new-met p n h = let a = none-met _ _ h in (nodes-met n (a .0) .1, passed (sheetF
 
 made-encodable : (p : ElectrodeParams) (n : ℕ) → EncodableRow (sheetNumbers p) → P.made p n .refusal ≡ 0 → EncodableParticle (P.made p n .particle)
 unfolding P.made
-made-encodable p n h = go (P.newRefusal p n) refl
-  where
-    go : (k : ℕ) → P.newRefusal p n ≡ k → P.made p n .refusal ≡ 0 → EncodableParticle (P.made p n .particle)
-    go zero e z = let m = new-met p n e in rw e (fresh-encodable p n (sheet-encodable p (m .1) h) (m .0))
-    go (suc k) e z = let y : suc k ≡ 0 = rw (e, eqb·suc-zero k) at z in absurd (omega (arith, y))
+made-encodable p n h z =
+    let number : ParticleAnswer → ℕ = λ x. x .refusal in
+    let m = new-met p n (inputs-pass number (P.newRefusal p n) _ _ refl z) in
+    rw (accepted-is number (P.newRefusal p n) (P.particleAnswer 0 (P.fresh p n)) _ refl z) (fresh-encodable p n (sheet-encodable p (m .1) h) (m .0))
 
--- THE PARTICLE OF THE ANSWER to call 7 is the one that was made
-pub particle-built : (s a : List ℕ) → newNumber 7 s ≡ 0 → 600 ≤ length a → particleAt (newAfter 7 s a) 0 ≡ particleMade s .particle
-unfolding newNumber newAfter particleMade written
-particle-built s a h l = rw (eq-eqb _ 0 h) (particle-read-back a 0 (particleMade s .particle) l (made-encodable (sheetAt s 0) (wordAt s 10) (sheetAt-row s 0) h))
+-- call 7
+module _ (s a : List ℕ) (h : newNumber 7 s ≡ 0) where
+  new-particle : EncodableParticle (particleMade s .particle)
+  unfolding newNumber particleMade
+  new-particle = made-encodable (sheetAt s 0) (wordAt s 10) (sheetAt-row s 0) h
+
+  pub particle-built : 600 ≤ length a → particleAt (newAfter 7 s a) 0 ≡ particleMade s .particle
+  unfolding newNumber newAfter written
+  particle-built l = rw (eq-eqb (particleMade s .refusal) 0 h) (particle-read-back a 0 (particleMade s .particle) l new-particle)
+
+  pub particle-built-length : length (newAfter 7 s a) ≡ length a
+  unfolding newNumber newAfter written
+  particle-built-length = rw (eq-eqb (particleMade s .refusal) 0 h) (writes-particle a 0 (particleMade s .particle) (new-particle .long) .size)
 
 -- ---- a cell
 built-met : (g : SpmConfig) (a c : ElectrodeParams) → S.buildRefusal g a c ≡ 0 → (g .«n_nodes» ≤ 64) × T (configFits g && sheetFits a && sheetFits c)
@@ -77,11 +88,10 @@ module _ (g : SpmConfig) (a c : ElectrodeParams) (hg : EncodableRow (configNumbe
 
   built-encodable : S.built g a c .refusal ≡ 0 → EncodableCell (S.built g a c .solver)
   unfolding S.built
-  built-encodable = go (S.buildRefusal g a c) refl
-    where
-      go : (k : ℕ) → S.buildRefusal g a c ≡ k → S.built g a c .refusal ≡ 0 → EncodableCell (S.built g a c .solver)
-      go zero e z = let m = built-met g a c e in rw e (fresh-cell (m .0) (m .1))
-      go (suc k) e z = let y : suc k ≡ 0 = rw (e, eqb·suc-zero k) at z in absurd (omega (arith, y))
+  built-encodable z =
+      let number : SpmAnswer → ℕ = λ x. x .refusal in
+      let m = built-met g a c (inputs-pass number (S.buildRefusal g a c) _ _ refl z) in
+      rw (accepted-is number (S.buildRefusal g a c) (S.solverAnswer 0 (S.freshSolver g a c)) _ refl z) (fresh-cell (m .0) (m .1))
 
 -- the ready sheets
 pub graphite-encodable : EncodableRow (sheetNumbers graphiteAnode)
@@ -96,21 +106,34 @@ pub nmc-encodable : EncodableRow (sheetNumbers nmcCathode)
 unfolding nmcCathode
 nmc-encodable = literal _ ∷ᵉ literal _ ∷ᵉ literal _ ∷ᵉ literal _ ∷ᵉ literal _ ∷ᵉ literal _ ∷ᵉ literal _ ∷ᵉ literal _ ∷ᵉ literal _ ∷ᵉ []ᵉ
 
-cell-encodable : (call : ℕ) (s : List ℕ) → cellBuilt call s .refusal ≡ 0 → EncodableCell (cellBuilt call s .solver)
+built-cell : (call : ℕ) (s : List ℕ) → cellBuilt call s .refusal ≡ 0 → EncodableCell (cellBuilt call s .solver)
 unfolding cellBuilt
-cell-encodable call s = go (eqb call 8) (eqb call 9)
-  where
-    go : (x y : Bool) → cond x (S.ready (configAt s) lfpCathode) (cond y (S.ready (configAt s) nmcCathode) (S.built (configAt s) (sheetAt s 6) (sheetAt s 16))) .refusal ≡ 0
-        → EncodableCell (cond x (S.ready (configAt s) lfpCathode) (cond y (S.ready (configAt s) nmcCathode) (S.built (configAt s) (sheetAt s 6) (sheetAt s 16))) .solver)
-    go true y z = built-encodable (configAt s) graphiteAnode lfpCathode (configAt-row s) graphite-encodable lfp-encodable z
-    go false true z = built-encodable (configAt s) graphiteAnode nmcCathode (configAt-row s) graphite-encodable nmc-encodable z
-    go false false z = built-encodable (configAt s) (sheetAt s 6) (sheetAt s 16) (configAt-row s) (sheetAt-row s 6) (sheetAt-row s 16) z
+built-cell call s =
+    let P : SpmAnswer → Type 0 = λ x. x .refusal ≡ 0 → EncodableCell (x .solver) in
+    cond-both P (eqb call 8) (S.ready (configAt s) lfpCathode) _ (built-encodable (configAt s) graphiteAnode lfpCathode (configAt-row s) graphite-encodable lfp-encodable)
+    (cond-both P (eqb call 9) (S.ready (configAt s) nmcCathode) (S.built (configAt s) (sheetAt s 6) (sheetAt s 16))
+    (built-encodable (configAt s) graphiteAnode nmcCathode (configAt-row s) graphite-encodable nmc-encodable)
+    (built-encodable (configAt s) (sheetAt s 6) (sheetAt s 16) (configAt-row s) (sheetAt-row s 6) (sheetAt-row s 16)))
 
--- THE CELL OF THE ANSWER to calls 8, 9 and 10 is the one that was built
-pub cell-built : (call : ℕ) (s a : List ℕ) → 8 ≤ call → call ≤ 10 → newNumber call s ≡ 0 → 1256 ≤ length a → cellAt (newAfter call s a) ≡ cellBuilt call s .solver
-unfolding newNumber newAfter written
-cell-built call s a m n h l =
-    let x = ne-eqb call 7 (λ (e : call ≡ 7). omega (arith, m, e)) in
-    let y = le-leb call 10 n in
-    let z : cellBuilt call s .refusal ≡ 0 = rw (x, y) at h in
-    rw (x, y, eq-eqb _ 0 z) (cell-read-back a (cellBuilt call s .solver) (cell-encodable call s z) l)
+-- calls 8, 9 and 10
+module _ (call : ℕ) (s a : List ℕ) (m : 8 ≤ call) (n : call ≤ 10) where
+  not-particle : eqb call 7 ≡ false
+  not-particle = ne-eqb call 7 (λ (e : call ≡ 7). omega (arith, m, e))
+
+  pub cell-number : newNumber call s ≡ cellBuilt call s .refusal
+  unfolding newNumber
+  cell-number = rw (not-particle, le-leb call 10 n)
+
+  module _ (h : newNumber call s ≡ 0) where
+    new-cell : EncodableCell (cellBuilt call s .solver)
+    new-cell = built-cell call s (sym cell-number ∙ h)
+
+    answer-is : newAfter call s a ≡ putCell a (cellBuilt call s .solver)
+    unfolding newAfter written
+    answer-is = rw (not-particle, le-leb call 10 n, eq-eqb (cellBuilt call s .refusal) 0 (sym cell-number ∙ h))
+
+    pub cell-built : 1256 ≤ length a → cellAt (newAfter call s a) ≡ cellBuilt call s .solver
+    cell-built l = ap cellAt answer-is ∙ cell-read-back a (cellBuilt call s .solver) new-cell l
+
+    pub cell-built-length : length (newAfter call s a) ≡ length a
+    cell-built-length = ap length answer-is ∙ writes-cell a (cellBuilt call s .solver) new-cell .size
