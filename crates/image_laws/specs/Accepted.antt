@@ -1,19 +1,15 @@
 -- What it means that a call returns 0: its lengths are right, its inputs pass, and its answer is what it writes. Assumes nothing.
 use Prim.Native.Nat.{ℕ, zero, suc}
 use mathlib.Core.Path.{_≡_, refl, sym, _∙_}
-use mathlib.Core.Bool.{Bool, true, false, cond}
+use mathlib.Core.Bool.{Bool, true, false, cond, _&&_}
 use mathlib.Core.List.{List}
 use native.Mathlib.Omega.{arith}
 use borrow.Author.Tests.{eqb-true, eq-eqb}
-use lib.Dec.{eqb, eqb·suc-zero}
+use lib.Dec.{T, eqb, eqb·suc-zero}
 use lib.ListN.{length}
 use Rattle.refusal.specs.Numbers as N
+use Rattle.runs.specs.Told.{told}
 use Rattle.boundary.specs.Calls.{lengths, met}
-
--- one of two values of which both have a property
-pub cond-both : {A : Type 0} (P : A → Type 0) (b : Bool) (x y : A) → P x → P y → P (cond b x y)
-cond-both P true x y p q = p
-cond-both P false x y p q = q
 
 -- an answer that is x where the inputs' number k is 0 and else y, which has the number k
 module _ {A : Type 0} (number : A → ℕ) (k : ℕ) (x y : A) (e : number y ≡ k) (h : number (cond (eqb k 0) x y) ≡ 0) where
@@ -47,3 +43,12 @@ accepted s a m n k new = go (eqb (length s) m) (eqb (length a) n) refl refl
     go true true d e h = record { image = eqb-true _ _ d; answer = eqb-true _ _ e; number = rw (d, e) at h; writes = rw (d, e) }
     go true false d e h = let z : N.length ≡ 0 = rw (d, e) at h in absurd (omega (arith, z))
     go false y d e h = let z : N.length ≡ 0 = rw d at h in absurd (omega (arith, z))
+
+-- a run that returns 0 has written its answer
+pub no-refusal : (refusal rows : ℕ) → refusal ≡ 0 → T (told refusal rows)
+no-refusal refusal rows h = rw (eq-eqb refusal 0 h) tt
+
+pub second-true : (x y : Bool) → x && y ≡ true → y ≡ true
+second-true true y e = e
+second-true false true e = refl
+second-true false false e = e

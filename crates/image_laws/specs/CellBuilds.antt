@@ -11,6 +11,7 @@ use lib.Ieee.{binary64}
 use lib.Ieee.Bits.{ofBits-fits}
 use lib.Ieee.Fits.{mul-fits, and-l, and-r}
 use borrow.Author.Tests.{eq-eqb, ne-eqb, le-leb}
+use Rattle.matrix_rows.specs.Loops.{either}
 use Rattle.binary64.specs.Operators.{_⊗_}
 use Rattle.refusal.specs.Numbers.{sheet, none-met, passed}
 use Rattle.electrode.specs.declared.ElectrodeParams.{ElectrodeParams}
@@ -28,7 +29,7 @@ use Rattle.image_rows.specs.Written.{written}
 use Rattle.sheet_images.specs.Images.{sheetAt, sheetNumbers, particleAt, configAt}
 use Rattle.cell_images.specs.Images.{cellAt, putCell}
 use Rattle.image_builds.specs.Builds.{particleMade, cellBuilt, newNumber, newAfter}
-use Rattle.image_laws.specs.Accepted.{cond-both, inputs-pass, accepted-is}
+use Rattle.image_laws.specs.Accepted.{inputs-pass, accepted-is}
 use Rattle.image_laws.specs.Encodable.{EncodableRow, []ᵉ, _∷ᵉ_, filled-encodable, filled-length, literal}
 use Rattle.image_laws.specs.CellImages.{EncodableSheet, EncodableParticle, configNumbers, EncodableCell, writes-particle, particle-read-back, writes-cell, cell-read-back}
 use Rattle.image_laws.specs.CellEncodable.{sheetAt-row, sheet-encodable, configAt-row}
@@ -110,8 +111,8 @@ built-cell : (call : ℕ) (s : List ℕ) → cellBuilt call s .refusal ≡ 0 →
 unfolding cellBuilt
 built-cell call s =
     let P : SpmAnswer → Type 0 = λ x. x .refusal ≡ 0 → EncodableCell (x .solver) in
-    cond-both P (eqb call 8) (S.ready (configAt s) lfpCathode) _ (built-encodable (configAt s) graphiteAnode lfpCathode (configAt-row s) graphite-encodable lfp-encodable)
-    (cond-both P (eqb call 9) (S.ready (configAt s) nmcCathode) (S.built (configAt s) (sheetAt s 6) (sheetAt s 16))
+    either P (eqb call 8) (S.ready (configAt s) lfpCathode) _ (built-encodable (configAt s) graphiteAnode lfpCathode (configAt-row s) graphite-encodable lfp-encodable)
+    (either P (eqb call 9) (S.ready (configAt s) nmcCathode) (S.built (configAt s) (sheetAt s 6) (sheetAt s 16))
     (built-encodable (configAt s) graphiteAnode nmcCathode (configAt-row s) graphite-encodable nmc-encodable)
     (built-encodable (configAt s) (sheetAt s 6) (sheetAt s 16) (configAt-row s) (sheetAt-row s 6) (sheetAt-row s 16)))
 

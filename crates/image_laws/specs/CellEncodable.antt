@@ -9,6 +9,7 @@ use lib.ListN.{length, getD}
 use lib.Ieee.{Float, nan, binary64, fits, lt}
 use lib.Ieee.Bits.{ofBits-fits}
 use lib.Ieee.Fits.{add-fits, cond-fits}
+use Rattle.matrix_rows.specs.Loops.{either}
 use Rattle.binary64.specs.Operators.{_⊕_, _⊗_, _⊘_, f64, count}
 use Rattle.refusal.specs.Numbers.{notFinite}
 use Rattle.turns.specs.Turns.{times, first-length}
@@ -31,7 +32,7 @@ use Rattle.solver_laws.specs.Electrodes.{Electrode, electrode-passes, nodes-are
 use Rattle.solver_laws.specs.Closure.{Leads, leads, next}
 use Rattle.sheet_images.specs.Images.{sheetAt, sheetNumbers, particleAt, configAt}
 use Rattle.cell_images.specs.Images.{cellAt}
-use Rattle.image_laws.specs.Accepted.{cond-both, accepted}
+use Rattle.image_laws.specs.Accepted.{accepted}
 use Rattle.image_laws.specs.Encodable.{EncodableRow, []ᵉ, _∷ᵉ_, first-encodable, float-encodable, places-encodable, places-count}
 use Rattle.image_laws.specs.CellImages.{EncodableSheet, EncodableParticle, configNumbers, EncodableCell}
 
@@ -132,11 +133,11 @@ step-encodable s i dt t h = go (S.stepped s i dt t) (leads s i dt t)
 -- so does a particle's step
 accepted-encodable : (p : ParticleDiffusion) (c : List Float) → EncodableParticle (withProfile p c) → EncodableParticle p → EncodableParticle (P.accepted p c .particle)
 unfolding P.accepted
-accepted-encodable p c h k = cond-both (λ (a : ParticleAnswer). EncodableParticle (a .particle)) (finiteProfile c) (P.particleAnswer 0 (withProfile p c)) (P.particleAnswer notFinite p) h k
+accepted-encodable p c h k = either (λ (a : ParticleAnswer). EncodableParticle (a .particle)) (finiteProfile c) (P.particleAnswer 0 (withProfile p c)) (P.particleAnswer notFinite p) h k
 
 pub particle-step-encodable : (p : ParticleDiffusion) (j dt t : Float) → EncodableParticle p → EncodableParticle (P.stepped p j dt t .particle)
 unfolding P.stepped
 particle-step-encodable p j dt t h =
     let c = subStep (driveWith p (diffusivityAt (p .params) t) j dt) (p .«c_s») in
-    cond-both (λ (a : ParticleAnswer). EncodableParticle (a .particle)) (eqb (P.stepRefusal p j dt t) 0) (P.accepted p c) (P.particleAnswer (P.stepRefusal p j dt t) p)
+    either (λ (a : ParticleAnswer). EncodableParticle (a .particle)) (eqb (P.stepRefusal p j dt t) 0) (P.accepted p c) (P.particleAnswer (P.stepRefusal p j dt t) p)
     (accepted-encodable p c (sub-step-encodable p (p .«c_s») (diffusivityAt (p .params) t) j dt h) h) h

@@ -9,6 +9,7 @@ use lib.ListN.{length, take}
 use lib.Seq.{length-take-le}
 use lib.Ieee.{Float}
 use lib.Ieee.Bits.{is-true}
+use Rattle.matrix_rows.specs.Loops.{either}
 use Rattle.refusal.specs.Numbers.{firstMet, refusalUnless, grid, sheet, none-met, passed}
 use Rattle.runs.specs.Told.{told}
 use Rattle.runs.specs.Rows.{runAfter}
@@ -23,7 +24,6 @@ use Rattle.codec.specs.Words.{wordAt}
 use Rattle.image_rows.specs.Written.{putEnding}
 use Rattle.cell_images.specs.Images.{cellAt, putCell}
 use Rattle.cell_calls.specs.Runs.{dischargeAfter}
-use Rattle.image_laws.specs.Accepted.{cond-both}
 use Rattle.image_laws.specs.Rows.{same-below}
 use Rattle.image_laws.specs.CellImages.{EncodableCell, cell-same, writes-cell, cell-read-back}
 use Rattle.image_laws.specs.Reports.{writes-ending, ending-read-back, rows-read-back}
@@ -38,11 +38,11 @@ module _ (w : Feed) where
   turned-encodable r h =
       let a = stepped (r .solver) (w .«current_a») (w .dt) (w .«temp_k») in
       let k = step-encodable (r .solver) (w .«current_a») (w .dt) (w .«temp_k») h in
-      cond-both (λ (x : Run). EncodableCell (x .solver)) (eqb (a .refusal) 0) _ _ k k
+      either (λ (x : Run). EncodableCell (x .solver)) (eqb (a .refusal) 0) _ _ k k
 
   turned-rows : (r : Run) → turned w r .rows ≤ r .rows + 1
   unfolding turned followed
-  turned-rows r = cond-both (λ (x : Run). x .rows ≤ r .rows + 1) (eqb (stepped (r .solver) (w .«current_a») (w .dt) (w .«temp_k») .refusal) 0) _ _ (le-refl (r .rows + 1)) (omega arith)
+  turned-rows r = either (λ (x : Run). x .rows ≤ r .rows + 1) (eqb (stepped (r .solver) (w .«current_a») (w .dt) (w .«temp_k») .refusal) 0) _ _ (le-refl (r .rows + 1)) (omega arith)
 
   -- a run without a row leaves the cell
   turned-idle : (s : SpmSolver) (r : Run) → (r .rows ≡ 0 → r .solver ≡ s) → turned w r .rows ≡ 0 → turned w r .solver ≡ s
@@ -59,25 +59,25 @@ module _ (w : Feed) where
   pub run-encodable : (s : SpmSolver) (places : ℕ) → EncodableCell s → EncodableCell (discharged w s places .solver)
   unfolding discharged allTurns finishedRun started
   run-encodable s places h =
-      cond-both (λ (x : RunSaid). EncodableCell (x .solver)) (eqb (runRefusal w s places) 0) (allTurns w (started w s) (places / 8)) (refusedRun (runRefusal w s places) s)
+      either (λ (x : RunSaid). EncodableCell (x .solver)) (eqb (runRefusal w s places) 0) (allTurns w (started w s) (places / 8)) (refusedRun (runRefusal w s places) s)
       (run-keeps overOf (turned w) lastRow (λ (r : Run). EncodableCell (r .solver)) turned-encodable (places / 8) (started w s) h) h
 
   pub run-idle : (s : SpmSolver) (places : ℕ) → discharged w s places .rows ≡ 0 → discharged w s places .solver ≡ s
   unfolding discharged allTurns finishedRun started
   run-idle s places =
-      cond-both (λ (x : RunSaid). x .rows ≡ 0 → x .solver ≡ s) (eqb (runRefusal w s places) 0) (allTurns w (started w s) (places / 8)) (refusedRun (runRefusal w s places) s)
+      either (λ (x : RunSaid). x .rows ≡ 0 → x .solver ≡ s) (eqb (runRefusal w s places) 0) (allTurns w (started w s) (places / 8)) (refusedRun (runRefusal w s places) s)
       (run-keeps overOf (turned w) lastRow (λ (r : Run). r .rows ≡ 0 → r .solver ≡ s) (turned-idle s) (places / 8) (started w s) (λ z. refl)) (λ z. refl)
 
   pub rows-most : (s : SpmSolver) (places : ℕ) → discharged w s places .rows ≤ places
   unfolding discharged allTurns finishedRun started
   rows-most s places =
       let n : runAfter overOf (turned w) lastRow (places / 8) (started w s) .rows ≤ 0 + places / 8 = run-rows overOf (turned w) lastRow (λ (r : Run). r .rows) turned-rows (places / 8) (started w s) in
-      cond-both (λ (x : RunSaid). x .rows ≤ places) (eqb (runRefusal w s places) 0) (allTurns w (started w s) (places / 8)) (refusedRun (runRefusal w s places) s) (omega (arith, n)) (omega arith)
+      either (λ (x : RunSaid). x .rows ≤ places) (eqb (runRefusal w s places) 0) (allTurns w (started w s) (places / 8)) (refusedRun (runRefusal w s places) s) (omega (arith, n)) (omega arith)
 
   pub run-ending : (s : SpmSolver) (places : ℕ) → discharged w s places .ended .ending ≤ 4
   unfolding discharged allTurns finishedRun
   run-ending s places =
-      cond-both (λ (x : RunSaid). x .ended .ending ≤ 4) (eqb (runRefusal w s places) 0) (allTurns w (started w s) (places / 8)) (refusedRun (runRefusal w s places) s) (ending-most _ _) (le-refl 4)
+      either (λ (x : RunSaid). x .ended .ending ≤ 4) (eqb (runRefusal w s places) 0) (allTurns w (started w s) (places / 8)) (refusedRun (runRefusal w s places) s) (ending-most _ _) (le-refl 4)
 
   -- an answer that is written comes from a cell that passes the checks
   written-run : (s : SpmSolver) (places : ℕ) → T (told (discharged w s places .ended .refusal) (discharged w s places .rows)) → runRefusal w s places ≡ 0

@@ -29,7 +29,7 @@ use Rattle.image_laws.specs.Words.{word-take}
 use Rattle.image_laws.specs.Encodable.{EncodableRow, []ᵉ, _∷ᵉ_}
 use Rattle.image_laws.specs.Rows.{same-below}
 use Rattle.image_laws.specs.CellImages.{EncodableParticle, EncodableCell, writes-particle, particle-read-back, cell-same, writes-cell, cell-read-back}
-use Rattle.image_laws.specs.Reports.{cellReportAt, writes-cell-report, cell-report-read-back, sub-steps-read-back}
+use Rattle.image_laws.specs.Reports.{cellReportAt, writes-cell-report, report-row-read-back, sub-steps-word-read-back}
 use Rattle.image_laws.specs.CellEncodable.{particleAt-encodable, cellAt-encodable, step-encodable, particle-step-encodable}
 
 -- ---- a particle
@@ -119,7 +119,7 @@ module _ (s : List ℕ) (i dt t : Float) (a : List ℕ) (h : cellNumber s i dt t
     pub sub-steps-answer : wordAt (cellAfter s i dt t a) 165 ≡ S.stepped (cellAt s) i dt t .«sub_steps»
     sub-steps-answer =
         let m = tells .few in
-        ap (λ (b : List ℕ). wordAt b 165) answer-is ∙ sub-steps-read-back new (after .state) (after .«sub_steps») room (omega (arith, m))
+        ap (λ (b : List ℕ). wordAt b 165) answer-is ∙ sub-steps-word-read-back new (after .state) (after .«sub_steps») room (omega (arith, m))
 
     pub report-answer : T (fits binary64 i) → cellReportAt (cellAfter s i dt t a) ≡ S.stepped (cellAt s) i dt t .state
-    report-answer f = ap cellReportAt answer-is ∙ cell-report-read-back new (after .state) (after .«sub_steps») room (tells .report f)
+    report-answer f = ap cellReportAt answer-is ∙ report-row-read-back new (after .state) (after .«sub_steps») room (tells .report f)

@@ -9,6 +9,7 @@ use lib.ListN.{length}
 use lib.Ieee.{Float, binary64, fits, neg}
 use lib.Ieee.Bits.{ofBits-fits}
 use lib.Ieee.Fits.{add-fits, sub-fits, div-fits, cond-fits}
+use Rattle.matrix_rows.specs.Loops.{either}
 use Rattle.binary64.specs.Operators.{f64}
 use Rattle.refusal.specs.Numbers.{notFinite}
 use Rattle.turns.specs.Turns.{first-length}
@@ -29,7 +30,6 @@ use Rattle.codec.specs.Words.{wordAt, placesAt}
 use Rattle.parameter_images.specs.Images.{paramsOf, paramsAt, paramsNumbers, configAt}
 use Rattle.porous_images.specs.Images.{cellAt, reportNumbers}
 use Rattle.porous_calls.specs.Steps.{electrolyteAfter}
-use Rattle.image_laws.specs.Accepted.{cond-both}
 use Rattle.image_laws.specs.Encodable.{EncodableRow, []ᵉ, _∷ᵉ_, first-encodable, placesBy-encodable, clamp-fits, max-fits, abs-fits, literal, float-encodable, places-encodable, places-count}
 use Rattle.image_laws.specs.DfnImages.{EncodableParams, EncodableGrid, EncodableDfn}
 
@@ -147,8 +147,8 @@ dfn-step-encodable d i dt f h =
     let new = D.cellWith d (D.movedBy d i dt) r in
     let all : DfnAnswer = record { refusal = 0; report = r; cell = new } in
     let P : DfnAnswer → Type 0 = λ a. EncodableDfn (a .cell) in
-    cond-both P (eqb (DC.stepRefusal d i dt) 0) (cond (D.allNumbers new r) all (D.refusedWith notFinite d)) (D.refusedWith (DC.stepRefusal d i dt) d)
-    (cond-both P (D.allNumbers new r) all (D.refusedWith notFinite d) (dfn-moved d i dt f h) h) h
+    either P (eqb (DC.stepRefusal d i dt) 0) (cond (D.allNumbers new r) all (D.refusedWith notFinite d)) (D.refusedWith (DC.stepRefusal d i dt) d)
+    (either P (D.allNumbers new r) all (D.refusedWith notFinite d) (dfn-moved d i dt f h) h) h
 
 -- ---- and its report
 change-fits : (new old : List Float) (k : ℕ) → T (fits binary64 (changeAfter new old k))
@@ -174,5 +174,5 @@ dfn-report-encodable d i dt f =
     let all : DfnAnswer = record { refusal = 0; report = r; cell = new } in
     let P : DfnAnswer → Type 0 = λ a. EncodableReport (a .report) in
     let none : EncodableReport D.noReport = record { numbers = literal _ ∷ᵉ literal _ ∷ᵉ literal _ ∷ᵉ literal _ ∷ᵉ literal _ ∷ᵉ literal _ ∷ᵉ []ᵉ; count = lit≤ tt } in
-    cond-both P (eqb (DC.stepRefusal d i dt) 0) (cond (D.allNumbers new r) all (D.refusedWith notFinite d)) (D.refusedWith (DC.stepRefusal d i dt) d)
-    (cond-both P (D.allNumbers new r) all (D.refusedWith notFinite d) (record { numbers = moved-report d i dt f; count = lit≤ tt }) none) none
+    either P (eqb (DC.stepRefusal d i dt) 0) (cond (D.allNumbers new r) all (D.refusedWith notFinite d)) (D.refusedWith (DC.stepRefusal d i dt) d)
+    (either P (D.allNumbers new r) all (D.refusedWith notFinite d) (record { numbers = moved-report d i dt f; count = lit≤ tt }) none) none

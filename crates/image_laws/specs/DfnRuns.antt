@@ -10,6 +10,7 @@ use lib.ListN.{length, take}
 use lib.Seq.{length-take-le}
 use lib.Ieee.{Float, binary64, fits}
 use lib.Ieee.Bits.{is-true}
+use Rattle.matrix_rows.specs.Loops.{either}
 use Rattle.refusal.specs.Numbers.{none-met, notFinite}
 use Rattle.runs.specs.Told.{told}
 use Rattle.runs.specs.Rows.{runAfter}
@@ -25,7 +26,6 @@ use Rattle.codec.specs.Words.{wordAt}
 use Rattle.image_rows.specs.Written.{putEnding}
 use Rattle.porous_images.specs.Images.{cellAt, putCell}
 use Rattle.porous_calls.specs.Runs.{galvanostaticAfter}
-use Rattle.image_laws.specs.Accepted.{cond-both}
 use Rattle.image_laws.specs.Rows.{same-below}
 use Rattle.image_laws.specs.Reports.{writes-ending, ending-read-back, rows-read-back}
 use Rattle.image_laws.specs.DfnImages.{EncodableDfn, dfn-same, writes-dfn, dfn-read-back}
@@ -41,8 +41,8 @@ dfn-step-refused d i dt =
     let new = D.cellWith d (D.movedBy d i dt) r in
     let all : DfnAnswer = record { refusal = 0; report = r; cell = new } in
     let P : DfnAnswer → Type 0 = λ a. (a .refusal ≡ 0 → ⊥) → a .cell ≡ d in
-    cond-both P (eqb (DC.stepRefusal d i dt) 0) (cond (D.allNumbers new r) all (D.refusedWith notFinite d)) (D.refusedWith (DC.stepRefusal d i dt) d)
-    (cond-both P (D.allNumbers new r) all (D.refusedWith notFinite d) (λ n. absurd (n refl)) (λ n. refl)) (λ n. refl)
+    either P (eqb (DC.stepRefusal d i dt) 0) (cond (D.allNumbers new r) all (D.refusedWith notFinite d)) (D.refusedWith (DC.stepRefusal d i dt) d)
+    (either P (D.allNumbers new r) all (D.refusedWith notFinite d) (λ n. absurd (n refl)) (λ n. refl)) (λ n. refl)
 
 -- ---- what a run makes of its cell
 module _ (w : Feed) where
@@ -51,11 +51,11 @@ module _ (w : Feed) where
   turned-encodable f c h =
       let a = D.stepped (c .cell) (w .current) (w .dt) in
       let k = dfn-step-encodable (c .cell) (w .current) (w .dt) f h in
-      cond-both (λ (x : Course). EncodableDfn (x .cell)) (eqb (a .refusal) 0) _ _ k k
+      either (λ (x : Course). EncodableDfn (x .cell)) (eqb (a .refusal) 0) _ _ k k
 
   turned-rows : (c : Course) → turned w c .rows ≤ c .rows + 1
   unfolding turned followed
-  turned-rows c = cond-both (λ (x : Course). x .rows ≤ c .rows + 1) (eqb (D.stepped (c .cell) (w .current) (w .dt) .refusal) 0) _ _ (le-refl (c .rows + 1)) (omega arith)
+  turned-rows c = either (λ (x : Course). x .rows ≤ c .rows + 1) (eqb (D.stepped (c .cell) (w .current) (w .dt) .refusal) 0) _ _ (le-refl (c .rows + 1)) (omega arith)
 
   -- a run without a row leaves the cell
   turned-idle : (d : DfnSolver) (c : Course) → (c .rows ≡ 0 → c .cell ≡ d) → turned w c .rows ≡ 0 → turned w c .cell ≡ d
@@ -79,13 +79,13 @@ module _ (d : DfnSolver) (i dt limit : Float) (places : ℕ) where
   pub dfn-run-encodable : T (fits binary64 i) → EncodableDfn d → EncodableDfn (galvanostatic d i dt limit places .cell)
   unfolding galvanostatic allTurns finishedRun started
   dfn-run-encodable f h =
-      cond-both (λ (x : RunSaid). EncodableDfn (x .cell)) (eqb (runRefusal d (feedOf i dt limit) places) 0) over none
+      either (λ (x : RunSaid). EncodableDfn (x .cell)) (eqb (runRefusal d (feedOf i dt limit) places) 0) over none
       (run-keeps overOf (turned (feedOf i dt limit)) lastRow (λ (c : Course). EncodableDfn (c .cell)) (turned-encodable (feedOf i dt limit) f) (places / 8) (started d) h) h
 
   pub dfn-run-idle : galvanostatic d i dt limit places .rows ≡ 0 → galvanostatic d i dt limit places .cell ≡ d
   unfolding galvanostatic allTurns finishedRun started
   dfn-run-idle =
-      cond-both (λ (x : RunSaid). x .rows ≡ 0 → x .cell ≡ d) (eqb (runRefusal d (feedOf i dt limit) places) 0) over none
+      either (λ (x : RunSaid). x .rows ≡ 0 → x .cell ≡ d) (eqb (runRefusal d (feedOf i dt limit) places) 0) over none
       (run-keeps overOf (turned (feedOf i dt limit)) lastRow (λ (c : Course). c .rows ≡ 0 → c .cell ≡ d) (turned-idle (feedOf i dt limit) d) (places / 8) (started d) (λ z. refl)) (λ z. refl)
 
   dfn-rows-most : galvanostatic d i dt limit places .rows ≤ places
@@ -93,11 +93,11 @@ module _ (d : DfnSolver) (i dt limit : Float) (places : ℕ) where
   dfn-rows-most =
       let n : runAfter overOf (turned (feedOf i dt limit)) lastRow (places / 8) (started d) .rows ≤ 0 + places / 8 =
       run-rows overOf (turned (feedOf i dt limit)) lastRow (λ (c : Course). c .rows) (turned-rows (feedOf i dt limit)) (places / 8) (started d) in
-      cond-both (λ (x : RunSaid). x .rows ≤ places) (eqb (runRefusal d (feedOf i dt limit) places) 0) over none (omega (arith, n)) (omega arith)
+      either (λ (x : RunSaid). x .rows ≤ places) (eqb (runRefusal d (feedOf i dt limit) places) 0) over none (omega (arith, n)) (omega arith)
 
   dfn-run-ending : galvanostatic d i dt limit places .ended .ending ≤ 4
   unfolding galvanostatic allTurns finishedRun
-  dfn-run-ending = cond-both (λ (x : RunSaid). x .ended .ending ≤ 4) (eqb (runRefusal d (feedOf i dt limit) places) 0) over none (ending-most _ _) (le-refl 4)
+  dfn-run-ending = either (λ (x : RunSaid). x .ended .ending ≤ 4) (eqb (runRefusal d (feedOf i dt limit) places) 0) over none (ending-most _ _) (le-refl 4)
 
   -- an answer that is written comes from a cell that passes the checks
   written-run : T (told (galvanostatic d i dt limit places .ended .refusal) (galvanostatic d i dt limit places .rows)) → runRefusal d (feedOf i dt limit) places ≡ 0

@@ -17,7 +17,7 @@ use Rattle.porous_calls.specs.Steps.{dfnNumber, dfnAfter}
 use Rattle.image_laws.specs.Accepted.{inputs-pass}
 use Rattle.image_laws.specs.Words.{word-take}
 use Rattle.image_laws.specs.Rows.{same-below}
-use Rattle.image_laws.specs.Reports.{dfnReportAt, writes-dfn-report, dfn-report-read-back}
+use Rattle.image_laws.specs.Reports.{dfnReportAt, writes-dfn-report, dfn-report-row-read-back}
 use Rattle.image_laws.specs.DfnImages.{EncodableDfn, dfn-same, writes-dfn, dfn-read-back}
 use Rattle.image_laws.specs.DfnEncodable.{dfnAt-encodable, dfn-step-encodable, dfn-report-encodable}
 
@@ -61,4 +61,4 @@ module _ (s : List ℕ) (i dt : Float) (a : List ℕ) (f : T (fits binary64 i)) 
     pub dfn-report-answer : dfnReportAt (dfnAfter s i dt a) ≡ D.stepped (cellAt s) i dt .report
     dfn-report-answer =
         let r = dfn-report-encodable (cellAt s) i dt f in
-        ap dfnReportAt answer-is ∙ dfn-report-read-back new (after .report) (rw (new-length ∙ l) (lit≤ tt)) (r .numbers) (r .count)
+        ap dfnReportAt answer-is ∙ dfn-report-row-read-back new (after .report) (rw (new-length ∙ l) (lit≤ tt)) (r .numbers) (r .count)

@@ -9,6 +9,7 @@ use lib.Ieee.{Float, binary64, fits, neg}
 use lib.Ieee.Bits.{ofBits-fits}
 use lib.Ieee.Fits.{add-fits}
 use borrow.Author.Tests.{eq-eqb}
+use Rattle.matrix_rows.specs.Loops.{either}
 use Rattle.refusal.specs.Numbers.{notFinite}
 use Rattle.turns.specs.Turns.{first-length}
 use Rattle.electrolyte_profile.specs.declared.Drive.{Drive}
@@ -22,7 +23,7 @@ use Rattle.electrolyte.specs.Accepted as EA
 use Rattle.image_rows.specs.Written.{written}
 use Rattle.electrolyte_images.specs.Images.{saltAt, electrolyteAt}
 use Rattle.porous_calls.specs.Steps.{electrolyteNumber, electrolyteAfter}
-use Rattle.image_laws.specs.Accepted.{cond-both, inputs-pass, accepted}
+use Rattle.image_laws.specs.Accepted.{inputs-pass, accepted}
 use Rattle.image_laws.specs.Encodable.{EncodableRow, []ᵉ, _∷ᵉ_, first-encodable, max-fits, float-encodable, places-encodable, places-count}
 use Rattle.image_laws.specs.ElectrolyteImages.{saltNumbers, EncodableElectrolyte, writes-electrolyte, electrolyte-read-back}
 
@@ -66,8 +67,8 @@ unfolding E.stepped E.accepted
 electrolyte-step-encodable e jNeg jPos dt t h =
     let c = profileNew (driveOf e jNeg jPos dt t) (e .«c_e») in
     let P : StateAnswer → Type 0 = λ a. EncodableElectrolyte (a .state) in
-    cond-both P (eqb (E.stepRefusal e jNeg jPos dt t) 0) (E.accepted e c) (E.answer (E.stepRefusal e jNeg jPos dt t) e)
-    (cond-both P (EP.allFinite c) (E.answer 0 (withProfile e c)) (E.answer notFinite e) (electrolyte-profile e (driveOf e jNeg jPos dt t) h) h) h
+    either P (eqb (E.stepRefusal e jNeg jPos dt t) 0) (E.accepted e c) (E.answer (E.stepRefusal e jNeg jPos dt t) e)
+    (either P (EP.allFinite c) (E.answer 0 (withProfile e c)) (E.answer notFinite e) (electrolyte-profile e (driveOf e jNeg jPos dt t) h) h) h
 
 -- ---- a step's answer
 module _ (s : List ℕ) (jNeg jPos dt t : Float) (a : List ℕ) (h : electrolyteNumber s jNeg jPos dt t ≡ 0) where

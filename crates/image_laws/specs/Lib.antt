@@ -17,3 +17,6 @@ pub mod DfnSteps
 pub mod DfnRuns
 pub mod DfnBuilds
 pub mod ReadyRecords
+pub mod Numbers
+pub mod Dense
+pub mod ReadBack

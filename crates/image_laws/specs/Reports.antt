@@ -72,8 +72,8 @@ module _ (s : List ℕ) (at : ℕ) (x : List Float) (b : Bool) (k : ℕ) where
   writes-numbers = writes-then (omega arith) (omega arith) (writes-places (length x) s at x) flag-and-count
 
   module _ (l : (at + length x + 2) * 8 ≤ length s) where
-    pub number-read-back : EncodableRow x → (i j : ℕ) → i < length x → j ≡ at + i → floatAt putNumbers j ≡ getD x i nan
-    number-read-back h i j m e =
+    pub reported-read-back : EncodableRow x → (i j : ℕ) → i < length x → j ≡ at + i → floatAt putNumbers j ≡ getD x i nan
+    reported-read-back h i j m e =
         same-float (same-below {a = 0} (le-refl (at + length x)) flag-and-count) j (omega arith) (omega (arith, m, e)) ∙ place-read-back s at x (omega (arith, l)) h i j m e
 
     pub flag-read-back : eqb (wordAt putNumbers (at + length x)) 1 ≡ b
@@ -90,10 +90,10 @@ module _ (s : List ℕ) (r : SpmState) (n : ℕ) where
   unfolding C.putReport
   writes-cell-report = writes-numbers s 157 (C.stateNumbers r) (r .cutoff) n
 
-  pub cell-report-read-back : 1328 ≤ length s → EncodableRow (C.stateNumbers r) → cellReportAt (C.putReport s r n) ≡ r
+  pub report-row-read-back : 1328 ≤ length s → EncodableRow (C.stateNumbers r) → cellReportAt (C.putReport s r n) ≡ r
   unfolding cellReportAt C.putReport
-  cell-report-read-back l h =
-      let x = number-read-back s 157 (C.stateNumbers r) (r .cutoff) n l h in
+  report-row-read-back l h =
+      let x = reported-read-back s 157 (C.stateNumbers r) (r .cutoff) n l h in
       rw (
         x 0 157 (lit≤ tt) refl,
         x 1 158 (lit≤ tt) refl,
@@ -105,9 +105,9 @@ module _ (s : List ℕ) (r : SpmState) (n : ℕ) where
         flag-read-back s 157 (C.stateNumbers r) (r .cutoff) n l,
       )
 
-  pub sub-steps-read-back : 1328 ≤ length s → n < 2 ^ 64 → wordAt (C.putReport s r n) 165 ≡ n
+  pub sub-steps-word-read-back : 1328 ≤ length s → n < 2 ^ 64 → wordAt (C.putReport s r n) 165 ≡ n
   unfolding C.putReport
-  sub-steps-read-back l m = count-read-back s 157 (C.stateNumbers r) (r .cutoff) n l m
+  sub-steps-word-read-back l m = count-read-back s 157 (C.stateNumbers r) (r .cutoff) n l m
 
 -- ---- a Doyle-Fuller-Newman cell's report
 module _ (s : List ℕ) (r : DfnStep) where
@@ -115,10 +115,10 @@ module _ (s : List ℕ) (r : DfnStep) where
   unfolding D.putReport
   writes-dfn-report = writes-numbers s 1126 (D.reportNumbers r) (r .cutoff) (r .«newton_iter»)
 
-  pub dfn-report-read-back : 9072 ≤ length s → EncodableRow (D.reportNumbers r) → r .«newton_iter» < 2 ^ 64 → dfnReportAt (D.putReport s r) ≡ r
+  pub dfn-report-row-read-back : 9072 ≤ length s → EncodableRow (D.reportNumbers r) → r .«newton_iter» < 2 ^ 64 → dfnReportAt (D.putReport s r) ≡ r
   unfolding dfnReportAt D.putReport
-  dfn-report-read-back l h m =
-      let x = number-read-back s 1126 (D.reportNumbers r) (r .cutoff) (r .«newton_iter») l h in
+  dfn-report-row-read-back l h m =
+      let x = reported-read-back s 1126 (D.reportNumbers r) (r .cutoff) (r .«newton_iter») l h in
       rw (
         x 0 1126 (lit≤ tt) refl,
         x 1 1127 (lit≤ tt) refl,

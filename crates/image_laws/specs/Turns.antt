@@ -5,9 +5,9 @@ use native.Mathlib.Omega.{arith}
 use native.Mathlib.Nat.{le-refl}
 use lib.Dec.{lit≤, eqb}
 use lib.Ieee.{Float}
+use Rattle.matrix_rows.specs.Loops.{either}
 use Rattle.runs.specs.Rows.{runAfter}
 use Rattle.runs.specs.Endings.{Ended, endingOf}
-use Rattle.image_laws.specs.Accepted.{cond-both}
 
 module _ {S : Type 0} (over : S → ℕ) (turned : S → S) (row : S → List Float) where
   pub run-keeps : (P : S → Type 0) → ((s : S) → P s → P (turned s)) → (k : ℕ) (s : S) → P s → P (runAfter over turned row k s)
@@ -16,7 +16,7 @@ module _ {S : Type 0} (over : S → ℕ) (turned : S → S) (row : S → List Fl
   run-keeps P f (suc k) s p =
       let r = runAfter over turned row k s in
       let q = run-keeps P f k s p in
-      cond-both P (eqb (over r) 0) (turned r) r (f r q) q
+      either P (eqb (over r) 0) (turned r) r (f r q) q
 
   pub run-rows : (rows : S → ℕ) → ((s : S) → rows (turned s) ≤ rows s + 1) → (k : ℕ) (s : S) → rows (runAfter over turned row k s) ≤ rows s + k
   unfolding runAfter
@@ -25,11 +25,11 @@ module _ {S : Type 0} (over : S → ℕ) (turned : S → S) (row : S → List Fl
       let r = runAfter over turned row k s in
       let m = run-rows rows f k s in
       let n = f r in
-      cond-both (λ (x : S). rows x ≤ rows s + suc k) (eqb (over r) 0) (turned r) r (omega (arith, m, n)) (omega (arith, m))
+      either (λ (x : S). rows x ≤ rows s + suc k) (eqb (over r) 0) (turned r) r (omega (arith, m, n)) (omega (arith, m))
 
 -- the number of an ending
 pub ending-most : (over k : ℕ) → endingOf over k .ending ≤ 4
 unfolding endingOf
 ending-most over k =
     let P : Ended → Type 0 = λ e. e .ending ≤ 4 in
-    cond-both P (eqb over 0) _ _ (lit≤ tt) (cond-both P (eqb over 1) _ _ (lit≤ tt) (cond-both P (eqb over 2) _ _ (lit≤ tt) (le-refl 4)))
+    either P (eqb over 0) _ _ (lit≤ tt) (either P (eqb over 1) _ _ (lit≤ tt) (either P (eqb over 2) _ _ (lit≤ tt) (le-refl 4)))
