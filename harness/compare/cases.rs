@@ -153,8 +153,16 @@ fn some_word(draw: &mut Draw, record: Record, words: &[u64]) -> usize {
     array.start + at.min(array.places - 1)
 }
 
-/// One argument or one word of the record at its limits; or, for a run, the length of the slice.
+/// Where a cell's image has its three counts of nodes: the config's, the anode's and the cathode's.
+const CELL_COUNTS: [usize; 3] = [0, 16, 91];
+
+/// One argument or one word of the record at its limits; for a run, the length of the slice; of a cell, all its counts at once.
 fn one_fault(draw: &mut Draw, turn: &mut Turn, record: Record, words: &[u64]) {
+    if record == Record::Cell && draw.below(16) == 0 {
+        let count = count_around(draw, 3, 64);
+        turn.changes.extend(CELL_COUNTS.map(|at| (at, count)));
+        return;
+    }
     let run = matches!(turn.call.function, Function::Discharge | Function::Galvanostatic);
     if run && draw.below(8) == 0 {
         turn.call.rows = draw.below(9) as usize;
