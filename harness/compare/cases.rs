@@ -549,6 +549,12 @@ fn dfn_exponents(draw: &mut Draw, _: u64) -> Case {
     Case { start: image_of(Record::DfnCell.parts(), &cell.slots()), turns: vec![Turn::new(draw, Function::DfnStep, &[current, dt])] }
 }
 
+/// A step whose voltage is the overpotentials alone.
+fn dfn_overpotentials(draw: &mut Draw, _: u64) -> Case {
+    let (cell, numbers) = records::by_overpotentials(draw);
+    Case { start: image_of(Record::DfnCell.parts(), &cell.slots()), turns: vec![Turn::new(draw, Function::DfnStep, &numbers)] }
+}
+
 fn galvanostatic(draw: &mut Draw, _: u64) -> Case {
     let (mut cell, mut build) = some_dfn(draw);
     let (current, dt) = (dfn_current(draw, &cell), dfn_interval(draw, &cell));
@@ -672,10 +678,10 @@ fn random_byte(draw: &mut Draw, turn: u64) -> Case {
 }
 
 /// The plans in turn, some more often than others.
-pub const PLANS: [Plan; 25] = [
+pub const PLANS: [Plan; 26] = [
     sheet_numbers, particle_steps, cell_steps, electrolyte_steps, dfn_steps, solve, discharges, galvanostatic, ready, salt_numbers,
     particle_steps, cell_steps, random_byte, dfn_steps, solve, sphere, electrolyte_steps, random_images, particle_steps, cell_steps,
-    sheet_numbers, dfn_steps, discharges, galvanostatic, dfn_exponents,
+    sheet_numbers, dfn_steps, discharges, galvanostatic, dfn_exponents, dfn_overpotentials,
 ];
 
 /// A case by its number; it depends on the seed and the number alone.

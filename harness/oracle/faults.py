@@ -109,7 +109,7 @@ STANDINS = [
     ("L: k*c + .. rounded once", RESULT, "f64::from(k).mul_add(LN_2, (2.0 * s) * a)"),
     ("L: .. + (2*s)*a rounded once", RESULT, "(2.0 * s).mul_add(a, f64::from(k) * LN_2)"),
     ("H: a NaN is not looked for", "    if x.is_nan() {\n        return x;\n    }\n", "", NAN),
-    ("H: x for |x|", "let a = x.abs();", "let a = x;"),
+    ("H: x for its size", "let a = x.abs();", "let a = x;"),
     ("H: without the sign", ROOT, "ln(a + (a * a + 1.0).sqrt())"),
     ("H: the other sign", ROOT, "-ln(a + (a * a + 1.0).sqrt()).copysign(x)"),
     ("H: +0 at -0", ROOT, "if x == 0.0 { 0.0 } else { ln(a + (a * a + 1.0).sqrt()).copysign(x) }"),
