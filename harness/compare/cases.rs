@@ -153,8 +153,16 @@ fn some_word(draw: &mut Draw, record: Record, words: &[u64]) -> usize {
     array.start + at.min(array.places - 1)
 }
 
-/// One argument or one word of the record at its limits; or, for a run, the length of the slice.
+/// Where a cell's image has its three counts of nodes: the config's, the anode's and the cathode's.
+const CELL_COUNTS: [usize; 3] = [0, 16, 91];
+
+/// One argument or one word of the record at its limits; for a run, the length of the slice; of a cell, all its counts at once.
 fn one_fault(draw: &mut Draw, turn: &mut Turn, record: Record, words: &[u64]) {
+    if record == Record::Cell && draw.below(16) == 0 {
+        let count = count_around(draw, 3, 64);
+        turn.changes.extend(CELL_COUNTS.map(|at| (at, count)));
+        return;
+    }
     let run = matches!(turn.call.function, Function::Discharge | Function::Galvanostatic);
     if run && draw.below(8) == 0 {
         turn.call.rows = draw.below(9) as usize;
@@ -541,6 +549,12 @@ fn dfn_exponents(draw: &mut Draw, _: u64) -> Case {
     Case { start: image_of(Record::DfnCell.parts(), &cell.slots()), turns: vec![Turn::new(draw, Function::DfnStep, &[current, dt])] }
 }
 
+/// A step whose voltage is the overpotentials alone.
+fn dfn_overpotentials(draw: &mut Draw, _: u64) -> Case {
+    let (cell, numbers) = records::by_overpotentials(draw);
+    Case { start: image_of(Record::DfnCell.parts(), &cell.slots()), turns: vec![Turn::new(draw, Function::DfnStep, &numbers)] }
+}
+
 fn galvanostatic(draw: &mut Draw, _: u64) -> Case {
     let (mut cell, mut build) = some_dfn(draw);
     let (current, dt) = (dfn_current(draw, &cell), dfn_interval(draw, &cell));
@@ -664,10 +678,10 @@ fn random_byte(draw: &mut Draw, turn: u64) -> Case {
 }
 
 /// The plans in turn, some more often than others.
-pub const PLANS: [Plan; 25] = [
+pub const PLANS: [Plan; 26] = [
     sheet_numbers, particle_steps, cell_steps, electrolyte_steps, dfn_steps, solve, discharges, galvanostatic, ready, salt_numbers,
     particle_steps, cell_steps, random_byte, dfn_steps, solve, sphere, electrolyte_steps, random_images, particle_steps, cell_steps,
-    sheet_numbers, dfn_steps, discharges, galvanostatic, dfn_exponents,
+    sheet_numbers, dfn_steps, discharges, galvanostatic, dfn_exponents, dfn_overpotentials,
 ];
 
 /// A case by its number; it depends on the seed and the number alone.

@@ -316,3 +316,20 @@ pub fn by_exponents(draw: &mut Draw) -> (dfn::Cell, f64) {
     let dt = two_to(draw.uniform(-4.0, 1.0) + porosity + 2.0 * spacing - diffusivity);
     (made, dt.clamp(f64::from_bits(1), 86_400.0))
 }
+
+/// A cell without open-circuit voltage, a current and an interval: its voltage is the overpotentials, so the digits of L show, and
+/// with a current those of H. L's last terms matter most just below 1.5.
+pub fn by_overpotentials(draw: &mut Draw) -> (dfn::Cell, [f64; 2]) {
+    let mut params = dfn::Params { ocv_neg: Coefficients::of(&[]), ocv_pos: Coefficients::of(&[]), ..dfn_params(draw) };
+    let config = dfn::Config { counts: [draw.count(1, 2), 1, 2], voltages: [-10.0, 10.0] };
+    let (c_e0, ratio) = (draw.uniform(100.0, 1000.0), if draw.below(2) == 0 { draw.uniform(1.48, 1.5) } else { power(draw, 0.0, 3.0) });
+    let current = if draw.below(2) == 0 { draw.pick(&[0.0, -0.0]) } else { params.numbers[3] * power(draw, -30.0, 10.0) };
+    for (at, to) in [(0, 1e-7), (1, 1e-7), (2, 1e-7), (9, draw.within(dfn::RANGES[9])), (15, draw.within(dfn::RANGES[15])), (16, c_e0), (20, 100.0)] {
+        params.numbers[at] = to;
+    }
+    let mut made = dfn::Cell::new(params, config).expect("parameters in range");
+    for place in made.c_e.iter_mut().filter(|place| **place != 0.0) {
+        *place = (c_e0 * ratio).min(3000.0);
+    }
+    (made, [current.min(1e6), power(draw, -16.0, 10.0)])
+}

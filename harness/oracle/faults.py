@@ -109,7 +109,7 @@ STANDINS = [
     ("L: k*c + .. rounded once", RESULT, "f64::from(k).mul_add(LN_2, (2.0 * s) * a)"),
     ("L: .. + (2*s)*a rounded once", RESULT, "(2.0 * s).mul_add(a, f64::from(k) * LN_2)"),
     ("H: a NaN is not looked for", "    if x.is_nan() {\n        return x;\n    }\n", "", NAN),
-    ("H: x for |x|", "let a = x.abs();", "let a = x;"),
+    ("H: x for its size", "let a = x.abs();", "let a = x;"),
     ("H: without the sign", ROOT, "ln(a + (a * a + 1.0).sqrt())"),
     ("H: the other sign", ROOT, "-ln(a + (a * a + 1.0).sqrt()).copysign(x)"),
     ("H: +0 at -0", ROOT, "if x == 0.0 { 0.0 } else { ln(a + (a * a + 1.0).sqrt()).copysign(x) }"),
@@ -135,6 +135,7 @@ STANDINS = [
 NO_NODE_0 = because("the node's radius is 0, so its term is +0")
 SKIPPED = because("the loop passes over that node anyway")
 UNREAD = because("that entry is not read again")
+NO_I0 = because("an exchange current of 0 and one that is a NaN are both not above 1e-30")
 
 ELECTRODE = [
     ("c_avg: from node 1", "for i in 0..n {", "for i in 1..n {", NO_NODE_0),
@@ -157,7 +158,7 @@ ELECTRODE = [
     ("ocp of LFP: not clamped a second time", "    let x = x.clamp(0.01, 0.99);\n", "", because("x is clamped to the same limits before")),
     ("ocp of graphite: the root for powf(0.5)", "x.oracle_powf(0.5)", "x.sqrt()"),
     ("d_s: 1/T - 1/T_ref", "(1.0 / T_REF - 1.0 / temp_k)", "(1.0 / temp_k - 1.0 / T_REF)"),
-    ("sphere_volume: 4*PI/3", "4.0 / 3.0 * PI * r * r * r", "4.0 * PI / 3.0 * r * r * r"),
+    ("sphere_volume: (r*r)*r first", "4.0 / 3.0 * PI * r * r * r", "4.0 / 3.0 * PI * (r * r * r)"),
 ]
 
 ELECTROLYTE = [
@@ -185,8 +186,9 @@ SOLVER = [
     ("step: a sub-step more", "for _ in 0..n_sub {", "for _ in 0..=n_sub {"),
     ("step: floor for ceil", ".ceil() as usize", ".floor() as usize"),
     ("step: without signum", "v_ohm * current_a.signum()", "v_ohm"),
-    ("step: signum of +0 is 0", "current_a.signum()", "(if current_a == 0.0 { 0.0 } else { current_a.signum() })"),
+    ("step: signum of a zero is 0", "current_a.signum()", "(if current_a == 0.0 { 0.0 } else { current_a.signum() })", because("v_ohm is a zero there")),
     ("step: the anode's overpotential with the other sign", "let eta_neg = -self", "let eta_neg = self"),
+    ("overpotential: the last digit of the root", "* 1000.0).sqrt()", "* 1000.0).sqrt().next_up()"),
     ("overpotential: powf(0.5) for the root", "* 1000.0).sqrt()", "* 1000.0).oracle_powf(0.5)"),
     (
         "overpotential: 0 up to 1e-20", "i_0_mol < 1e-30", "i_0_mol < 1e-20",
@@ -227,9 +229,7 @@ DFN = [
     ("solid: clamped without the surface", "for c in &mut c_xi {", "for c in c_xi.iter_mut().take(n_r - 1) {"),
     ("solid: node 0 is clamped, from node 1 it takes", "            c_xi[0] = c_xi[1];\n", "            c_xi[0] = c_xi[1].clamp(0.0, c_s_max);\n", because("the clamp after it does the same")),
     ("solid: the flux's sign", "let flux_surface = j_li", "let flux_surface = -j_li"),
-    (
-        "solid: d_surf at least 1e-18", "let flux_surface = j_li / d_surf.max(1e-30);", "let flux_surface = j_li / d_surf.max(1e-18);",
-    ),
+    ("solid: d_surf at least 1e-18", "let flux_surface = j_li / d_surf.max(1e-30);", "let flux_surface = j_li / d_surf.max(1e-18);"),
     ("ocv: without the first coefficient", "coeffs.iter().fold", "coeffs.iter().skip(1).fold"),
     ("ocv: without the last coefficient", "coeffs.iter().fold", "coeffs.iter().take(coeffs.len().saturating_sub(1)).fold"),
     ("step: the middle a node later", "c_e_new[n_x_neg / 2]", "c_e_new[n_x_neg / 2 + 1]"),
@@ -238,8 +238,14 @@ DFN = [
     ("step: the largest change with its sign", ".map(|(a, b)| (a - b).abs())", ".map(|(a, b)| a - b)"),
     ("voltage: not clamped below", "v.clamp(0.0, 5.0)", "v.min(5.0)"),
     ("voltage: not clamped above", "v.clamp(0.0, 5.0)", "v.max(0.0)"),
-    ("voltage: 5 for a NaN", "v.clamp(0.0, 5.0)", "v.max(0.0).min(5.0)"),
+    (
+        "voltage: 0 for a NaN", "v.clamp(0.0, 5.0)", "v.max(0.0).min(5.0)",
+        because("a NaN comes only from the electrolyte's middle node, which is refused for itself"),
+    ),
     ("voltage: powf(0.5) for the first root", "c_e_mid.sqrt()", "c_e_mid.oracle_powf(0.5)", nth(1)),
+    *((f"voltage: the last digit of root {n}", ".sqrt()", ".sqrt().next_up()", nth(n)) for n in range(1, 7)),
+    ("voltage: a NaN for the anode's third root", ".sqrt().max(0.0)", ".sqrt()", {**nth(1), **NO_I0}),
+    ("voltage: a NaN for the cathode's third root", ".sqrt().max(0.0)", ".sqrt()", {**nth(2), **NO_I0}),
     ("voltage: the surface's own stoichiometry", "theta_neg.clamp(0.001, 0.999)", "theta_neg"),
     ("voltage: c_e/c_e0 from 1e-2", "(c_e_mid / p.c_e0).max(1e-3)", "(c_e_mid / p.c_e0).max(1e-2)"),
     (
@@ -247,7 +253,7 @@ DFN = [
         because("c_e is clamped to at least 100 and c_e0 is at most 1e5, so the ratio is at least 1e-3"),
     ),
     ("run: ends after its limit", "step.time_s >= max_time_s", "step.time_s > max_time_s"),
-    ("run: the limit's order", "step.cutoff || step.time_s", "step.time_s", ),
+    ("run: the voltage ends nothing", "step.cutoff || step.time_s", "step.time_s"),
     ("dense: columns from 1", "for col in 0..n {", "for col in 1..n {"),
     ("dense: without the last column", "for col in 0..n {", "for col in 0..n.saturating_sub(1) {", because("nothing stands below it, and the second pass asks its pivot too")),
     ("dense: the pivot search a row later", "for row in col + 1..n {\n            let v", "for row in col + 2..n {\n            let v"),
@@ -255,7 +261,7 @@ DFN = [
     ("dense: the last of two equal pivots", "if v > max_val {", "if v >= max_val {"),
     ("dense: a pivot with its sign", "let v = a[row * n + col].abs();", "let v = a[row * n + col];"),
     ("dense: 1e-14 is singular", "if max_val < 1e-14 {", "if max_val <= 1e-14 {"),
-    ("dense: the number before 1e-14 is not singular", "if max_val < 1e-14 {", "if max_val < " + as_rust(below(1e-14)) + " {"),
+    ("dense: the number before 1e-14 is not singular", "if max_val < 1e-14 {", "if max_val < " + as_rust(below(1e-14)) + " {", because("the second pass asks every pivot again")),
     ("dense: the exchange from column 1", "for k in 0..n {", "for k in 1..n {"),
     ("dense: the exchange without the last column", "for k in 0..n {", "for k in 0..n - 1 {"),
     ("dense: the right side is not exchanged", "            x.swap(col, max_row);\n", ""),
@@ -535,6 +541,12 @@ CALLS_DENSE = [
 ]
 
 
+CALLS_WORDS = [
+    ("array: a -0 at the end is left out", "bits(*x) != 0)", "*x != 0.0)"),
+    ("a NaN keeps its bits", "if x.is_nan() {", "if false {"),
+    ("flag: 0 for yes", "u64::from(b)", "u64::from(!b)"),
+]
+
 LIMIT = re.compile(r"range\((-?[\d._e-]+), (-?[\d._e-]+|f64::MAX)\)")
 
 
@@ -578,6 +590,7 @@ def all_faults(texts):
         ("calls/electrolyte.rs", CALLS_ELECTROLYTE),
         ("calls/dfn.rs", CALLS_DFN),
         ("calls/dense.rs", CALLS_DENSE),
+        ("calls/words.rs", CALLS_WORDS),
     ]
     for file, rows in tables:
         yield from listed(file, rows)

@@ -44,6 +44,8 @@ pub fn function_cases(draw: &mut Draw) -> Vec<Vec<Slot>> {
     all.extend((0..6000).map(|_| any(draw)));
     all.extend((0..6000).map(|_| moderate(draw)));
     all.extend((0..2000).map(|_| f64::from_bits(draw.bits() >> (12 + draw.below(40)))));
+    // where L's last terms matter most
+    all.extend((0..3000).map(|_| draw.uniform(1.48, 1.5)));
     all.iter().map(|x| vec![float(*x)]).collect()
 }
 

@@ -89,6 +89,19 @@ fn one_sub_step(cell: &Cell, temp_k: f64) -> f64 {
     stable(&cell.anode).min(stable(&cell.cathode))
 }
 
+/// Cells whose three counts of nodes are alike, at the limits and outside: neither particle's count differs from the config's.
+fn alike_counts() -> Vec<Cell> {
+    let made = Cell::new(config(3), pairs_of_sheets()[0].0, pairs_of_sheets()[0].1).expect("ready sheets");
+    let cell = |n: u64| {
+        let mut cell = made.clone();
+        (cell.config.n_nodes, cell.anode.n, cell.cathode.n) = (n, n, n);
+        cell.anode.c_s[..n.min(64) as usize].fill(made.anode.c_s[0]);
+        cell.cathode.c_s[..n.min(64) as usize].fill(made.cathode.c_s[0]);
+        cell
+    };
+    [0, 1, 2, 64, 65, 1 << 32, u64::MAX].map(cell).to_vec()
+}
+
 /// A ready cell whose diffusivity leaves its range at one electrode, at the temperature beside it.
 fn diffusivity_out(draw: &mut Draw, at_anode: bool, high: bool) -> (Cell, f64) {
     let (mut anode, mut cathode) = pairs_of_sheets()[0];
@@ -151,6 +164,7 @@ pub fn step_cases(draw: &mut Draw) -> Vec<Vec<Slot>> {
             cell = cell.step(current, dt, 298.15).expect("a step in range").0;
         }
     }
+    all.extend(alike_counts().iter().map(|cell| stepping(cell, 3.0, 1.0, 298.15)));
     all
 }
 
@@ -176,6 +190,7 @@ pub fn number_cases(draw: &mut Draw) -> Vec<Vec<Slot>> {
         let (sheets, config) = ((random_sheet(draw), random_sheet(draw)), random_config(draw, n));
         all.push(random_cell(draw, config, sheets).slots());
     }
+    all.extend(alike_counts().iter().map(Cell::slots));
     all
 }
 
@@ -237,6 +252,7 @@ pub fn run_cases(draw: &mut Draw) -> Vec<Vec<Slot>> {
         let numbers = [draw.uniform(-10.0, 10.0), draw.uniform(0.5, 5.0), draw.uniform(270.0, 330.0), draw.uniform(0.0, 60.0)];
         all.push(running(&cell, numbers, draw.count(8, 120)));
     }
+    all.extend(alike_counts().iter().map(|cell| running(cell, [3.0, 1.0, 298.15, 2.0], 24)));
     all
 }
 
