@@ -19,6 +19,7 @@
 --   Ordered     the exact scheme keeps the order of two profiles over two lists of calls
 pub mod Electrodes
 pub mod Closure
+pub mod Build
 pub mod Demand
 pub mod Ordered
 pub mod Ranking
