@@ -123,7 +123,7 @@ pub record Twins (s s' : SpmSolver) : Type 0 where
 twins-make : (s s' : SpmSolver) → cellRefusal s ≡ 0 → cellRefusal s' ≡ 0 → Twins s s' → Inv s s'
 twins-make s s' h h' w = record { passes = h'; make = record { config = w .config; sheet = w .sheet; nodes = λ e. nodes-are s' h' e ∙ ap (λ c. c .«n_nodes») (w .config) ∙ sym (nodes-are s h e) } }
 
-same-numbers : (e : Electrode) (s r : SpmSolver) (q : Call) → SameMake s r → numbersAt e r q ≡ numbersAt e s q
+pub same-numbers : (e : Electrode) (s r : SpmSolver) (q : Call) → SameMake s r → numbersAt e r q ≡ numbersAt e s q
 same-numbers e s r q m =
     ap (λ (p : Plan). numbers (drive (gridAt e r) (moveBy e p (q .dt)))) (same-plan s r q m) ∙ ap (λ (b : Grid). numbers (drive b (moveBy e (planFor s q) (q .dt)))) (same-grid e s r m)
 
