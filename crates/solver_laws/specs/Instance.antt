@@ -39,7 +39,7 @@ use Rattle.solver_plan.specs.declared.Plan.{Plan}
 use Rattle.solver_plan.specs.Plans.{planRefusal, subStepsOf}
 use Rattle.solver.specs.Step.{inputRefusal, currentDensity, quotient, planOf, planned, stepped}
 use Rattle.solver_laws.specs.Electrodes.{Electrode, particleAt, diffusivityIn, fluxIn, nodes-are, grid-passed, current-range, cathode-flux, anode-flux}
-use Rattle.solver_laws.specs.Closure.{SameMake, step-count, step-clock}
+use Rattle.solver_laws.specs.Closure.{step-count, step-clock}
 use Rattle.solver_laws.specs.Build.{cell-passes, build-passes}
 use Rattle.solver_laws.specs.Acceptance.{step-accepted}
 use Rattle.solver_laws.specs.Demand.{Call, answer, taken, K, planFor, numbersAt, KeptAt, place, exactPlace, Inv, itself, stays, same-plan, solver-near, at-accepted, at-refused}

@@ -153,6 +153,7 @@ solver-ranking s s' qs qs' h h' w ks ks' ps =
           let y = place Electrode.cathode s' qs' i in
           let M = val (s .cathode .params .«c_s_max») in
           let z : x ≤F y +F nat 2 *F nat (K s qs) *F M /F pow2 49 = ranked-at Electrode.cathode s s s' qs qs' v v' (ks Electrode.cathode) (kept Electrode.cathode) more (λ k o. ≤F-of-≈F (≈F-sym (w .nodes Electrode.cathode k (subst (λ (n : ℕ). k < n) (nodes-are s h Electrode.cathode) o)))) i (rw (nodes-are s h Electrode.cathode) l) in
-          le-by (x ∷ y ∷ nat (K s qs) ∷ M ∷ share ∷ []) 0 (up z) (search quote depth 24) tt;
+          let d : x -F nat 2 *F nat (K s qs) *F M /F pow2 49 ≤F y = le-by (x ∷ y ∷ nat (K s qs) ∷ M ∷ share ∷ []) 0 (up z) (search quote depth 24) tt in
+          d;
       anode = λ i l. rw (← same) (ranked-at Electrode.anode s s' s qs' qs v' v (kept Electrode.anode) (ks Electrode.anode) less (λ k o. ≤F-of-≈F (w .nodes Electrode.anode k (subst (λ (n : ℕ). k < n) (nodes-are s h Electrode.anode) o))) i (rw (nodes-are s h Electrode.anode) l));
     }
