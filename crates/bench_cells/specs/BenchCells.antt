@@ -32,7 +32,7 @@ use Rattle.solver_report.specs.declared.SpmState.{SpmState}
 use Rattle.solver.specs.declared.SpmSolver.{SpmSolver}
 use Rattle.solver.specs.Step.{finiteStep, finished}
 use Rattle.dfn_solid.specs.declared.Grain.{Grain}
-use Rattle.dfn_solid.specs.Solid.{Solid, dSolids, innerWith, surfaceWith, centreWith, nodeWith, particleWith, particlesWith, surfacesWith, solidAfter}
+use Rattle.dfn_solid.specs.Solid.{dSolids, innerWith, surfaceWith, centreWith, nodeWith, particleWith, particlesWith, surfacesWith, solidAfter}
 
 infix 66 _over_
 -- ---- how the list writes its numbers

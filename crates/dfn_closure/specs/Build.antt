@@ -9,7 +9,6 @@ use borrow.Author.Tests.{ltb-true, ltb-false}
 use lib.Dec.{T, ltb, eqb, eqb·suc-zero}
 use lib.ListN.{replicate, length-replicate, getD-replicate}
 use lib.Ieee.{Float, nan, binary64, le, fits, ofBits, toBits}
-use lib.Ieee.Scale.{finite}
 use lib.Ieee.Fits.{and-i, and-l, and-r}
 use Rattle.fraction.specs.Fraction.{whole, nat, _≈F_}
 use Rattle.fraction.specs.Field.{≈F-sym, ≤F-of-≈F, ≤F-trans}
@@ -28,7 +27,7 @@ use Rattle.dfn_parameters.specs.declared.DfnParams.{DfnParams}
 use Rattle.dfn_parameters.specs.declared.DfnConfig.{DfnConfig}
 use Rattle.dfn_places.specs.Places.{at, placeFits, solidFitsTo, solidFits, electrolyteFits, filled}
 use Rattle.dfn_solid.specs.Room.{room}
-use Rattle.dfn.specs.Checks.{Grid, usedNeg, usedPos, usedSalt, cellRefusal, grid-met}
+use Rattle.dfn.specs.Checks.{usedNeg, usedPos, usedSalt, cellRefusal, grid-met}
 use Rattle.dfn.specs.Build.{newRefusal, fresh, noCell, made}
 use Rattle.dfn.specs.declared.DfnBuild.{DfnBuild}
 use Rattle.dfn_closure.specs.Tests.{Range, unit, top, saltMost, max-neg, max-pos, theta-neg, theta-pos, salt}

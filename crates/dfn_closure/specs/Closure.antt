@@ -1,5 +1,5 @@
 -- What a step leads to: an accepted one to a cell that passes the checks again, a refused one to the cell as it was. Assumes nothing.
-use Prim.Native.Nat.{ℕ, zero, suc, _+_, _*_, _≤_}
+use Prim.Native.Nat.{ℕ, zero, suc}
 use mathlib.Core.Path.{_≡_, refl, ap}
 use mathlib.Core.Bool.{Bool, true, false, cond, _&&_}
 use native.Mathlib.Omega.{arith}
@@ -18,7 +18,7 @@ use Rattle.dfn_places.specs.Places.{solidFits, electrolyteFits, allFinite}
 use Rattle.dfn_solid.specs.Solid.{dSolids, solidAfter}
 use Rattle.dfn_solid.specs.Room.{room}
 use Rattle.dfn_electrolyte.specs.Electrolyte.{saltOf, regionOf, dEffs, electrolyteAfter}
-use Rattle.dfn.specs.Checks.{Grid, Fields, usedNeg, usedPos, usedSalt, fieldsFit, cellRefusal, stepRefusal, cell-grid, cell-fields, fields-met, step-cell}
+use Rattle.dfn.specs.Checks.{Fields, usedNeg, usedPos, usedSalt, fieldsFit, cellRefusal, stepRefusal, cell-grid, cell-fields, fields-met, step-cell}
 use Rattle.dfn.specs.Step.{grainOf, movedBy, reportOf, cellWith, allNumbers, noReport, refusedWith, answered, followed, advanced, stepped}
 use Rattle.dfn.specs.declared.DfnSolver.{DfnSolver}
 use Rattle.dfn.specs.declared.DfnStep.{DfnStep}

@@ -1,15 +1,14 @@
 -- A step that neither its input nor its plan refuses is accepted, whatever the profiles, unless its clock leaves the finite numbers: the overpotentials and the voltage are finite. Assumes nothing.
-use Prim.Native.Nat.{ℕ, _^_}
+use Prim.Native.Nat.{_^_}
 use mathlib.Core.Path.{_≡_, refl}
 use mathlib.Core.Bool.{_&&_}
 use mathlib.Core.List.{[], _∷_}
-use native.Mathlib.Omega.{arith}
 use lib.Dec.{T, lit≤}
 use lib.Ieee.{Float, binary64, le, lt, neg, fits, round, size, ofBits}
 use lib.Ieee.Bits.{ofBits-fits}
 use lib.Ieee.Fits.{and-i, and-l, and-r, mul-fits}
 use lib.Ieee.Scale.{finite}
-use Rattle.fraction.specs.Fraction.{whole, nat, pow2, _-F_, _*F_, _≤F_, _within_}
+use Rattle.fraction.specs.Fraction.{whole, nat, _*F_, _≤F_, _within_}
 use Rattle.fraction.specs.Field.{≤F-trans, le-of-lt}
 use Rattle.fraction.specs.Order.{lit≤F}
 use Rattle.fraction.specs.Size.{size-pos, size-wider}
@@ -45,7 +44,7 @@ use Rattle.solver.specs.declared.SpmSolver.{SpmSolver}
 use Rattle.solver_plan.specs.declared.Plan.{Plan}
 use Rattle.solver_plan.specs.Plans.{planRefusal}
 use Rattle.solver.specs.Step.{inputRefusal, currentDensity, planOf, advanced, voltageOf, reported, finiteStep, stepped}
-use Rattle.solver_laws.specs.Electrodes.{Electrode, particleAt, ConfigRanges, config-ranges, config-passed, cell-passed, current-fits, temperature-fits, flux-range}
+use Rattle.solver_laws.specs.Electrodes.{Electrode, particleAt, config-ranges, config-passed, cell-passed, current-fits, temperature-fits, flux-range}
 use Rattle.solver_laws.specs.Closure.{next, electrode-next, accepted-where}
 
 -- ---- the exchange of a particle that passes: from 2 ^ -57 to 2 ^ 23

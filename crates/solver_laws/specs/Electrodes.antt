@@ -184,7 +184,7 @@ module _ (s : SpmSolver) (h : cellRefusal s ≡ 0) where
         (neg-le (currentDensity s i) (currentDensity s i') density-le) (wall-above (s .anode .params) (s .config) (sheet-at s h Electrode.anode) (config-passed s h)))
 
 -- ---- what a step that nothing refuses before it is made works with
-current-range : (i : Float) → T (loadFits i (f64 0x412e_8480_0000_0000)) → Sized i (2 ^ 20) 1
+pub current-range : (i : Float) → T (loadFits i (f64 0x412e_8480_0000_0000)) → Sized i (2 ^ 20) 1
 unfolding ofBits neg
 current-range i t =
     let hi = f64 0x412e_8480_0000_0000 in

@@ -1,5 +1,5 @@
 -- The rows of a run are a list of the solver's calls, so theorem 2 holds of the cell that the run leaves. Assumes nothing.
-use Prim.Native.Nat.{ℕ, zero, suc, _+_, _*_, _/_, _<_}
+use Prim.Native.Nat.{ℕ, zero, suc, _*_, _/_, _<_}
 use mathlib.Core.Path.{_≡_, refl, sym, ap, _∙_}
 use mathlib.Core.Bool.{Bool, true, false, cond}
 use mathlib.Core.List.{List, [], _∷_}
@@ -16,10 +16,8 @@ use Rattle.diffusion.specs.Copies.{each-copies}
 use Rattle.particle.specs.Particle.{placeOf}
 use Rattle.runs.specs.Rows.{runAfter}
 use Rattle.solver.specs.declared.SpmSolver.{SpmSolver}
-use Rattle.solver.specs.declared.SpmStep.{SpmStep}
 use Rattle.solver.specs.Cell.{gridFits, cellFits, cellRefusal}
 use Rattle.solver_plan.specs.Plans.{subStepsOf}
-use Rattle.solver.specs.Step.{stepped}
 use Rattle.discharge_run.specs.declared.Feed.{Feed}
 use Rattle.discharge_run.specs.declared.Run.{Run}
 use Rattle.discharge_run.specs.Discharge.{RunSaid, overOf, lastRow, started, followed, turned, finishedRun, allTurns, runRefusal, refusedRun, discharged}
@@ -150,5 +148,6 @@ pub run-near : (e : Electrode) (w : Feed) (s : SpmSolver) (places : ℕ) → run
 run-near e w s places h k i l =
     let c = run-cell w s places h in
     let n = discharged w s places .rows in
-    rw (run-is-list w s places, ← all-counted s (callOf w) n s (itself s c) (discharged-listed w s places .accepted))
-    (solver-near e s (callsOf w s places) c (rw (run-accepted w s places) (each-copies (λ q. Kept (numbersAt e s q)) (callOf w) n k)) i l)
+    let k' = each-copies (λ q. Kept (numbersAt e s q)) (callOf w) n k in
+    let near = solver-near e s (callsOf w s places) c (rw (run-accepted w s places) k') i l in
+    rw (run-is-list w s places) (rw (all-counted s (callOf w) n s (itself s c) (discharged-listed w s places .accepted)) at near)
