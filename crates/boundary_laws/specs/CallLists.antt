@@ -1,17 +1,16 @@
 -- LISTS OF CALLS FROM C: each call is handed the image that the last answer begins with, refused calls and wrong lengths change nothing, and the record of the last image is the record
 -- after the same list of calls by their definitions. One law for every kind of call. Assumes nothing.
-use Prim.Native.Nat.{ℕ, zero, suc, _+_}
+use Prim.Native.Nat.{ℕ, _+_}
 use mathlib.Core.Path.{_≡_, refl, sym, ap, _∙_}
 use mathlib.Core.Bool.{Bool, true, false, cond}
 use mathlib.Core.Logic.{_⊎_, inl, inr, ⊎-elim}
 use mathlib.Core.List.{List, [], _∷_}
 use native.Mathlib.Nat.{zero-add}
-use native.Mathlib.Omega.{arith}
-use borrow.Author.Tests.{eq-eqb, ne-eqb, eqb-true, eqb-false}
-use lib.Dec.{eqb, eqb·suc-zero}
+use borrow.Author.Tests.{eqb-true, eqb-false}
+use lib.Dec.{eqb}
 use lib.ListN.{length, take}
 use Rattle.refusal.specs.Numbers as N
-use Rattle.boundary.specs.Calls.{lengths, met}
+use Rattle.boundary.specs.Calls.{met}
 
 -- A kind of call on images of `size` bytes that `read` reads as a record. What C sees, by the definitions that the contracts cite: what a call returns, what it leaves in its answer, and
 -- whether that begins with a new image. What the call is: its number and the next record, by the record.
