@@ -1,2 +1,5 @@
 pub mod CallLists
 pub mod StepLists
+pub mod BuildLists
+pub mod RunLists
+pub mod MixedLists

@@ -96,7 +96,7 @@ dfnSteps = record {
 
 -- ---- each of them implements its step
 -- an answer that is an image
-whole : (n : ℕ) (a : List ℕ) → length a ≡ n → take n a ≡ a
+pub whole : (n : ℕ) (a : List ℕ) → length a ≡ n → take n a ≡ a
 whole n a l = take-all n a (rw l (le-refl n))
 
 positive : (k : ℕ) → (k ≡ 0 → ⊥) → 0 < k
