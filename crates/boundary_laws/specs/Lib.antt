@@ -5,3 +5,5 @@ pub mod RunLists
 pub mod MixedLists
 pub mod Nodes
 pub mod Demand
+pub mod BuiltCells
+pub mod MixedDemand
