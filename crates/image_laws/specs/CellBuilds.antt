@@ -1,7 +1,7 @@
 -- The answer of an accepted build of a particle or a single-particle cell is read back as what was built. Assumes nothing.
 use Prim.Native.Nat.{ℕ, _≤_}
 use mathlib.Core.Path.{_≡_, refl, sym, ap, _∙_}
-use mathlib.Core.Bool.{false, _&&_}
+use mathlib.Core.Bool.{cond, false, _&&_}
 use mathlib.Core.List.{List}
 use native.Mathlib.Omega.{arith}
 use native.Mathlib.Nat.{zero-lt-suc}
@@ -10,7 +10,7 @@ use lib.ListN.{length}
 use lib.Ieee.{binary64}
 use lib.Ieee.Bits.{ofBits-fits}
 use lib.Ieee.Fits.{mul-fits, and-l, and-r}
-use borrow.Author.Tests.{eq-eqb, ne-eqb, le-leb}
+use borrow.Author.Tests.{eq-eqb, ne-eqb, le-leb, lt-leb}
 use Rattle.matrix_rows.specs.Loops.{either}
 use Rattle.binary64.specs.Operators.{_⊗_}
 use Rattle.refusal.specs.Numbers.{sheet, none-met, passed}
@@ -28,7 +28,9 @@ use Rattle.codec.specs.Words.{wordAt}
 use Rattle.image_rows.specs.Written.{written}
 use Rattle.sheet_images.specs.Images.{sheetAt, sheetNumbers, particleAt, configAt}
 use Rattle.cell_images.specs.Images.{cellAt, putCell}
-use Rattle.image_builds.specs.Builds.{particleMade, cellBuilt, newNumber, newAfter}
+use Rattle.boundary.specs.Calls as B
+use Rattle.boundary.specs.Calls.{lengths, met}
+use Rattle.image_builds.specs.Builds.{buildLength, builtLength, particleMade, cellBuilt, newNumber, newAfter}
 use Rattle.image_laws.specs.Accepted.{inputs-pass, accepted-is}
 use Rattle.image_laws.specs.Encodable.{EncodableRow, []ᵉ, _∷ᵉ_, filled-encodable, filled-length, literal}
 use Rattle.image_laws.specs.CellImages.{EncodableSheet, EncodableParticle, configNumbers, EncodableCell, writes-particle, particle-read-back, writes-cell, cell-read-back}
@@ -120,6 +122,17 @@ built-cell call s =
 module _ (call : ℕ) (s a : List ℕ) (m : 8 ≤ call) (n : call ≤ 10) where
   not-particle : eqb call 7 ≡ false
   not-particle = ne-eqb call 7 (λ (e : call ≡ 7). omega (arith, m, e))
+
+  -- the boundary's build, by its lengths
+  pub cell-build-number : B.buildNumber call s (length a) ≡ met (lengths (length s) (buildLength call) (length a) 1256) (newNumber call s)
+  unfolding B.buildNumber builtLength
+  cell-build-number =
+      rw (le-leb 1 call (omega (arith, m)), le-leb call 12 (omega (arith, n)), lt-leb call 3 (omega (arith, m)), ne-eqb call 4 (λ (e : call ≡ 4). omega (arith, m, e)), lt-leb call 6 (omega (arith, m)), not-particle, le-leb call 10 n)
+
+  pub cell-build-after : B.buildAfter call s a ≡ cond (lengths (length s) (buildLength call) (length a) 1256) (newAfter call s a) a
+  unfolding B.buildAfter builtLength
+  cell-build-after =
+      rw (le-leb 1 call (omega (arith, m)), le-leb call 12 (omega (arith, n)), lt-leb call 3 (omega (arith, m)), ne-eqb call 4 (λ (e : call ≡ 4). omega (arith, m, e)), lt-leb call 6 (omega (arith, m)), not-particle, le-leb call 10 n)
 
   pub cell-number : newNumber call s ≡ cellBuilt call s .refusal
   unfolding newNumber

@@ -19,4 +19,5 @@ pub mod DfnBuilds
 pub mod ReadyRecords
 pub mod Numbers
 pub mod Dense
+pub mod AnswerLengths
 pub mod ReadBack

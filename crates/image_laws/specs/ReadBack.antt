@@ -1,7 +1,7 @@
 -- WHAT IS WRITTEN IS READ BACK, for each call from C that returns 0: the record, the report, the number or the solution in its answer is the one that the call's definition gives. That the
 -- call returns 0 is the only premise: then its lengths are right. A number that an answer repeats is given by its 64 bits, as C gives it (`f64 bits`). Assumes nothing.
 use Prim.Native.Nat.{ℕ, _≤_, _<_, _^_}
-use mathlib.Core.Path.{_≡_, refl, ap, _∙_}
+use mathlib.Core.Path.{sym, _≡_, refl, ap, _∙_}
 use mathlib.Core.Bool.{Bool, true, false}
 use mathlib.Core.List.{List, map}
 use native.Mathlib.Omega.{arith}
@@ -42,7 +42,7 @@ use Rattle.image_laws.specs.Rows.{row-read-back}
 use Rattle.image_laws.specs.Reports.{cellReportAt, dfnReportAt}
 use Rattle.image_laws.specs.CellSteps.{particle-answer, cell-answer-first, sub-steps-answer, report-answer}
 use Rattle.image_laws.specs.CellRuns.{run-answer-first, run-ending-answer, run-rows-answer}
-use Rattle.image_laws.specs.CellBuilds.{particle-built, cell-built}
+use Rattle.image_laws.specs.CellBuilds.{particle-built, cell-build-number, cell-build-after, cell-built}
 use Rattle.image_laws.specs.ElectrolyteSteps.{electrolyte-answer}
 use Rattle.image_laws.specs.DfnSteps.{dfn-answer-first, dfn-report-answer}
 use Rattle.image_laws.specs.DfnRuns.{dfn-run-answer-first, dfn-run-ending-answer, dfn-run-rows-answer}
@@ -161,17 +161,9 @@ particle-build-read-back s a h =
     ap (λ (b : List ℕ). particleAt b 0) (c .writes) ∙ particle-built s a (c .number) (rw (c .answer) (le-refl 600))
 
 pub cell-build-read-back : (call : ℕ) (s a : List ℕ) → 8 ≤ call → call ≤ 10 → B.buildNumber call s (length a) ≡ 0 → cellAt (B.buildAfter call s a) ≡ cellBuilt call s .solver
-unfolding B.buildNumber B.buildAfter builtLength
 cell-build-read-back call s a m n h =
-    let l1 = le-leb 1 call (omega (arith, m)) in
-    let l12 = le-leb call 12 (omega (arith, n)) in
-    let l3 = lt-leb call 3 (omega (arith, m)) in
-    let e4 = ne-eqb call 4 (λ (e : call ≡ 4). omega (arith, m, e)) in
-    let l6 = lt-leb call 6 (omega (arith, m)) in
-    let e7 = ne-eqb call 7 (λ (e : call ≡ 7). omega (arith, m, e)) in
-    let l10 = le-leb call 10 n in
-    let c = accepted s a (buildLength call) 1256 (newNumber call s) (newAfter call s a) (rw (l1, l12, l3, e4, l6, e7, l10) at h) in
-    rw (l1, l12, l3, e4, l6, e7, l10) (ap cellAt (c .writes) ∙ cell-built call s a m n (c .number) (rw (c .answer) (le-refl 1256)))
+    let c = accepted s a (buildLength call) 1256 (newNumber call s) (newAfter call s a) (sym (cell-build-number call s a m n) ∙ h) in
+    ap cellAt (cell-build-after call s a m n ∙ c .writes) ∙ cell-built call s a m n (c .number) (rw (c .answer) (le-refl 1256))
 
 pub electrolyte-build-read-back : (s a : List ℕ) → B.buildNumber 11 s (length a) ≡ 0 → electrolyteAt (B.buildAfter 11 s a) ≡ electrolyteBuilt s .state
 unfolding B.buildNumber B.buildAfter buildLength builtLength

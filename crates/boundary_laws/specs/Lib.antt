@@ -1,0 +1,9 @@
+pub mod CallLists
+pub mod StepLists
+pub mod BuildLists
+pub mod RunLists
+pub mod MixedLists
+pub mod Nodes
+pub mod Demand
+pub mod BuiltCells
+pub mod MixedDemand
