@@ -80,7 +80,7 @@ dfnAfter s i dt a = cond (lengths (length s) 9008 (length a) 9072) (P.dfnAfter s
 -- ---- equations
 
 unfoldable pub denseNumber : List Float → List Float → ℕ → ℕ → ℕ
-denseNumber a b n answer = met (lengths answer 256 answer 256) (solved a b n .refusal)
+denseNumber a b n answer = met (eqb answer 256) (solved a b n .refusal)
 
 unfoldable pub denseAfter : List Float → List Float → ℕ → List ℕ → List ℕ
-denseAfter a b n s = cond (lengths (length s) 256 (length s) 256) (written (solved a b n .refusal) (putRow s 0 (solved a b n .x)) s) s
+denseAfter a b n s = cond (eqb (length s) 256) (written (solved a b n .refusal) (putRow s 0 (solved a b n .x)) s) s

@@ -187,7 +187,7 @@ pub extern "C" fn pj_solve_dense(a: &[f64], b: &[f64], n: usize, answer: &mut [u
     ensures number { λ r. ⌜ r ≡ denseNumber (now (a .entry)) (now (b .entry)) n (length (now (answer .entry))) ⌝ }
     ensures written { λ _. ⌜ now (answer .exit) ≡ denseAfter (now (a .entry)) (now (b .entry)) n (now (answer .entry)) ⌝ }
 {
-    if !lengths_fit(answer.len(), 256, answer.len(), 256) {
+    if answer.len() != 256 {
         return refusal::LENGTH;
     }
     let out = dense::solve_dense(a, b, n);

@@ -126,16 +126,17 @@ fn solve_fit(a: &[f64], b: &[f64], n: usize) -> Solved
     answer(refusal::first_met(missing, finite), x)
 }
 
-// The refusal of what is handed in, in the table's order; 0 where it is none.
+// The refusal of what is handed in, in the table's order; 0 where it is none. No entry is read before the lengths are right.
 fn input_refusal(a: &[f64], b: &[f64], n: usize) -> u64
     ensures { λ r. ⌜ r ≡ inputRefusal (now (a .entry)) (now (b .entry)) n ⌝ }
 {
     if n > 32 {
         return refusal::GRID;
     }
-    let lengths = refusal::refusal_unless((a.len() == n * n) & (b.len() == n), refusal::LENGTH);
-    let entries = refusal::refusal_unless(entries_finite(a) & entries_finite(b), refusal::SHEET);
-    refusal::first_met(lengths, entries)
+    if !((a.len() == n * n) & (b.len() == n)) {
+        return refusal::LENGTH;
+    }
+    refusal::refusal_unless(entries_finite(a) & entries_finite(b), refusal::SHEET)
 }
 
 // The solution of the n equations with the entries a, row after row, and the right side b; or a refusal: GRID for n above

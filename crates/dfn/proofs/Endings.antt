@@ -1,24 +1,28 @@
 -- What a step answers, by the numbers that it met, what it moved and its report; first for a cell, then for its parts. Assumes nothing.
-use Prim.Native.Nat.{ℕ}
-use mathlib.Core.Path.{_≡_, refl, sym, _∙_}
-use mathlib.Core.Bool.{Bool, true, false}
+use Prim.Native.Nat.{ℕ, _*_}
+use mathlib.Core.Path.{_≡_, refl, sym, ap, _∙_}
+use mathlib.Core.Bool.{Bool, true, false, _&&_}
 use mathlib.Core.List.{List}
+use native.Mathlib.Omega.{arith}
 use borrow.Author.Tests.{eq-eqb, ne-eqb}
 use lib.Dec.{eqb}
 use lib.Ieee as F
 use lib.Ieee.{Float}
 use Rattle.binary64.specs.Operators.{_⊕_}
-use Rattle.refusal.specs.Numbers.{firstMet, notFinite, none-met}
+use Rattle.refusal.specs.Numbers.{firstMet, refusalUnless, notFinite, none-met}
+use Rattle.refusal.specs.Ranges.{finite}
 use Rattle.dfn_parameters.specs.Sides.{anodeOf, cathodeOf}
 use Rattle.dfn_parameters.specs.declared.DfnParams.{DfnParams}
 use Rattle.dfn_parameters.specs.declared.DfnConfig.{DfnConfig}
 use Rattle.dfn_parameters.specs.declared.Side.{Side}
 use Rattle.dfn_electrolyte.specs.Electrolyte.{electrolyteAfter}
-use Rattle.dfn_solid.specs.Solid.{solidAfter}
+use Rattle.dfn_places.specs.Places.{allFinite}
+use Rattle.dfn_solid.specs.Solid.{solidUpdate}
 use Rattle.dfn_solid.specs.declared.Grain.{Grain}
-use Rattle.dfn.specs.Checks.{Met, partsRefusal, cellRefusal, loadRefusal, stepRefusal, cell-met}
+use Rattle.dfn_solid.specs.declared.SolidUpdate.{SolidUpdate}
+use Rattle.dfn.specs.Checks.{Met, usedNeg, usedPos, usedSalt, partsRefusal, cellRefusal, loadRefusal, stepRefusal, cell-met}
 use Rattle.dfn.specs.Parts.{cellOf, answerOf, Told, StepOf}
-use Rattle.dfn.specs.Step.{grainOf, Moved, movedBy, reportBy, reportOf, cellWith, partsFinite, allNumbers, noReport, refusedWith, answered, followed, advanced, stepped}
+use Rattle.dfn.specs.Step.{grainOf, Moved, movedBy, reportBy, reportOf, cellWith, partsFinite, outcomeRefusal, allNumbers, noReport, refusedWith, answered, followed, advanced, stepped}
 use Rattle.dfn.specs.declared.DfnSolver.{DfnSolver}
 use Rattle.dfn.specs.declared.DfnStep.{DfnStep}
 use Rattle.dfn.specs.declared.DfnAnswer.{DfnAnswer}
@@ -47,6 +51,58 @@ module _ (d : DfnSolver) (current dt : Float) where
     unfolding stepped advanced followed answered
     not-finite ek z em er eb t = rw (← ek, eq-eqb _ _ z, ← em, ← er, ← eb, t)
 
+-- ---- the number of an outcome
+first-of-finite : (a b : Bool) → firstMet (refusalUnless a notFinite) (refusalUnless b notFinite) ≡ refusalUnless (a && b) notFinite
+unfolding firstMet refusalUnless
+first-of-finite true b = refl
+first-of-finite false b = refl
+
+and-true : (a : Bool) → (a && true) ≡ a
+and-true true = refl
+and-true false = refl
+
+and-false : (a : Bool) → (a && false) ≡ false
+and-false true = refl
+and-false false = refl
+
+-- the stoichiometries with their electrodes, or among the report's numbers
+in-order : (neg thetaNeg pos thetaPos salt v i t d : Bool)
+    → (neg && thetaNeg && (pos && thetaPos) && (salt && v && i && t && d)) ≡ (neg && pos && salt && v && i && t && thetaNeg && thetaPos && d)
+in-order false m b q s v i t d = refl
+in-order true true true true s v i t d = rw (and-true (s && v && i && t), and-true (s && v && i && t)) refl
+in-order true true true false s v i t d = rw (and-false (s && v && i && t && true)) refl
+in-order true true false q s v i t d = refl
+in-order true false true q s v i t d = rw (and-false (s && v && i && t)) refl
+in-order true false false q s v i t d = refl
+
+outcome-number : (kn kp : ℕ) (neg thetaNeg pos thetaPos salt v i t d : Bool)
+    → kn ≡ refusalUnless (neg && thetaNeg) notFinite → kp ≡ refusalUnless (pos && thetaPos) notFinite
+    → firstMet (firstMet kn kp) (refusalUnless (salt && v && i && t && d) notFinite)
+    ≡ refusalUnless (neg && pos && salt && v && i && t && thetaNeg && thetaPos && d) notFinite
+outcome-number kn kp neg thetaNeg pos thetaPos salt v i t d e f =
+    rw (
+      e,
+      f,
+      first-of-finite (neg && thetaNeg) (pos && thetaPos),
+      first-of-finite (neg && thetaNeg && (pos && thetaPos)) (salt && v && i && t && d),
+      in-order neg thetaNeg pos thetaPos salt v i t d,
+    )
+
+finite-if-none : (ok : Bool) → refusalUnless ok notFinite ≡ 0 → ok ≡ true
+unfolding refusalUnless
+finite-if-none true h = refl
+finite-if-none false h = absurd (omega (arith, h))
+
+not-finite-if-met : (ok : Bool) → (refusalUnless ok notFinite ≡ 0 → ⊥) → (ok ≡ false) × (refusalUnless ok notFinite ≡ notFinite)
+unfolding refusalUnless
+not-finite-if-met true h = absurd (h refl)
+not-finite-if-met false h = (refl, refl)
+
+number-of : (v : Grain) (c : List Float) (m : ℕ) (s : SolidUpdate) → s ≡ solidUpdate v c m
+    → s .refusal ≡ refusalUnless (allFinite (s .«c_s») (m * v .n) && finite (s .theta)) notFinite
+unfolding solidUpdate
+number-of v c m s e = rw e
+
 told-by : (a s : DfnAnswer) → a ≡ s
     → Told s (record { refusal = a .refusal; report = a .report }) (a .cell .«c_s_neg») (a .cell .«c_s_pos») (a .cell .«c_e»)
 told-by a s e = rw e (refl, (refl, (refl, (refl, refl))))
@@ -67,30 +123,47 @@ module _ (p : DfnParams) (g : DfnConfig) (t : Float) (neg pos salt : List Float)
     refused-step eb h r er v i x y =
         rw er (told-by _ _ (refused (cellOf p g t neg pos salt v i x y) current dt k (first-met eb v i x y) (ne-eqb k 0 h)))
 
-    -- by the grains of both electrodes, what moved, the report and whether all of it are numbers
-    module _ (eb : b ≡ loadRefusal current dt) (z : k ≡ 0) (u w : Side) (ga gc : Grain)
-        (salt' neg' : List Float) (thetaNeg : Float) (pos' : List Float) (thetaPos : Float)
+    -- by the grains of both electrodes, what moved, the report and the number that they meet
+    module _ (eb : b ≡ loadRefusal current dt) (z : k ≡ 0) (u w : Side) (ga gc : Grain) (sn sp : SolidUpdate) (salt' : List Float)
         (eu : u ≡ anodeOf p) (ew : w ≡ cathodeOf p)
         (ega : ga ≡ grainOf p u (g .«n_r») (F.neg current) dt) (egc : gc ≡ grainOf p w (g .«n_r») current dt)
+        (esn : sn ≡ solidUpdate ga neg (g .«n_x_neg»)) (esp : sp ≡ solidUpdate gc pos (g .«n_x_pos»))
         (es : salt' ≡ electrolyteAfter p (g .«n_x_neg») (g .«n_x_pos») salt current dt)
-        (en : neg' ≡ solidAfter ga neg (g .«n_x_neg») .c) (etn : thetaNeg ≡ solidAfter ga neg (g .«n_x_neg») .theta)
-        (ep : pos' ≡ solidAfter gc pos (g .«n_x_pos») .c) (etp : thetaPos ≡ solidAfter gc pos (g .«n_x_pos») .theta)
-        (r : DfnStep) (er : r ≡ reportBy p g salt salt' thetaNeg thetaPos (t ⊕ dt) current)
-        (n : Bool) (en' : n ≡ partsFinite g neg' pos' salt' r) where
+        (r : DfnStep) (er : r ≡ reportBy p g salt salt' (sn .theta) (sp .theta) (t ⊕ dt) current)
+        (n : ℕ) (en : n ≡ outcomeRefusal g (sn .refusal) (sp .refusal) salt' r) where
       abbrev moved : Moved
-      moved = movedOf salt' neg' thetaNeg pos' thetaPos
+      moved = movedOf salt' (sn .«c_s») (sn .theta) (sp .«c_s») (sp .theta)
 
       moved-is : (v i x y : Float) → moved ≡ movedBy (cellOf p g t neg pos salt v i x y) current dt
-      unfolding movedBy
-      moved-is v i x y = rw (es, en, etn, ep, etp, ega, eu, egc, ew)
+      unfolding movedBy solidUpdate
+      moved-is v i x y = rw (es, esn, esp, ega, eu, egc, ew)
 
-      pub made-step : n ≡ true → StepOf p g t neg pos salt current dt (record { refusal = 0; report = r }) neg' pos' salt'
+      abbrev finites : Bool
+      finites = partsFinite g (sn .«c_s») (sp .«c_s») salt' r
+
+      neg-number : sn .refusal ≡ refusalUnless (allFinite (sn .«c_s») (usedNeg g) && finite (r .«theta_neg»)) notFinite
+      neg-number = rw (er, ← ap (λ (v : Grain). v .n) ega) (number-of ga neg (g .«n_x_neg») sn esn)
+
+      pos-number : sp .refusal ≡ refusalUnless (allFinite (sp .«c_s») (usedPos g) && finite (r .«theta_pos»)) notFinite
+      pos-number = rw (er, ← ap (λ (v : Grain). v .n) egc) (number-of gc pos (g .«n_x_pos») sp esp)
+
+      outcome : n ≡ refusalUnless finites notFinite
+      outcome =
+          en
+          ∙ outcome-number (sn .refusal) (sp .refusal) (allFinite (sn .«c_s») (usedNeg g)) (finite (r .«theta_neg»)) (allFinite (sp .«c_s») (usedPos g))
+          (finite (r .«theta_pos»)) (allFinite salt' (usedSalt g)) (finite (r .voltage)) (finite (r .current)) (finite (r .«time_s»))
+          (finite (r .«delta_c_e_max»)) neg-number pos-number
+
+      pub made-step : n ≡ 0 → StepOf p g t neg pos salt current dt (record { refusal = 0; report = r }) (sn .«c_s») (sp .«c_s») salt'
       unfolding reportOf cellWith allNumbers
       made-step h v i x y =
-          told-by _ _ (made (cellOf p g t neg pos salt v i x y) current dt k moved r n (first-met eb v i x y) z (moved-is v i x y) er en' h)
+          told-by _ _ (made (cellOf p g t neg pos salt v i x y) current dt k moved r finites (first-met eb v i x y) z (moved-is v i x y) er refl
+          (finite-if-none finites (sym outcome ∙ h)))
 
-      pub not-finite-step : n ≡ false → (o : DfnStep) → o ≡ noReport
-          → StepOf p g t neg pos salt current dt (record { refusal = notFinite; report = o }) neg pos salt
+      pub not-finite-step : (n ≡ 0 → ⊥) → (o : DfnStep) → o ≡ noReport
+          → StepOf p g t neg pos salt current dt (record { refusal = n; report = o }) neg pos salt
       unfolding reportOf cellWith allNumbers
       not-finite-step h o eo v i x y =
-          rw eo (told-by _ _ (not-finite (cellOf p g t neg pos salt v i x y) current dt k moved r n (first-met eb v i x y) z (moved-is v i x y) er en' h))
+          let e = not-finite-if-met finites (λ q. h (outcome ∙ q)) in
+          rw (eo, outcome ∙ e .1)
+          (told-by _ _ (not-finite (cellOf p g t neg pos salt v i x y) current dt k moved r finites (first-met eb v i x y) z (moved-is v i x y) er refl (e .0)))

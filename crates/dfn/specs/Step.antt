@@ -6,7 +6,7 @@ use lib.Dec.{eqb}
 use lib.ListN.{getD}
 use lib.Ieee.{Float, nan, lt, neg}
 use Rattle.binary64.specs.Operators.{_⊕_, _⊘_, f64, count}
-use Rattle.refusal.specs.Numbers.{notFinite}
+use Rattle.refusal.specs.Numbers.{firstMet, refusalUnless, notFinite}
 use Rattle.refusal.specs.Ranges.{finite}
 use Rattle.dfn_parameters.specs.Sides.{anodeOf, cathodeOf, poreFlux}
 use Rattle.dfn_parameters.specs.declared.DfnParams.{DfnParams}
@@ -94,6 +94,12 @@ partsFinite g neg pos salt r =
     && finite (r .«theta_neg»)
     && finite (r .«theta_pos»)
     && finite (r .«delta_c_e_max»)
+
+-- the same as a number: by those of both electrodes, whose mean stoichiometries the report has, and by the salt and the rest of the report
+abbrev pub outcomeRefusal : DfnConfig → ℕ → ℕ → List Float → DfnStep → ℕ
+outcomeRefusal g neg pos salt r =
+    firstMet (firstMet neg pos)
+    (refusalUnless (allFinite salt (usedSalt g) && finite (r .voltage) && finite (r .current) && finite (r .«time_s») && finite (r .«delta_c_e_max»)) notFinite)
 
 unfoldable pub allNumbers : DfnSolver → DfnStep → Bool
 allNumbers d r = partsFinite (d .config) (d .«c_s_neg») (d .«c_s_pos») (d .«c_e») r

@@ -7,7 +7,6 @@ use dfn_parameters::Side;
 use dfn_places::electrolyte_finite;
 use dfn_places::electrolyte_fits;
 use dfn_places::largest_change;
-use dfn_places::solid_finite;
 use dfn_places::solid_fits;
 use dfn_places::uniform_electrolyte;
 use dfn_places::uniform_solid;
@@ -17,7 +16,7 @@ use dfn_voltage::compute_voltage;
 ghost use mathlib.Core.Path.{_≡_};
 ghost use Prim.Native.Nat.{_≤_, _*_};
 ghost use Rattle.dfn.specs.Checks.{Grid, partsRefusal, loadRefusal, stepRefusal};
-ghost use Rattle.dfn.specs.Step.{grainOf, reportBy, partsFinite, noReport, stepped};
+ghost use Rattle.dfn.specs.Step.{grainOf, reportBy, outcomeRefusal, noReport, stepped};
 ghost use Rattle.dfn.specs.Parts.{StepOf};
 ghost use Rattle.dfn.specs.Build.{noCell, made};
 
@@ -218,29 +217,23 @@ fn report_of(
     }
 }
 
-// Whether the parts that a step moved and its report hold numbers alone.
-fn all_numbers<'a>(
-    g: DfnConfig,
-    neg: &'a [f64; 512],
-    pos: &'a [f64; 512],
-    c_e: &'a [f64; 33],
-    r: DfnStep,
-) -> bool
+// What a step's outcome meets: 8 where the particles, by the numbers of both electrodes, the salt or the report hold a NaN or an infinity; 0 for none.
+fn outcome_refusal(g: DfnConfig, neg: u64, pos: u64, c_e: &[f64; 33], r: DfnStep) -> u64
     requires { ⌜ Grid g ⌝ }
-    ensures { λ b. ⌜ b ≡ partsFinite g (now (neg .entry)) (now (pos .entry)) (now («c_e» .entry)) r ⌝ }
+    ensures { λ k. ⌜ k ≡ outcomeRefusal g neg pos (now («c_e» .entry)) r ⌝ }
 {
-    solid_finite(neg, g.n_x_neg * g.n_r)
-        & solid_finite(pos, g.n_x_pos * g.n_r)
-        & electrolyte_finite(c_e, g.n_x_neg + 1 + g.n_x_pos)
+    let finite = electrolyte_finite(c_e, g.n_x_neg + 1 + g.n_x_pos)
         & refusal::is_finite(r.voltage)
         & refusal::is_finite(r.current)
         & refusal::is_finite(r.time_s)
-        & refusal::is_finite(r.theta_neg)
-        & refusal::is_finite(r.theta_pos)
-        & refusal::is_finite(r.delta_c_e_max)
+        & refusal::is_finite(r.delta_c_e_max);
+    refusal::first_met(
+        refusal::first_met(neg, pos),
+        refusal::refusal_unless(finite, refusal::NOT_FINITE),
+    )
 }
 
-// One step on the parts of a cell, their arrays moved in place; where it is refused they stay as they were.
+// One step on the parts of a cell, whose arrays are lent; where it is refused they stay as they were.
 pub fn step_lent(
     p: DfnParams,
     g: DfnConfig,
@@ -253,10 +246,7 @@ pub fn step_lent(
 ) -> DfnReported
     ensures { λ r. ⌜ StepOf p g «time_s» (now (neg .entry)) (now (pos .entry)) (now («c_e» .entry)) current dt r (now (neg .exit)) (now (pos .exit)) (now («c_e» .exit)) ⌝ }
 {
-    let old_neg = *neg;
-    let old_pos = *pos;
-    let old_c_e = *c_e;
-    let unfit = cell_refusal(p, g, &old_neg, &old_pos, &old_c_e, time_s);
+    let unfit = cell_refusal(p, g, neg, pos, c_e, time_s);
     let number = refusal::first_met(unfit, load_refusal(current, dt));
     if number != 0 {
         return DfnReported {
@@ -266,29 +256,32 @@ pub fn step_lent(
     }
     let anode = grain_of(p, p.anode(), g.n_r, -current, dt);
     let cathode = grain_of(p, p.cathode(), g.n_r, current, dt);
-    let theta_neg = update_solid(anode, &old_neg, g.n_x_neg, neg);
-    let theta_pos = update_solid(cathode, &old_pos, g.n_x_pos, pos);
-    let new = update_electrolyte(p, g.n_x_neg, g.n_x_pos, &old_c_e, current, dt);
+    let new_neg = update_solid(anode, neg, g.n_x_neg);
+    let new_pos = update_solid(cathode, pos, g.n_x_pos);
+    let new_c_e = update_electrolyte(p, g.n_x_neg, g.n_x_pos, c_e, current, dt);
     let report = report_of(
         p,
         g,
-        &old_c_e,
-        &new,
-        theta_neg,
-        theta_pos,
+        c_e,
+        &new_c_e,
+        new_neg.theta,
+        new_pos.theta,
         time_s + dt,
         current,
     );
-    if all_numbers(g, neg, pos, &new, report) {
-        *c_e = new;
-        return DfnReported { refusal: 0, report };
+    let outcome = outcome_refusal(g, new_neg.refusal, new_pos.refusal, &new_c_e, report);
+    if outcome != 0 {
+        return DfnReported {
+            refusal: outcome,
+            report: no_report(),
+        };
     }
-    *neg = old_neg;
-    *pos = old_pos;
-    DfnReported {
-        refusal: refusal::NOT_FINITE,
-        report: no_report(),
-    }
+    let c_s_neg = new_neg.c_s;
+    let c_s_pos = new_pos.c_s;
+    *neg = c_s_neg;
+    *pos = c_s_pos;
+    *c_e = new_c_e;
+    DfnReported { refusal: 0, report }
 }
 
 impl DfnSolver {

@@ -1,6 +1,6 @@
 -- The particles of one electrode after a step, node by node from the old nodes. Definitions only.
 use Prim.Native.Nat.{ℕ, zero, suc, _+_, _-_, _*_}
-use mathlib.Core.Bool.{cond}
+use mathlib.Core.Bool.{cond, _&&_}
 use mathlib.Core.List.{List}
 use lib.Dec.{eqb, ltb}
 use lib.ListN.{getD, replicate}
@@ -10,7 +10,11 @@ use Rattle.elementary.specs.Exp.{one}
 use Rattle.choice.specs.Choice.{clampOf, maxOf}
 use Rattle.turns.specs.Turns.{firstBy}
 use Rattle.places.specs.Places.{placesBy}
+use Rattle.refusal.specs.Numbers.{refusalUnless, notFinite}
+use Rattle.refusal.specs.Ranges.{finite}
+use Rattle.dfn_places.specs.Places.{allFinite}
 use Rattle.dfn_solid.specs.declared.Grain.{Grain}
+use Rattle.dfn_solid.specs.declared.SolidUpdate.{SolidUpdate}
 
 abbrev pub at : List Float → ℕ → Float
 at c i = getD c i nan
@@ -94,4 +98,12 @@ unfoldable pub solidAfter : Grain → List Float → ℕ → Solid
 solidAfter v c m = record {
   c = particlesWith v c (dSolids v c (m * v .n)) m;
   theta = surfacesWith v c (dSolids v c (m * v .n)) m ⊘ count (atLeastOne m);
+}
+
+-- the record that holds them: 8 where one of these numbers is not finite
+unfoldable pub solidUpdate : Grain → List Float → ℕ → SolidUpdate
+solidUpdate v c m = record {
+  refusal = refusalUnless (allFinite (solidAfter v c m .c) (m * v .n) && finite (solidAfter v c m .theta)) notFinite;
+  «c_s» = solidAfter v c m .c;
+  theta = solidAfter v c m .theta;
 }

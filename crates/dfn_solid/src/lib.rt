@@ -1,9 +1,10 @@
 // The particles of one electrode after a step, all from the old nodes. A changed translation of src/battery/p2d/dfn.rs (`update_solid`, `d_s`).
 // The particles stand one after the other in one array, n nodes each. Each node's diffusivity is worked out once.
 
+use dfn_places::solid_finite;
 ghost use mathlib.Core.Path.{_≡_};
 ghost use Prim.Native.Nat.{_+_, _<_, _≤_};
-ghost use Rattle.dfn_solid.specs.Solid.{dSolid, dSolids, innerWith, surfaceWith, centreWith, particleWith, atLeastOne, solidAfter};
+ghost use Rattle.dfn_solid.specs.Solid.{dSolid, dSolids, innerWith, surfaceWith, centreWith, particleWith, atLeastOne, solidUpdate};
 
 // What the particles of one electrode work with: nodes of each, their distance, diffusivity, largest concentration, flux, interval.
 pub struct Grain {
@@ -13,6 +14,13 @@ pub struct Grain {
     pub c_max: f64,
     pub flux: f64,
     pub dt: f64,
+}
+
+// The particles after a step and the mean of their surface stoichiometries; 0, or 8 where one of these numbers is not finite.
+pub struct SolidUpdate {
+    pub refusal: u64,
+    pub c_s: [f64; 512],
+    pub theta: f64,
 }
 
 // The diffusivity at a concentration.
@@ -88,18 +96,24 @@ fn at_least_one(n: usize) -> u64
     if n == 0 { 1 } else { n as u64 }
 }
 
-// Puts `count` particles anew, from their old nodes, which stand in `out` too. Gives the mean of their surface stoichiometries.
-pub fn update_solid(v: Grain, c: &[f64; 512], count: usize, out: &mut [f64; 512]) -> f64
-    requires { ⌜ (2 ≤ v .n) × ((v .n ≤ 32) × ((count ≤ 16) × (now out ≡ now c))) ⌝ }
-    ensures { λ r. ⌜ r ≡ solidAfter v (now (c .entry)) count .theta ⌝ }
-    ensures { λ _. ⌜ now (out .exit) ≡ solidAfter v (now (c .entry)) count .c ⌝ }
+// The first `count` particles after a step, each node from the old ones; the other places as they were.
+pub fn update_solid(v: Grain, c: &[f64; 512], count: usize) -> SolidUpdate
+    requires { ⌜ (2 ≤ v .n) × ((v .n ≤ 32) × (count ≤ 16)) ⌝ }
+    ensures { λ r. ⌜ r ≡ solidUpdate v (now (c .entry)) count ⌝ }
 {
     let n = v.n;
     let d = diffusivities(v, c, count * n);
+    let mut c_s = *c;
     let mut sum = 0.0;
     for i in 0..count {
-        move_particle(v, c, &d, i * n, out);
-        sum = sum + out[i * n + (n - 1)] / v.c_max;
+        move_particle(v, c, &d, i * n, &mut c_s);
+        sum = sum + c_s[i * n + (n - 1)] / v.c_max;
     }
-    sum / std::num::nearest_u64_to_f64(at_least_one(count))
+    let theta = sum / std::num::nearest_u64_to_f64(at_least_one(count));
+    let finite = solid_finite(&c_s, count * n) & refusal::is_finite(theta);
+    SolidUpdate {
+        refusal: refusal::refusal_unless(finite, refusal::NOT_FINITE),
+        c_s,
+        theta,
+    }
 }

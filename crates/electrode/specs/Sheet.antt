@@ -1,4 +1,5 @@
 -- The electrode sheet: its ranges, the three ready ones, the diffusivity at a temperature and the interfacial area. Definitions only.
+use Prim.Native.Nat.{ℕ}
 use mathlib.Core.Bool.{Bool, _&&_}
 use lib.Dec.{leb}
 use lib.Ieee.{Float, le}
@@ -6,10 +7,14 @@ use Rattle.binary64.specs.Operators.{_⊖_, _⊗_, _⊘_, f64}
 use Rattle.elementary.specs.Exp.{one, expOf}
 use Rattle.electrode.specs.declared.ElectrodeParams.{ElectrodeParams}
 
--- every field in its closed range; the chemistry is 1 graphite, 2 LFP, 3 NMC
+-- the chemistry is 1 graphite, 2 LFP, 3 NMC
+abbrev pub chemistryFits : ℕ → Bool
+chemistryFits k = leb 1 k && leb k 3
+
+-- every field in its closed range
 abbrev pub sheetFits : ElectrodeParams → Bool
 sheetFits p =
-    leb 1 (p .«electrode_type») && leb (p .«electrode_type») 3
+    chemistryFits (p .«electrode_type»)
     -- 1e-8 to 1e-3
     && le (f64 0x3e45_798e_e230_8c3a) (p .«r_particle») && le (p .«r_particle») (f64 0x3f50_624d_d2f1_a9fc)
     -- 1e-20 to 1e-8

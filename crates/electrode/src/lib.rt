@@ -4,7 +4,7 @@
 ghost use mathlib.Core.Path.{_≡_};
 ghost use Rattle.refusal.specs.Numbers.{refusalUnless, sheet};
 ghost use Rattle.refusal.specs.Answers.{said};
-ghost use Rattle.electrode.specs.Sheet.{sheetFits, graphiteAnode, lfpCathode, nmcCathode, diffusivityAt, specificArea};
+ghost use Rattle.electrode.specs.Sheet.{chemistryFits, sheetFits, graphiteAnode, lfpCathode, nmcCathode, diffusivityAt, specificArea};
 ghost use Rattle.electrode.specs.Curves.{openCircuit, openCircuitSlope};
 ghost use Rattle.electrode.specs.Calls.{dS, specificAreaCall, ocpCall, slopeCall, volumeCall};
 
@@ -29,6 +29,18 @@ pub struct ElectrodeParams {
     pub e_a_ds: f64,
     // Factor of the exchange current density.
     pub k_bv: f64,
+}
+
+// The chemistry by its number: 0 where it is known, and every other number falls to refusal 2.
+fn chemistry_refusal(electrode_type: u64) -> u64
+    ensures { λ r. ⌜ r ≡ refusalUnless (chemistryFits «electrode_type») sheet ⌝ }
+{
+    match electrode_type {
+        1 => 0,
+        2 => 0,
+        3 => 0,
+        _ => refusal::SHEET,
+    }
 }
 
 impl ElectrodeParams {
@@ -90,8 +102,7 @@ impl ElectrodeParams {
     pub fn fits(self) -> bool
         ensures { λ r. ⌜ r ≡ sheetFits self ⌝ }
     {
-        (1 <= self.electrode_type)
-            & (self.electrode_type <= 3)
+        (chemistry_refusal(self.electrode_type) == 0)
             & (1e-8 <= self.r_particle)
             & (self.r_particle <= 1e-3)
             & (1e-20 <= self.d_s_ref)

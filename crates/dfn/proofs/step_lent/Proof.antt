@@ -1,9 +1,23 @@
 -- `dfn::step_lent` meets its contract. Assumes nothing.
-use mathlib.Core.Path.{refl}
+use Rattle.dfn.specs.Checks.{Met}
+use Rattle.dfn.specs.Parts.{cellOf}
 use Rattle.dfn.proofs.Endings.{met, refused-step, made-step, not-finite-step}
 use borrow.Author.Needs.{needs}
 use Rattle.dfn.proofs.step_lent.Statement.{statement}
 use Rattle.dfn.proofs.step_lent.Tie as tie
+
+-- the step's arguments, and what its cell has met where nothing refuses it
+abbrev given : tie.Else1 → tie.Start
+given c = c .before .before .before .before .before .before .before
+
+fit : (c : tie.Else1)
+    → Met (cellOf (given c .args .p) (given c .args .g) (given c .args .time-s) (given c .args .neg .now) (given c .args .pos .now) (given c .args .c-e .now)
+    (given c .args .time-s) (given c .args .time-s) (given c .args .time-s) (given c .args .time-s))
+fit c =
+    let s = given c .args in
+    let cell = c .before .before .before .cell-refusal in
+    let first = c .before .first-met in
+    met (s .p) (s .g) (s .time-s) (s .neg .now) (s .pos .now) (s .c-e .now) (s .current) (s .dt) (cell .result) (c .before .before .load-refusal .result) (first .result) (cell .ensures) (first .ensures) (c .if1 .left)
 
 cell-refusal-requires : tie.Need-cell-refusal-requires
 cell-refusal-requires c κs = search needs
@@ -18,47 +32,97 @@ no-report-requires : tie.Need-no-report-requires
 no-report-requires c κs = search needs
 
 returns : tie.Need-returns
-returns c = refused-step (c .before .before .before .before .before .before .before .before .before .before .before .args .p) (c .before .before .before .before .before .before .before .before .before .before .before .args .g) (c .before .before .before .before .before .before .before .before .before .before .before .args .time-s) (c .before .before .before .before .before .before .before .before .before .before .before .args .neg .now) (c .before .before .before .before .before .before .before .before .before .before .before .args .pos .now) (c .before .before .before .before .before .before .before .before .before .before .before .args .c-e .now) (c .before .before .before .before .before .before .before .before .before .before .before .args .current) (c .before .before .before .before .before .before .before .before .before .before .before .args .dt) (c .before .before .before .before .cell-refusal .result) (c .before .before .before .load-refusal .result) (c .before .before .first-met .result) (c .before .before .before .before .cell-refusal .ensures) (c .before .before .first-met .ensures) (c .before .before .before .load-refusal .ensures) (c .before .if1 .taken) (c .no-report .result) (c .no-report .ensures)
+returns c =
+    let s = c .before .before .before .before .before .before .before .before .args in
+    let cell = c .before .before .before .before .cell-refusal in
+    let load = c .before .before .before .load-refusal in
+    let first = c .before .before .first-met in
+    refused-step (s .p) (s .g) (s .time-s) (s .neg .now) (s .pos .now) (s .c-e .now) (s .current) (s .dt) (cell .result) (load .result) (first .result) (cell .ensures) (first .ensures) (load .ensures)
+    (c .before .if1 .taken) (c .no-report .result) (c .no-report .ensures)
 
 anode-requires : tie.Need-anode-requires
 anode-requires c κs = search needs
 
 grain-of-requires : tie.Need-grain-of-requires
-grain-of-requires c κs = met (c .before .before .before .before .before .before .before .before .before .before .before .args .p) (c .before .before .before .before .before .before .before .before .before .before .before .args .g) (c .before .before .before .before .before .before .before .before .before .before .before .args .time-s) (c .before .before .before .before .before .before .before .before .before .before .before .args .neg .now) (c .before .before .before .before .before .before .before .before .before .before .before .args .pos .now) (c .before .before .before .before .before .before .before .before .before .before .before .args .c-e .now) (c .before .before .before .before .before .before .before .before .before .before .before .args .current) (c .before .before .before .before .before .before .before .before .before .before .before .args .dt) (c .before .before .before .before .cell-refusal .result) (c .before .before .before .load-refusal .result) (c .before .before .first-met .result) (c .before .before .before .before .cell-refusal .ensures) (c .before .before .first-met .ensures) (c .before .if1 .left) .nodes .least-r
+grain-of-requires c κs = fit (c .before) .nodes .least-r
 
 cathode-requires : tie.Need-cathode-requires
 cathode-requires c κs = search needs
 
 grain-of-requires-2 : tie.Need-grain-of-requires-2
-grain-of-requires-2 c κs = met (c .before .before .before .before .before .before .before .before .before .before .before .before .before .args .p) (c .before .before .before .before .before .before .before .before .before .before .before .before .before .args .g) (c .before .before .before .before .before .before .before .before .before .before .before .before .before .args .time-s) (c .before .before .before .before .before .before .before .before .before .before .before .before .before .args .neg .now) (c .before .before .before .before .before .before .before .before .before .before .before .before .before .args .pos .now) (c .before .before .before .before .before .before .before .before .before .before .before .before .before .args .c-e .now) (c .before .before .before .before .before .before .before .before .before .before .before .before .before .args .current) (c .before .before .before .before .before .before .before .before .before .before .before .before .before .args .dt) (c .before .before .before .before .before .before .cell-refusal .result) (c .before .before .before .before .before .load-refusal .result) (c .before .before .before .before .first-met .result) (c .before .before .before .before .before .before .cell-refusal .ensures) (c .before .before .before .before .first-met .ensures) (c .before .before .before .if1 .left) .nodes .least-r
+grain-of-requires-2 c κs = fit (c .before .before .before) .nodes .least-r
 
 update-solid-requires : tie.Need-update-solid-requires
-update-solid-requires c κs = let h = met (c .before .before .before .before .before .before .before .before .before .before .before .before .before .before .before .before .args .p) (c .before .before .before .before .before .before .before .before .before .before .before .before .before .before .before .before .args .g) (c .before .before .before .before .before .before .before .before .before .before .before .before .before .before .before .before .args .time-s) (c .before .before .before .before .before .before .before .before .before .before .before .before .before .before .before .before .args .neg .now) (c .before .before .before .before .before .before .before .before .before .before .before .before .before .before .before .before .args .pos .now) (c .before .before .before .before .before .before .before .before .before .before .before .before .before .before .before .before .args .c-e .now) (c .before .before .before .before .before .before .before .before .before .before .before .before .before .before .before .before .args .current) (c .before .before .before .before .before .before .before .before .before .before .before .before .before .before .before .before .args .dt) (c .before .before .before .before .before .before .before .before .before .cell-refusal .result) (c .before .before .before .before .before .before .before .before .load-refusal .result) (c .before .before .before .before .before .before .before .first-met .result) (c .before .before .before .before .before .before .before .before .before .cell-refusal .ensures) (c .before .before .before .before .before .before .before .first-met .ensures) (c .before .before .before .before .before .before .if1 .left) in
-    rw (c .before .before .before .before .grain-of .ensures) (h .nodes .least-r, (h .nodes .most-r, (h .nodes .most-neg, refl)))
+update-solid-requires c κs =
+    let n = fit (c .before .before .before .before .before) .nodes in
+    rw (c .before .before .before .grain-of .ensures) (n .least-r, (n .most-r, n .most-neg))
 
 update-solid-requires-2 : tie.Need-update-solid-requires-2
-update-solid-requires-2 c κs = let h = met (c .before .before .before .before .before .before .before .before .before .before .before .before .before .before .before .before .before .before .before .args .p) (c .before .before .before .before .before .before .before .before .before .before .before .before .before .before .before .before .before .before .before .args .g) (c .before .before .before .before .before .before .before .before .before .before .before .before .before .before .before .before .before .before .before .args .time-s) (c .before .before .before .before .before .before .before .before .before .before .before .before .before .before .before .before .before .before .before .args .neg .now) (c .before .before .before .before .before .before .before .before .before .before .before .before .before .before .before .before .before .before .before .args .pos .now) (c .before .before .before .before .before .before .before .before .before .before .before .before .before .before .before .before .before .before .before .args .c-e .now) (c .before .before .before .before .before .before .before .before .before .before .before .before .before .before .before .before .before .before .before .args .current) (c .before .before .before .before .before .before .before .before .before .before .before .before .before .before .before .before .before .before .before .args .dt) (c .before .before .before .before .before .before .before .before .before .before .before .before .cell-refusal .result) (c .before .before .before .before .before .before .before .before .before .before .before .load-refusal .result) (c .before .before .before .before .before .before .before .before .before .before .first-met .result) (c .before .before .before .before .before .before .before .before .before .before .before .before .cell-refusal .ensures) (c .before .before .before .before .before .before .before .before .before .before .first-met .ensures) (c .before .before .before .before .before .before .before .before .before .if1 .left) in
-    rw (c .before .before .before .before .before .grain-of2 .ensures) (h .nodes .least-r, (h .nodes .most-r, (h .nodes .most-pos, refl)))
+update-solid-requires-2 c κs =
+    let n = fit (c .before .before .before .before .before .before .before) .nodes in
+    rw (c .before .before .before .grain-of2 .ensures) (n .least-r, (n .most-r, n .most-pos))
 
 update-electrolyte-requires : tie.Need-update-electrolyte-requires
-update-electrolyte-requires c κs = let h = met (c .before .before .before .before .before .before .before .before .before .before .before .before .before .before .before .before .before .before .before .before .before .args .p) (c .before .before .before .before .before .before .before .before .before .before .before .before .before .before .before .before .before .before .before .before .before .args .g) (c .before .before .before .before .before .before .before .before .before .before .before .before .before .before .before .before .before .before .before .before .before .args .time-s) (c .before .before .before .before .before .before .before .before .before .before .before .before .before .before .before .before .before .before .before .before .before .args .neg .now) (c .before .before .before .before .before .before .before .before .before .before .before .before .before .before .before .before .before .before .before .before .before .args .pos .now) (c .before .before .before .before .before .before .before .before .before .before .before .before .before .before .before .before .before .before .before .before .before .args .c-e .now) (c .before .before .before .before .before .before .before .before .before .before .before .before .before .before .before .before .before .before .before .before .before .args .current) (c .before .before .before .before .before .before .before .before .before .before .before .before .before .before .before .before .before .before .before .before .before .args .dt) (c .before .before .before .before .before .before .before .before .before .before .before .before .before .before .cell-refusal .result) (c .before .before .before .before .before .before .before .before .before .before .before .before .before .load-refusal .result) (c .before .before .before .before .before .before .before .before .before .before .before .before .first-met .result) (c .before .before .before .before .before .before .before .before .before .before .before .before .before .before .cell-refusal .ensures) (c .before .before .before .before .before .before .before .before .before .before .before .before .first-met .ensures) (c .before .before .before .before .before .before .before .before .before .before .before .if1 .left) in
-    (h .nodes .most-neg, h .nodes .most-pos)
+update-electrolyte-requires c κs =
+    let n = fit (c .before .before .before .before .before .before .before .before .before) .nodes in
+    (n .most-neg, n .most-pos)
 
 report-of-requires : tie.Need-report-of-requires
-report-of-requires c κs = let h = met (c .before .before .before .before .before .before .before .before .before .before .before .before .before .before .before .before .before .before .before .before .before .before .before .before .args .p) (c .before .before .before .before .before .before .before .before .before .before .before .before .before .before .before .before .before .before .before .before .before .before .before .before .args .g) (c .before .before .before .before .before .before .before .before .before .before .before .before .before .before .before .before .before .before .before .before .before .before .before .before .args .time-s) (c .before .before .before .before .before .before .before .before .before .before .before .before .before .before .before .before .before .before .before .before .before .before .before .before .args .neg .now) (c .before .before .before .before .before .before .before .before .before .before .before .before .before .before .before .before .before .before .before .before .before .before .before .before .args .pos .now) (c .before .before .before .before .before .before .before .before .before .before .before .before .before .before .before .before .before .before .before .before .before .before .before .before .args .c-e .now) (c .before .before .before .before .before .before .before .before .before .before .before .before .before .before .before .before .before .before .before .before .before .before .before .before .args .current) (c .before .before .before .before .before .before .before .before .before .before .before .before .before .before .before .before .before .before .before .before .before .before .before .before .args .dt) (c .before .before .before .before .before .before .before .before .before .before .before .before .before .before .before .before .before .cell-refusal .result) (c .before .before .before .before .before .before .before .before .before .before .before .before .before .before .before .before .load-refusal .result) (c .before .before .before .before .before .before .before .before .before .before .before .before .before .before .before .first-met .result) (c .before .before .before .before .before .before .before .before .before .before .before .before .before .before .before .before .before .cell-refusal .ensures) (c .before .before .before .before .before .before .before .before .before .before .before .before .before .before .before .first-met .ensures) (c .before .before .before .before .before .before .before .before .before .before .before .before .before .before .if1 .left) in
-    (h .nodes, (h .coeffs-neg, h .coeffs-pos))
+report-of-requires c κs =
+    let f = fit (c .before .before .before .before .before .before .before .before .before .before .before .before) in
+    (f .nodes, (f .coeffs-neg, f .coeffs-pos))
 
-all-numbers-requires : tie.Need-all-numbers-requires
-all-numbers-requires c κs = met (c .before .before .before .before .before .before .before .before .before .before .before .before .before .before .before .before .before .before .before .before .before .before .before .before .before .before .before .before .args .p) (c .before .before .before .before .before .before .before .before .before .before .before .before .before .before .before .before .before .before .before .before .before .before .before .before .before .before .before .before .args .g) (c .before .before .before .before .before .before .before .before .before .before .before .before .before .before .before .before .before .before .before .before .before .before .before .before .before .before .before .before .args .time-s) (c .before .before .before .before .before .before .before .before .before .before .before .before .before .before .before .before .before .before .before .before .before .before .before .before .before .before .before .before .args .neg .now) (c .before .before .before .before .before .before .before .before .before .before .before .before .before .before .before .before .before .before .before .before .before .before .before .before .before .before .before .before .args .pos .now) (c .before .before .before .before .before .before .before .before .before .before .before .before .before .before .before .before .before .before .before .before .before .before .before .before .before .before .before .before .args .c-e .now) (c .before .before .before .before .before .before .before .before .before .before .before .before .before .before .before .before .before .before .before .before .before .before .before .before .before .before .before .before .args .current) (c .before .before .before .before .before .before .before .before .before .before .before .before .before .before .before .before .before .before .before .before .before .before .before .before .before .before .before .before .args .dt) (c .before .before .before .before .before .before .before .before .before .before .before .before .before .before .before .before .before .before .before .before .before .cell-refusal .result) (c .before .before .before .before .before .before .before .before .before .before .before .before .before .before .before .before .before .before .before .before .load-refusal .result) (c .before .before .before .before .before .before .before .before .before .before .before .before .before .before .before .before .before .before .before .first-met .result) (c .before .before .before .before .before .before .before .before .before .before .before .before .before .before .before .before .before .before .before .before .before .cell-refusal .ensures) (c .before .before .before .before .before .before .before .before .before .before .before .before .before .before .before .before .before .before .before .first-met .ensures) (c .before .before .before .before .before .before .before .before .before .before .before .before .before .before .before .before .before .before .if1 .left) .nodes
-
-returns-2 : tie.Need-returns-2
-returns-2 c = made-step (c .before .before .before .before .before .before .before .before .before .before .before .before .before .before .before .before .before .before .before .before .before .before .before .before .before .before .before .before .before .before .args .p) (c .before .before .before .before .before .before .before .before .before .before .before .before .before .before .before .before .before .before .before .before .before .before .before .before .before .before .before .before .before .before .args .g) (c .before .before .before .before .before .before .before .before .before .before .before .before .before .before .before .before .before .before .before .before .before .before .before .before .before .before .before .before .before .before .args .time-s) (c .before .before .before .before .before .before .before .before .before .before .before .before .before .before .before .before .before .before .before .before .before .before .before .before .before .before .before .before .before .before .args .neg .now) (c .before .before .before .before .before .before .before .before .before .before .before .before .before .before .before .before .before .before .before .before .before .before .before .before .before .before .before .before .before .before .args .pos .now) (c .before .before .before .before .before .before .before .before .before .before .before .before .before .before .before .before .before .before .before .before .before .before .before .before .before .before .before .before .before .before .args .c-e .now) (c .before .before .before .before .before .before .before .before .before .before .before .before .before .before .before .before .before .before .before .before .before .before .before .before .before .before .before .before .before .before .args .current) (c .before .before .before .before .before .before .before .before .before .before .before .before .before .before .before .before .before .before .before .before .before .before .before .before .before .before .before .before .before .before .args .dt) (c .before .before .before .before .before .before .before .before .before .before .before .before .before .before .before .before .before .before .before .before .before .before .before .cell-refusal .result) (c .before .before .before .before .before .before .before .before .before .before .before .before .before .before .before .before .before .before .before .before .before .before .load-refusal .result) (c .before .before .before .before .before .before .before .before .before .before .before .before .before .before .before .before .before .before .before .before .before .first-met .result) (c .before .before .before .before .before .before .before .before .before .before .before .before .before .before .before .before .before .before .before .before .before .before .before .cell-refusal .ensures) (c .before .before .before .before .before .before .before .before .before .before .before .before .before .before .before .before .before .before .before .before .before .first-met .ensures) (c .before .before .before .before .before .before .before .before .before .before .before .before .before .before .before .before .before .before .before .before .before .before .load-refusal .ensures) (c .before .before .before .before .before .before .before .before .before .before .before .before .before .before .before .before .before .before .before .before .if1 .left) (c .before .before .before .before .before .before .before .before .before .before .before .before .before .before .before .before .before .before .before .anode .result) (c .before .before .before .before .before .before .before .before .before .before .before .before .before .before .before .before .before .cathode .result) (c .before .before .before .before .before .before .before .before .before .before .before .before .before .before .before .before .before .before .grain-of .result) (c .before .before .before .before .before .before .before .before .before .before .before .before .before .before .before .before .grain-of2 .result) (c .before .before .before .before .before .before .before .before .update-electrolyte .result) (c .before .before .before .before .before .before .before .before .before .before .before .before .before .update-solid .last .1 .1 .1 .0) (c .before .before .before .before .before .before .before .before .before .before .before .before .before .update-solid .result) (c .before .before .before .before .before .before .before .before .before .before .update-solid2 .last .1 .1 .1 .0) (c .before .before .before .before .before .before .before .before .before .before .update-solid2 .result) (c .before .before .before .before .before .before .before .before .before .before .before .before .before .before .before .before .before .before .before .anode .ensures) (c .before .before .before .before .before .before .before .before .before .before .before .before .before .before .before .before .before .cathode .ensures) (c .before .before .before .before .before .before .before .before .before .before .before .before .before .before .before .before .before .before .grain-of .ensures) (c .before .before .before .before .before .before .before .before .before .before .before .before .before .before .before .before .grain-of2 .ensures) (c .before .before .before .before .before .before .before .before .update-electrolyte .ensures) (c .before .before .before .before .before .before .before .before .before .before .before .before .before .update-solid .ensures .1) (c .before .before .before .before .before .before .before .before .before .before .before .before .before .update-solid .ensures .0) (c .before .before .before .before .before .before .before .before .before .before .update-solid2 .ensures .1) (c .before .before .before .before .before .before .before .before .before .before .update-solid2 .ensures .0) (c .before .before .before .before .before .report-of .result) (c .before .before .before .before .before .report-of .ensures) (c .before .all-numbers .result) (c .before .all-numbers .ensures) (c .if2 .taken)
+outcome-refusal-requires : tie.Need-outcome-refusal-requires
+outcome-refusal-requires c κs = fit (c .before .before .before .before .before .before .before .before .before .before .before .before .before .before) .nodes
 
 no-report-requires-2 : tie.Need-no-report-requires-2
 no-report-requires-2 c κs = search needs
 
+returns-2 : tie.Need-returns-2
+returns-2 c =
+    let outcome = c .before .before in
+    let report = outcome .before .before in
+    let salt = report .before .before .before in
+    let pos = salt .before .before in
+    let neg = pos .before .before in
+    let cathode = neg .before .before in
+    let anode = cathode .before .before in
+    let fits = anode .before .before in
+    let s = given fits .args in
+    let cell = fits .before .before .before .cell-refusal in
+    let load = fits .before .before .load-refusal in
+    let first = fits .before .first-met in
+    not-finite-step (s .p) (s .g) (s .time-s) (s .neg .now) (s .pos .now) (s .c-e .now) (s .current) (s .dt)
+    (cell .result) (load .result) (first .result) (cell .ensures) (first .ensures) (load .ensures) (fits .if1 .left)
+    (anode .before .anode .result) (cathode .before .cathode .result) (anode .grain-of .result) (cathode .grain-of2 .result)
+    (neg .update-solid .result) (pos .update-solid2 .result) (salt .update-electrolyte .result)
+    (anode .before .anode .ensures) (cathode .before .cathode .ensures) (anode .grain-of .ensures) (cathode .grain-of2 .ensures)
+    (neg .update-solid .ensures) (pos .update-solid2 .ensures) (salt .update-electrolyte .ensures)
+    (report .report-of .result) (report .report-of .ensures) (outcome .outcome-refusal .result) (outcome .outcome-refusal .ensures)
+    (c .before .if2 .taken) (c .no-report2 .result) (c .no-report2 .ensures)
+
 returns-3 : tie.Need-returns-3
-returns-3 c = not-finite-step (c .before .before .before .before .before .before .before .before .before .before .before .before .before .before .before .before .before .before .before .before .before .before .before .before .before .before .before .before .before .before .before .args .p) (c .before .before .before .before .before .before .before .before .before .before .before .before .before .before .before .before .before .before .before .before .before .before .before .before .before .before .before .before .before .before .before .args .g) (c .before .before .before .before .before .before .before .before .before .before .before .before .before .before .before .before .before .before .before .before .before .before .before .before .before .before .before .before .before .before .before .args .time-s) (c .before .before .before .before .before .before .before .before .before .before .before .before .before .before .before .before .before .before .before .before .before .before .before .before .before .before .before .before .before .before .before .args .neg .now) (c .before .before .before .before .before .before .before .before .before .before .before .before .before .before .before .before .before .before .before .before .before .before .before .before .before .before .before .before .before .before .before .args .pos .now) (c .before .before .before .before .before .before .before .before .before .before .before .before .before .before .before .before .before .before .before .before .before .before .before .before .before .before .before .before .before .before .before .args .c-e .now) (c .before .before .before .before .before .before .before .before .before .before .before .before .before .before .before .before .before .before .before .before .before .before .before .before .before .before .before .before .before .before .before .args .current) (c .before .before .before .before .before .before .before .before .before .before .before .before .before .before .before .before .before .before .before .before .before .before .before .before .before .before .before .before .before .before .before .args .dt) (c .before .before .before .before .before .before .before .before .before .before .before .before .before .before .before .before .before .before .before .before .before .before .before .before .cell-refusal .result) (c .before .before .before .before .before .before .before .before .before .before .before .before .before .before .before .before .before .before .before .before .before .before .before .load-refusal .result) (c .before .before .before .before .before .before .before .before .before .before .before .before .before .before .before .before .before .before .before .before .before .before .first-met .result) (c .before .before .before .before .before .before .before .before .before .before .before .before .before .before .before .before .before .before .before .before .before .before .before .before .cell-refusal .ensures) (c .before .before .before .before .before .before .before .before .before .before .before .before .before .before .before .before .before .before .before .before .before .before .first-met .ensures) (c .before .before .before .before .before .before .before .before .before .before .before .before .before .before .before .before .before .before .before .before .before .before .before .load-refusal .ensures) (c .before .before .before .before .before .before .before .before .before .before .before .before .before .before .before .before .before .before .before .before .before .if1 .left) (c .before .before .before .before .before .before .before .before .before .before .before .before .before .before .before .before .before .before .before .before .anode .result) (c .before .before .before .before .before .before .before .before .before .before .before .before .before .before .before .before .before .before .cathode .result) (c .before .before .before .before .before .before .before .before .before .before .before .before .before .before .before .before .before .before .before .grain-of .result) (c .before .before .before .before .before .before .before .before .before .before .before .before .before .before .before .before .before .grain-of2 .result) (c .before .before .before .before .before .before .before .before .before .update-electrolyte .result) (c .before .before .before .before .before .before .before .before .before .before .before .before .before .before .update-solid .last .1 .1 .1 .0) (c .before .before .before .before .before .before .before .before .before .before .before .before .before .before .update-solid .result) (c .before .before .before .before .before .before .before .before .before .before .before .update-solid2 .last .1 .1 .1 .0) (c .before .before .before .before .before .before .before .before .before .before .before .update-solid2 .result) (c .before .before .before .before .before .before .before .before .before .before .before .before .before .before .before .before .before .before .before .before .anode .ensures) (c .before .before .before .before .before .before .before .before .before .before .before .before .before .before .before .before .before .before .cathode .ensures) (c .before .before .before .before .before .before .before .before .before .before .before .before .before .before .before .before .before .before .before .grain-of .ensures) (c .before .before .before .before .before .before .before .before .before .before .before .before .before .before .before .before .before .grain-of2 .ensures) (c .before .before .before .before .before .before .before .before .before .update-electrolyte .ensures) (c .before .before .before .before .before .before .before .before .before .before .before .before .before .before .update-solid .ensures .1) (c .before .before .before .before .before .before .before .before .before .before .before .before .before .before .update-solid .ensures .0) (c .before .before .before .before .before .before .before .before .before .before .before .update-solid2 .ensures .1) (c .before .before .before .before .before .before .before .before .before .before .before .update-solid2 .ensures .0) (c .before .before .before .before .before .before .report-of .result) (c .before .before .before .before .before .before .report-of .ensures) (c .before .before .all-numbers .result) (c .before .before .all-numbers .ensures) (c .before .if2 .left) (c .no-report2 .result) (c .no-report2 .ensures)
+returns-3 c =
+    let outcome = c .before .before .before in
+    let report = outcome .before .before in
+    let salt = report .before .before .before in
+    let pos = salt .before .before in
+    let neg = pos .before .before in
+    let cathode = neg .before .before in
+    let anode = cathode .before .before in
+    let fits = anode .before .before in
+    let s = given fits .args in
+    let cell = fits .before .before .before .cell-refusal in
+    let load = fits .before .before .load-refusal in
+    let first = fits .before .first-met in
+    made-step (s .p) (s .g) (s .time-s) (s .neg .now) (s .pos .now) (s .c-e .now) (s .current) (s .dt)
+    (cell .result) (load .result) (first .result) (cell .ensures) (first .ensures) (load .ensures) (fits .if1 .left)
+    (anode .before .anode .result) (cathode .before .cathode .result) (anode .grain-of .result) (cathode .grain-of2 .result)
+    (neg .update-solid .result) (pos .update-solid2 .result) (salt .update-electrolyte .result)
+    (anode .before .anode .ensures) (cathode .before .cathode .ensures) (anode .grain-of .ensures) (cathode .grain-of2 .ensures)
+    (neg .update-solid .ensures) (pos .update-solid2 .ensures) (salt .update-electrolyte .ensures)
+    (report .report-of .result) (report .report-of .ensures) (outcome .outcome-refusal .result) (outcome .outcome-refusal .ensures)
+    (c .before .before .if2 .left)
 
 pub step-lent-spec : {M : Type 1} → statement M
 step-lent-spec =
@@ -77,7 +141,7 @@ step-lent-spec =
     update-solid-requires-2
     update-electrolyte-requires
     report-of-requires
-    all-numbers-requires
-    returns-2
+    outcome-refusal-requires
     no-report-requires-2
+    returns-2
     returns-3)

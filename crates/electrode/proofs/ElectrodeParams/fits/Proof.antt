@@ -1,10 +1,28 @@
 -- `electrode::ElectrodeParams::fits` meets its contract. Assumes nothing.
-use mathlib.Core.Path.{refl}
+use mathlib.Core.Path.{_≡_, refl, ap, _∙_}
+use Prim.Native.Nat.{ℕ}
+use mathlib.Core.Bool.{Bool, true, false}
+use lib.Dec.{eqb}
+use borrow.Author.Needs.{needs}
+use Rattle.refusal.specs.Numbers.{refusalUnless, sheet}
+use Rattle.electrode.specs.Sheet.{chemistryFits}
 use Rattle.electrode.proofs.ElectrodeParams.fits.Statement.{statement}
 use Rattle.electrode.proofs.ElectrodeParams.fits.Tie as tie
 
+none-where : (ok : Bool) → eqb (refusalUnless ok sheet) 0 ≡ ok
+unfolding refusalUnless
+none-where true = refl
+none-where false = refl
+
+chemistry-refusal-requires : tie.Need-chemistry-refusal-requires
+chemistry-refusal-requires c κs = search needs
+
 returns : tie.Need-returns
-returns c = refl
+returns c =
+    let called = c .before .before .before .before .before .before .before .before .before .before .before .before .before .before .before .before .before .before in
+    let known : eqb (called .chemistry-refusal .result) 0 ≡ chemistryFits (called .before .args .self .«electrode_type») =
+    ap (λ (k : ℕ). eqb k 0) (called .chemistry-refusal .ensures) ∙ none-where _ in
+    rw known
 
 pub fits-spec : {M : Type 1} → statement M
-fits-spec = tie.close (tie.spec returns)
+fits-spec = tie.close (tie.spec chemistry-refusal-requires returns)
