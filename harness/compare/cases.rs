@@ -383,12 +383,34 @@ fn cell_temperature(draw: &mut Draw, cell: &Cell) -> f64 {
     298.15
 }
 
+/// Moves an electrode's d_s_ref so that its corrected diffusivity is a limit or next to one, where there is such a number.
+fn diffusivity_to_limit(draw: &mut Draw, sheet: &mut Sheet, temp_k: f64) {
+    let limit = draw.pick(&[DIFFUSIVITY.low, DIFFUSIVITY.high]);
+    let wanted = draw.pick(&[limit.next_down(), limit, limit.next_up()]);
+    let ratio = sheet.numbers[1] / sheet.d_s(temp_k).expect("a sheet in range");
+    let near = (wanted * ratio).to_bits();
+    let mut tried = *sheet;
+    for bits in near - 8..near + 8 {
+        tried.numbers[1] = f64::from_bits(bits);
+        if tried.d_s(temp_k) == Ok(wanted) {
+            *sheet = tried;
+            return;
+        }
+    }
+}
+
 fn cell_steps(draw: &mut Draw, turn: u64) -> Case {
-    let (cell, build) = some_cell(draw, 3 + turn % 62);
+    let (mut cell, mut build) = some_cell(draw, 3 + turn % 62);
+    let limit_at = records::temperature(draw);
+    if draw.below(12) == 0 {
+        let sheet = if draw.below(2) == 0 { &mut cell.anode.sheet } else { &mut cell.cathode.sheet };
+        diffusivity_to_limit(draw, sheet, limit_at);
+        build = None;
+    }
     let area = cell.anode.sheet.numbers[6];
     let mut turns = Vec::new();
     for _ in 0..draw.count(1, 6) {
-        let temp_k = cell_temperature(draw, &cell);
+        let temp_k = if draw.below(4) == 0 { limit_at } else { cell_temperature(draw, &cell) };
         let (mut current, mut dt) = (records::current(draw, area), interval_of(draw, least_interval(&cell, temp_k)));
         if (next_to_empty(cell.anode.c_s[0]) || next_to_empty(cell.cathode.c_s[0])) && draw.below(2) == 0 {
             (current, dt) = (draw.pick(&[1e-300, -1e-300, 0.0, -0.0, current]), records::short_interval(draw));

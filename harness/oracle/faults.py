@@ -44,6 +44,7 @@ def nth(n):
 NAN = because("a NaN goes through what follows and comes out as a NaN, whose bits mean nothing")
 SAME_PRODUCT = because("a product of two numbers is the same either way round")
 FINITE = because("no call that the table lets pass gives a NaN or an infinity there")
+BUILT = because("the particle that is built of it asks it, and answers the same number")
 FIRST_STEP = because("a first step is always made, and answers the same number with no row written")
 
 TERM = "a = 1.0 + (a * y) / f64::from(k);"
@@ -227,7 +228,7 @@ DFN = [
     ("solid: the first surface update is kept", "c_xi[n_r - 1] = c[n_r - 1] - dt_s", "c_xi[n_r - 1] = c_xi[n_r - 1] - dt_s"),
     ("solid: clamped from node 1", "for c in &mut c_xi {", "for c in c_xi.iter_mut().skip(1) {"),
     ("solid: clamped without the surface", "for c in &mut c_xi {", "for c in c_xi.iter_mut().take(n_r - 1) {"),
-    ("solid: node 0 is clamped, from node 1 it takes", "            c_xi[0] = c_xi[1];\n", "            c_xi[0] = c_xi[1].clamp(0.0, c_s_max);\n", because("the clamp after it does the same")),
+    ("solid: the centre is clamped twice", "c_xi[0] = c_xi[1];", "c_xi[0] = c_xi[1].clamp(0.0, c_s_max);", because("the second clamp changes nothing")),
     ("solid: the flux's sign", "let flux_surface = j_li", "let flux_surface = -j_li"),
     ("solid: d_surf at least 1e-18", "let flux_surface = j_li / d_surf.max(1e-30);", "let flux_surface = j_li / d_surf.max(1e-18);"),
     ("ocv: without the first coefficient", "coeffs.iter().fold", "coeffs.iter().skip(1).fold"),
@@ -414,8 +415,8 @@ CALLS_SOLVER = [
     ("new: the count is not asked", "        met.when(1, !nodes_fit(config.n_nodes));\n", "", nth(1)),
     ("ready cells: the count is not asked", "        met.when(1, !nodes_fit(config.n_nodes));\n", "", nth(2)),
     ("new: the config is not asked", "!all_in(&config.numbers, &RANGES) || !anode.fits() || !cathode.fits()", "!anode.fits() || !cathode.fits()"),
-    ("new: the anode's sheet is not asked", "&RANGES) || !anode.fits() || !cathode.fits()", "&RANGES) || !cathode.fits()", because("the particle that is built of it asks it, and answers the same number")),
-    ("new: the cathode's sheet is not asked", "&RANGES) || !anode.fits() || !cathode.fits()", "&RANGES) || !anode.fits()", because("the particle that is built of it asks it, and answers the same number")),
+    ("new: the anode's sheet is not asked", "&RANGES) || !anode.fits() || !cathode.fits()", "&RANGES) || !cathode.fits()", BUILT),
+    ("new: the cathode's sheet is not asked", "&RANGES) || !anode.fits() || !cathode.fits()", "&RANGES) || !anode.fits()", BUILT),
     ("ready cells: the config is not asked", "        met.when(2, !all_in(&config.numbers, &RANGES));\n", ""),
     ("the config's count is not asked", "!nodes_fit(n) || self.anode.n != n", "self.anode.n != n"),
     ("the anode's count is not asked", "|| self.anode.n != n ", ""),
@@ -447,7 +448,10 @@ CALLS_SOLVER = [
     ("run: the interval is not asked", "!interval(dt) || !max_time_s", "!max_time_s"),
     ("run: the limit is not asked", " || !max_time_s.is_finite()", ""),
     ("run: the temperature is not asked", "        met.when(5, !TEMPERATURE.holds(temp_k));\n", "", nth(2)),
-    ("run: 6 and 7 are asked first", "        let step = |cell: &Self| {", "        if let Err(number) = self.step(current_a, dt, temp_k) {\n            return refused(self, number);\n        }\n        let step = |cell: &Self| {"),
+    (
+        "run: 6 and 7 are asked even if no step is due", "        let step = |cell: &Self| {",
+        "        if let Err(number) = self.step(current_a, dt, temp_k) {\n            return refused(self, number);\n        }\n        let step = |cell: &Self| {",
+    ),
     ("run: its clock starts at the cell's", "fold(0.0, |t, _| t + dt)", "fold(self.time_s, |t, _| t + dt)"),
     ("run: its clock is rows*dt", "(0..rows).fold(0.0, |t, _| t + dt)", "rows as f64 * dt"),
     ("run: time is over after its limit", "!(own_clock(rows) < max_time_s)", "own_clock(rows) > max_time_s"),
@@ -510,12 +514,15 @@ CALLS_DFN = [
     ("step: the current is not asked", "        met.when(3, !load(current_a, MOST_CURRENT));\n", "", nth(1)),
     ("step: the interval is not asked", "        met.when(4, !interval(dt_s));\n", ""),
     ("step: 5 for a temperature out of range", "met.when(2, !fields);", "met.when(if RANGES[24].holds(self.params.numbers[24]) { 2 } else { 5 }, !fields);"),
-    ("step: an anode that is not finite", "&next.c_s_neg, ", ""),
-    ("step: a cathode that is not finite", "&next.c_s_pos, ", ""),
+    ("step: an anode that is not finite", "&next.c_s_neg, ", "", FINITE),
+    ("step: a cathode that is not finite", "&next.c_s_pos, ", "", FINITE),
     ("step: an electrolyte that is not finite", "&next.c_e, ", ""),
     ("step: a clock that is not finite", "&[next.time_s], ", "", FINITE),
     ("step: overwritten fields that are not finite", "&next.overwritten, ", "", because("the report has the same numbers")),
-    ("step: a report that is not finite", ", &report_row(&report)])?", "])?", because("the fields that a step overwrites have the same numbers, the largest change aside, which passes over a NaN and is finite")),
+    (
+        "step: a report that is not finite", ", &report_row(&report)])?", "])?",
+        because("the overwritten fields have the same numbers, and the largest change passes over a NaN and is finite"),
+    ),
     ("report: cutoff the other way", "if s.cutoff { 1.0 } else { 0.0 }", "if s.cutoff { 0.0 } else { 1.0 }"),
     ("report: the stoichiometries exchanged", "s.theta_neg, s.theta_pos, s.delta", "s.theta_pos, s.theta_neg, s.delta"),
     ("run: the length is not asked", "        met.when(10, places < ROW);\n", ""),

@@ -111,6 +111,30 @@ fn diffusivity_out(draw: &mut Draw, at_anode: bool, high: bool) -> (Cell, f64) {
     (random_cell(draw, config(3), (anode, cathode)), if high { 350.0 } else { 250.0 })
 }
 
+/// Ready cells of which one electrode's corrected diffusivity is a limit or next to one, each with its temperature.
+fn diffusivity_at_limits() -> Vec<(Cell, f64)> {
+    let mut all = Vec::new();
+    for (limit, temp_k) in [(DIFFUSIVITY.low, 290.0), (DIFFUSIVITY.high, 310.0)] {
+        for wanted in [limit.next_down(), limit, limit.next_up()] {
+            for at_anode in [true, false] {
+                let mut cell = Cell::new(config(3), pairs_of_sheets()[0].0, pairs_of_sheets()[0].1).expect("ready sheets");
+                let sheet = if at_anode { &mut cell.anode.sheet } else { &mut cell.cathode.sheet };
+                sheet.numbers[1] = 1e-14;
+                let factor = sheet.d_s(temp_k).expect("a sheet in range") / 1e-14;
+                let near = (wanted / factor).to_bits();
+                for bits in near - 8..near + 8 {
+                    sheet.numbers[1] = f64::from_bits(bits);
+                    if sheet.d_s(temp_k) == Ok(wanted) {
+                        break;
+                    }
+                }
+                all.push((cell, temp_k));
+            }
+        }
+    }
+    all
+}
+
 pub fn step_cases(draw: &mut Draw) -> Vec<Vec<Slot>> {
     let mut all = Vec::new();
     for (sheets, n) in pairs_of_sheets().into_iter().zip([3, 4]) {
@@ -165,6 +189,7 @@ pub fn step_cases(draw: &mut Draw) -> Vec<Vec<Slot>> {
         }
     }
     all.extend(alike_counts().iter().map(|cell| stepping(cell, 3.0, 1.0, 298.15)));
+    all.extend(diffusivity_at_limits().iter().map(|(cell, temp_k)| stepping(cell, 3.0, 0.01, *temp_k)));
     all
 }
 
