@@ -311,17 +311,17 @@ def declared(path):
 def stale_citations(page):
     """Files that a page names and that are not there; `FILE: a, b` names definitions of the file."""
     text = page.read_text(encoding="utf-8")
-    for cited in re.findall(r"`((?:crates|harness|tools|docs|\.ci)/[^`*\s{]*[^`*\s{:]|(?:crates|harness|tools)/[^`\s]+: [^`]+)`", text):
-        name, colon, items = cited.partition(": ")
-        path = TOP / name.split(" ")[0]
-        if "CRATE" in name or "NAME" in name:
+    for cited in re.findall(r"`((?:crates|harness|tools|docs|\.ci)/[^`]*)`", text):
+        name, _, items = cited.partition(": ")
+        if re.search(r"[{*]|[A-Z]{4,}(?!\.md)", name):  # a pattern, not a file
             continue
+        path = TOP / name.split(" ")[0]
         if not path.exists():
             yield f"{page.name}: there is no {name}"
-        elif colon:
-            for item in items.split(", "):
-                if item not in declared(path):
-                    yield f"{page.name}: {name} has no {item}"
+            continue
+        for item in filter(None, items.split(", ")):
+            if item not in declared(path):
+                yield f"{page.name}: {name} has no {item}"
 
 
 def main():

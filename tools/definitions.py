@@ -12,6 +12,7 @@ the checker need not read them.
 import re
 import sys
 
+sys.dont_write_bytecode = True
 from architecture import read_crates
 from source_text import TOP, bare, crates, declarations, imports, parts, without_comments, words
 
@@ -32,12 +33,12 @@ class Source:
             if i.item is None and "::" not in i.path:
                 self.modules[i.name] = i.path
             else:
-                for part in parts(i.name):
+                for part in parts(i.name) + [bare(i.name)]:
                     self.names.setdefault(part, []).append((i.path, i.item))
         self.own = {}
         self.declared = declarations(path) if path.suffix == ".antt" else list(structs(self))
         for d in self.declared:
-            for part in parts(d.name):
+            for part in {d.name, *parts(d.name)}:
                 self.own.setdefault(part, []).append(d)
 
     def meanings(self, text, line=None):
@@ -214,6 +215,10 @@ def in_order(paths, names):
     return out
 
 
+def code(name):
+    return "`" + name.replace("|", "\\|") + "`"
+
+
 def lines_of(declared):
     return sum(d.last - d.first + 1 for d in declared)
 
@@ -250,7 +255,7 @@ def page():
         "|---|---|",
     ]
     for path in in_order({d.path for d in theorems}, names):
-        out.append(f"| {', '.join(f'`{d.name}`' for d in theorems if d.path == path)} | {link(path)} |")
+        out.append(f"| {', '.join(code(d.name) for d in theorems if d.path == path)} | {link(path)} |")
     out += [f"| the calls from C: their contracts | {link(exported_file())} |", ""]
     for group, members in groups.items():
         part = [p for p in files if p.relative_to(TOP / "crates").parts[0] in members]
@@ -259,13 +264,13 @@ def page():
         count = sum(lines_of(by_file[p]) for p in part)
         out += [f"## {group}: {len(part)} files, {count} lines", "", "| file | lines | of | definitions |", "|---|---|---|---|"]
         for p in part:
-            shown = [f"`{d.name}`" if d in outer.why else f"*`{d.name}`*" for d in sorted(by_file[p], key=lambda d: d.line)]
+            shown = [code(d.name) if d in outer.why else f"*{code(d.name)}*" for d in sorted(by_file[p], key=lambda d: d.line)]
             whole = len(p.read_text(encoding="utf-8").splitlines())
             out.append(f"| {link(p)} | {lines_of(by_file[p])} | {whole} | {', '.join(shown)} |")
         out.append("")
     out += ["## The kit's", "", "What the definitions take from Rattle's library, by module.", "", "| module | names |", "|---|---|"]
     for module in sorted(every.kit):
-        out.append(f"| {module} | {', '.join(f'`{n}`' for n in sorted(every.kit[module]))} |")
+        out.append(f"| {module} | {', '.join(code(n) for n in sorted(every.kit[module]))} |")
     return "\n".join(out + [""])
 
 

@@ -33,8 +33,8 @@ def words(text):
 
 
 def parts(name):
-    """What an operator is written with: _⊕_ is ⊕."""
-    return [p for p in name.split("_") if p] if "_" in name and not re.fullmatch(r"\w+", name) else [name]
+    """What an operator is written with: _⊕_ is ⊕. An escaped name has no parts, and neither has one of .rt."""
+    return [name[1:-1]] if name.startswith("«") else [p for p in name.split("_") if p] or [name]
 
 
 class Import:
