@@ -40,7 +40,9 @@ def read_crates():
     groups, stands_on, group = {}, {}, None
     for line in (TOP / "crates.txt").read_text(encoding="utf-8").splitlines():
         mark = re.fullmatch(r"# (\w+)", line)
-        if mark and mark.group(1) in GROUPS:
+        if mark:
+            if mark.group(1) not in GROUPS:
+                fail(f"crates.txt: {mark.group(1)} is no group; the groups: {', '.join(GROUPS)}")
             group = groups.setdefault(mark.group(1), [])
         name, colon, rest = line.split("#")[0].partition(":")
         if not colon:
@@ -339,8 +341,11 @@ def main():
         wrong.append("README.md's table of crates is not crates.txt's: tools/architecture.py --write")
     rows = rows_of(PAGE.read_text(encoding="utf-8"))
     for g, crates in groups.items():
-        if rows.get(g, []) != crates:
-            wrong.append(f"docs/ARCHITECTURE.md, {g}: its rows are {', '.join(rows.get(g, []))}; crates.txt has {', '.join(crates)}")
+        has = rows.get(g, [])
+        if has != crates:
+            lost, more = [c for c in crates if c not in has], [c for c in has if c not in crates]
+            wrong.append(f"docs/ARCHITECTURE.md, {g}: " + "; ".join(
+                [f"no row for {', '.join(lost)}"] * bool(lost) + [f"{', '.join(more)} stands there"] * bool(more) or ["rows in another order than crates.txt"]))
     for page in CITING:
         wrong += stale_citations(page)
     if wrong:

@@ -6,7 +6,7 @@
     tools/unused_imports.py --write        takes them out; a line that brings nothing more goes
 
 A name counts as used where it, or a part of it if it is an operator, stands anywhere else in the file outside comments: in a signature, a body, a pattern, an `unfolding` line, a list handed to a
-tactic. A bound variable so spelled counts too. Never listed: what `pub use` passes on; `_>>=_` and `_>>_` beside a `do` or `←`; a module that another `use` line begins with. Fields and methods are found by
+tactic, and in what a must-fail edit writes there. A bound variable so spelled counts too. Never listed: what `pub use` passes on; `_>>=_` and `_>>_` beside a `do` or `←`; a module that another `use` line begins with. Fields and methods are found by
 their record's type and need no import.
 """
 import re
@@ -17,11 +17,20 @@ sys.dont_write_bytecode = True
 from source_text import TOP, USE, bare, crates, imports, parts, without_comments, words
 
 
+def edits_of(path):
+    """What the crate's must-fail edits write into a file: an edit that lost a name would be refused for that, and show nothing."""
+    crate = TOP / "crates" / path.relative_to(TOP / "crates").parts[0]
+    for edit in sorted((crate / "must-fail").glob("*.edit")):
+        text = edit.read_text(encoding="utf-8")
+        if f"file: {path.relative_to(crate)}" in text.splitlines():
+            yield USE.sub("", re.sub(r"(?m)^(?:file|old|new): ?", "", text))
+
+
 def unused(path):
     raw = path.read_text(encoding="utf-8")
     text = without_comments(raw, "--" if path.suffix == ".antt" else "//")
     brought = list(imports(text))
-    rest = USE.sub("", text)
+    rest = "\n".join([USE.sub("", text), *edits_of(path)])
     if path.suffix == ".rt":
         rest = re.sub(r"[^\w'≡≤<≥>]", lambda m: m.group() if ord(m.group()) > 127 else f" {m.group()} ", rest)
     used = set()
