@@ -5,9 +5,10 @@
     tools/unused_imports.py --check        the same, and fails where there is one
     tools/unused_imports.py --write        takes them out; a line that brings nothing more goes
 
-A name counts as used where it, or a part of it if it is an operator, stands anywhere else in the file outside comments: in a signature, a body, a pattern, an `unfolding` line, a list handed to a
-tactic, and in what a must-fail edit writes there. A bound variable so spelled counts too. Never listed: what `pub use` passes on; `_>>=_` and `_>>_` beside a `do` or `←`; a module that another `use` line begins with. Fields and methods are found by
-their record's type and need no import.
+A name counts as used where it, or a part of it if it is an operator, stands anywhere else in the file outside comments: in a signature, a body, a pattern, an
+`unfolding` line, a list handed to a tactic; and in what a must-fail edit writes there. A bound variable so spelled counts too. Never listed: what `pub use` passes
+on; `_>>=_` and `_>>_` beside a `do` or `←`; a module that another `use` line begins with; a line that a must-fail edit replaces. Fields and methods are found by their
+record's type and need no import.
 """
 import re
 import sys
@@ -23,14 +24,15 @@ def edits_of(path):
     for edit in sorted((crate / "must-fail").glob("*.edit")):
         text = edit.read_text(encoding="utf-8")
         if f"file: {path.relative_to(crate)}" in text.splitlines():
-            yield USE.sub("", re.sub(r"(?m)^(?:file|old|new): ?", "", text))
+            yield re.sub(r"(?m)^(?:file|old|new): ?", "", text)
 
 
 def unused(path):
     raw = path.read_text(encoding="utf-8")
     text = without_comments(raw, "--" if path.suffix == ".antt" else "//")
     brought = list(imports(text))
-    rest = "\n".join([USE.sub("", text), *edits_of(path)])
+    edits = "\n".join(edits_of(path))
+    rest = USE.sub("", text + "\n" + edits)
     if path.suffix == ".rt":
         rest = re.sub(r"[^\w'≡≤<≥>]", lambda m: m.group() if ord(m.group()) > 127 else f" {m.group()} ", rest)
     used = set()
@@ -39,8 +41,9 @@ def unused(path):
         used.update(p for p in re.split(r"_", word) if p)
     heads = {re.split(r"[.:]", i.path)[0] for i in brought}
     acts = "do" in used or "←" in used
+    lines = raw.splitlines()
     for i in brought:
-        if "pub" in i.marks or "*" in i.path:
+        if "pub" in i.marks or "*" in i.path or lines[i.line - 1] in edits.splitlines():
             continue
         name = bare(i.name)
         if acts and name in ("_>>=_", "_>>_"):
