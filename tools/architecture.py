@@ -5,8 +5,8 @@
     tools/architecture.py --write    makes the picture and README.md's table anew
 
 crates.txt has a comment line for each group ('# model'), and each crate stands below those that it stands on. The picture has a panel for each group.
-Inside a panel an arrow leads from a crate to those that stand on it, and what follows from other arrows is left out; what a crate takes
-from another group is written under its name. docs/ARCHITECTURE.md has a row for each crate, written by hand: what is held is that none is missing, too many or
+Inside a panel an arrow leads from a crate to those that stand on it, and what follows from other arrows is left out; what a crate takes from another
+group is written under its name. docs/ARCHITECTURE.md has a row for each crate, written by hand: what is held is that none is missing, too many or
 in another order, and that each file and each definition that a page below cites is there.
 """
 import re
@@ -243,7 +243,7 @@ def picture(groups, stands_on):
     for row in range(max(row_of.values()) + 1):
         x, tall = 20.0, max(size[g][1] for g in groups if row_of[g] == row)
         for g in (g for g in groups if row_of[g] == row):
-            place[g] = (x, y, size[g][0], tall)
+            place[g] = (x, y, *size[g])
             x += size[g][0] + 46
         y += tall + 46
     full = max(x + w for x, _, w, _ in place.values())
@@ -260,8 +260,10 @@ def picture(groups, stands_on):
                     f'<path d="M0 0 L10 5 L0 10 z" fill="{c}"/></marker>'
                     for i, c, s in [(g, GROUPS[g][2], 6) for g in groups] + [("group", "#555", 3)])
     width, height = full + 20, y - 46 + 20
-    legend = ["An arrow leads from a crate to those that stand on it.", "What follows from other arrows is left out.",
-              "The small names under a crate are of other groups:", "it stands on those too."]
+    legend = ["A group stands on the groups above that its arrow comes from,",
+              "a crate on the crates that its arrows come from, layer by layer,",
+              "and on the small names under it, which are of other groups.",
+              "What follows from other arrows is left out."]
     first = place[list(groups)[0]]  # beside the first panel, or under all
     lx, ly = (first[0] + first[2] + 24, first[1] + 30) if width - first[0] - first[2] > 380 else (20, height + 4)
     height = max(height, ly + 18 * len(legend))
