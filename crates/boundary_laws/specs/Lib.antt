@@ -7,3 +7,4 @@ pub mod Nodes
 pub mod Demand
 pub mod BuiltCells
 pub mod MixedDemand
+pub mod Instance

@@ -70,7 +70,7 @@ abbrev pub start : SpmSolver
 start = record { config = config; anode = fresh graphiteAnode 11; cathode = fresh lfpCathode 11; «time_s» = f64 0 }
 
 -- what `graphite_lfp` answers
-start-is : ready config lfpCathode .solver ≡ start
+pub start-is : ready config lfpCathode .solver ≡ start
 unfolding built buildRefusal freshSolver firstMet refusalUnless graphiteAnode lfpCathode le neg ofBits
 start-is = refl
 
@@ -174,7 +174,7 @@ fits-cell : (s : SpmSolver) → T (gridFits s) → T (cellFits s) → cellRefusa
 unfolding cellRefusal firstMet refusalUnless
 fits-cell s g c = rw (is-true (gridFits s) g, is-true (cellFits s) c)
 
-start-passes : cellRefusal start ≡ 0
+pub start-passes : cellRefusal start ≡ 0
 start-passes =
     let c = configFits config in
     let a = fieldsFit (fresh graphiteAnode 11) in
@@ -399,7 +399,7 @@ nothing-counted : (s : SpmSolver) → K s [] ≡ 0
 unfolding K
 nothing-counted s = refl
 
-discharge-taken : taken start discharge ≡ draw ∷ []
+pub discharge-taken : taken start discharge ≡ draw ∷ []
 discharge-taken = first-refused .calls ∙ second-accepted .calls ∙ ap (λ (l : List Call). draw ∷ l) (third-refused .calls ∙ nothing-taken then)
 
 one-sub-step : subStepsOf (thePlan three) ≡ 1
@@ -407,13 +407,13 @@ unfolding ceilOf ofBits
 one-sub-step = refl
 
 -- K = 1
-discharge-counted : K start discharge ≡ 1
+pub discharge-counted : K start discharge ≡ 1
 discharge-counted =
     first-refused .count ∙ second-accepted .count
     ∙ ap (λ (k : ℕ). k + K then (no-current ∷ [])) (step-count start (draw .current) (draw .dt) (draw .temp) (draw-accepted three three-works) ∙ ap subStepsOf (plan-is three three-works) ∙ one-sub-step)
     ∙ ap (λ (k : ℕ). 1 + k) (third-refused .count ∙ nothing-counted then)
 
-discharge-keeps : (e : Electrode) → KeptAt e start discharge
+pub discharge-keeps : (e : Electrode) → KeptAt e start discharge
 discharge-keeps e = rw discharge-taken (Each.more (draw-kept three three-works e) Each.none)
 
 -- THEOREM 2 for them
@@ -421,13 +421,13 @@ pub discharge-near : (e : Electrode) (i : ℕ) → i < 11 → place e start disc
 discharge-near e i l = rw (← discharge-counted) (solver-near e start discharge start-passes (discharge-keeps e) i (rw (nodes-are start start-passes e) l))
 
 -- ---- THEOREM 3: these calls, and 4 A in the place of 3; the refused calls stand in one list only
-stronger-taken : taken start (stronger ∷ []) ≡ stronger ∷ []
+pub stronger-taken : taken start (stronger ∷ []) ≡ stronger ∷ []
 stronger-taken = at-accepted Electrode.anode start start stronger [] [] (draw-accepted four four-works) .calls ∙ ap (λ (l : List Call). stronger ∷ l) (nothing-taken (answer start stronger .solver))
 
-stronger-keeps : (e : Electrode) → KeptAt e start (stronger ∷ [])
+pub stronger-keeps : (e : Electrode) → KeptAt e start (stronger ∷ [])
 stronger-keeps e = rw stronger-taken (Each.more (draw-kept four four-works e) Each.none)
 
-more-current : T (le (draw .current) (stronger .current))
+pub more-current : T (le (draw .current) (stronger .current))
 unfolding le ofBits
 more-current = tt
 
