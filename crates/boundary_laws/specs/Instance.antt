@@ -33,10 +33,10 @@ use Rattle.boundary_laws.specs.StepLists.{current, cellSteps, reportedSu
 use Rattle.boundary_laws.specs.Nodes.{nodeAt, mostAt}
 use Rattle.boundary_laws.specs.Demand.{CellKept, cell-images-near, RankedImages, cell-images-ranked}
 
-abbrev zeros : ℕ → List ℕ
+abbrev pub zeros : ℕ → List ℕ
 zeros n = replicate n 0
 
-zeros-length : (n : ℕ) → length (zeros n) ≡ n
+pub zeros-length : (n : ℕ) → length (zeros n) ≡ n
 zeros-length n = length-replicate {A = ℕ} n 0
 
 -- ---- the image
@@ -66,7 +66,7 @@ config-is : configAt configImage ≡ config
 unfolding configImage
 config-is = config-read-back (zeros 48) config (rw (zeros-length 48) (le-refl 48)) config-encodable
 
-config-length : length configImage ≡ 48
+pub config-length : length configImage ≡ 48
 unfolding configImage
 config-length = writes-config (zeros 48) config .size ∙ zeros-length 48
 

@@ -8,3 +8,5 @@ pub mod Demand
 pub mod BuiltCells
 pub mod MixedDemand
 pub mod Instance
+pub mod ParticleInstance
+pub mod MixedInstance
