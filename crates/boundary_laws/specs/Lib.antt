@@ -7,3 +7,6 @@ pub mod Nodes
 pub mod Demand
 pub mod BuiltCells
 pub mod MixedDemand
+pub mod Instance
+pub mod ParticleInstance
+pub mod MixedInstance
