@@ -100,8 +100,14 @@ fresh-passes p g m n h =
     cell-passes (fresh p g) b (record {
       parameters = t;
       limits = and-r (parametersFit p) (limitsFit g) f;
-      neg = solid-filled (usedNeg g) (p .«theta_neg_0» ⊗ p .«c_s_neg_max») (p .«c_s_neg_max») (room (g .«n_x_neg») (g .«n_r») (r .most-neg) (r .most-r)) (start-in (p .«theta_neg_0») (p .«c_s_neg_max») (theta-neg p t) (max-neg p t) m);
-      pos = solid-filled (usedPos g) (p .«theta_pos_0» ⊗ p .«c_s_pos_max») (p .«c_s_pos_max») (room (g .«n_x_pos») (g .«n_r») (r .most-pos) (r .most-r)) (start-in (p .«theta_pos_0») (p .«c_s_pos_max») (theta-pos p t) (max-pos p t) n);
+      neg =
+          let x = p .«theta_neg_0» in
+          let M = p .«c_s_neg_max» in
+          solid-filled (usedNeg g) (x ⊗ M) M (room (g .«n_x_neg») (g .«n_r») (r .most-neg) (r .most-r)) (start-in x M (theta-neg p t) (max-neg p t) m);
+      pos =
+          let x = p .«theta_pos_0» in
+          let M = p .«c_s_pos_max» in
+          solid-filled (usedPos g) (x ⊗ M) M (room (g .«n_x_pos») (g .«n_r») (r .most-pos) (r .most-r)) (start-in x M (theta-pos p t) (max-pos p t) n);
       salt = salt-filled (usedSalt g) (p .«c_e0») (omega (arith, r .most-neg, r .most-pos)) (and-i (le unit (p .«c_e0»)) (le (p .«c_e0») saltMost) (salt p t .low) (salt p t .high));
       clock = zero-clock;
     })

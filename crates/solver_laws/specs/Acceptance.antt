@@ -1,4 +1,5 @@
--- A step that neither its input nor its plan refuses is accepted, whatever the profiles, unless its clock leaves the finite numbers: the overpotentials and the voltage are finite. Assumes nothing.
+-- A step that neither its input nor its plan refuses is accepted, whatever the profiles, where its clock stays finite: the overpotentials and the voltage are finite.
+-- Assumes nothing.
 use Prim.Native.Nat.{_^_}
 use mathlib.Core.Path.{_≡_, refl}
 use mathlib.Core.Bool.{_&&_}
@@ -25,7 +26,7 @@ use Rattle.binary64.specs.Value.{val, le-val}
 use Rattle.square_root.specs.Root.{sqrtOf, rounded, wholeRoot, rootBelow}
 use Rattle.square_root.proofs.Range.{sqrt-within}
 use Rattle.choice.specs.Choice.{clampOf, signumOf}
-use Rattle.choice.proofs.ChoiceLaws.{clamp-in}
+use Rattle.choice.proofs.ChoiceLaws.{Clamped, clamp-in}
 use Rattle.elementary.specs.Exp.{one}
 use Rattle.elementary.proofs.AsinhRange.{asinh-finite}
 use Rattle.refusal.specs.Ranges.{temperatureFits}
@@ -75,9 +76,16 @@ one-least : nat 1 ≤F val one
 unfolding ofBits val whole
 one-least = lit≤F tt
 
-number-high : T (finite low) × (T (finite high) × (T (le low high) × (T (finite one) × T (finite least))))
+record Ends : Type 0 where
+  low-fine : T (finite low)
+  high-fine : T (finite high)
+  order : T (le low high)
+  one-fine : T (finite one)
+  least-fine : T (finite least)
+
+ends : Ends
 unfolding ofBits le
-number-high = (tt, (tt, (tt, (tt, tt))))
+ends = record { low-fine = tt; high-fine = tt; order = tt; one-fine = tt; least-fine = tt }
 
 -- 2 ^ -6 and 2 ^ 46
 root-ends : (sqrtOf (f64 0x3f90_0000_0000_0000) ≡ f64 0x3fc0_0000_0000_0000) × (sqrtOf (f64 0x42d0_0000_0000_0000) ≡ f64 0x4160_0000_0000_0000)
@@ -89,8 +97,8 @@ unfolding ofBits
 root-within z f w =
     let bottom = f64 0x3f90_0000_0000_0000 in
     let top = f64 0x42d0_0000_0000_0000 in
-    sqrt-within bottom top (f64 0x3fc0_0000_0000_0000) (f64 0x4160_0000_0000_0000) (ofBits-fits binary64 0x3f90_0000_0000_0000) (ofBits-fits binary64 0x42d0_0000_0000_0000) tt tt tt tt (root-ends .0) (root-ends .1)
-    z f (within-ge w bottom tt tt tt) (most-le (w .0) top tt tt)
+    sqrt-within bottom top (f64 0x3fc0_0000_0000_0000) (f64 0x4160_0000_0000_0000) (ofBits-fits binary64 0x3f90_0000_0000_0000) (ofBits-fits binary64 0x42d0_0000_0000_0000)
+    tt tt tt tt (root-ends .0) (root-ends .1) z f (within-ge w bottom tt tt tt) (most-le (w .0) top tt tt)
 
 module _ (p : ParticleDiffusion) (h : particleRefusal p ≡ 0) where
   abbrev M : Float
@@ -106,15 +114,12 @@ module _ (p : ParticleDiffusion) (h : particleRefusal p ≡ 0) where
   most-range : Within M (2 ^ 17) 1 1 1
   most-range = sheet-ranges (p .params) (sheet-passed p h) .most
 
-  theta-high : T (le x high)
-  theta-high = let f = number-high in clamp-in (surfaceTheta p) low high (number (surfaceTheta p) (surface-theta-fine p h)) (number low (f .0)) (number high (f .1 .0)) (f .1 .1 .0) .high
+  theta-in : Clamped low x high
+  theta-in = clamp-in (surfaceTheta p) low high (number (surfaceTheta p) (surface-theta-fine p h)) (number low (ends .low-fine)) (number high (ends .high-fine)) (ends .order)
 
   theta-range : Within x 1 1 1 (2 ^ 7)
   unfolding ofBits
-  theta-range =
-      let f = number-high in
-      let r = clamp-in (surfaceTheta p) low high (number (surfaceTheta p) (surface-theta-fine p h)) (number low (f .0)) (number high (f .1 .0)) (f .1 .1 .0) in
-      wider (tested-within low x high tt tt (r .low) (r .high)) 1 1 1 (2 ^ 7) tt tt tt tt
+  theta-range = wider (tested-within low x high tt tt (theta-in .low) (theta-in .high)) 1 1 1 (2 ^ 7) tt tt tt tt
 
   surface-range : Within c (2 ^ 17) 1 1 (2 ^ 7)
   surface-range = mul-between theta-range most-range (2 ^ 17) 1 1 (2 ^ 7) tt tt tt tt
@@ -127,11 +132,12 @@ module _ (p : ParticleDiffusion) (h : particleRefusal p ≡ 0) where
       let g = most-range .0 .fine in
       let m = le-of-lt (size-pos (within-scaled most-range 0 17 tt tt .size)) in
       let n = le-of-lt (size-pos (within-scaled theta-range 7 0 tt tt .size)) in
-      let a = le-val x high f (number-high .1 .0) theta-high in
-      let o = ≤F-trans one-least (le-val one M (number-high .1 .1 .1 .0) g (within-ge most-range one tt tt tt)) in
-      let w : val x *F val M within val M = within-by (val x ∷ val M ∷ val high ∷ []) 127 (num 128 ⊠ (up a ⊠ m) ⊞ up high-most ⊠ m ⊞ m) (num 128 ⊠ (n ⊠ m) ⊞ num 128 ⊠ m) (search quote depth 24) tt tt in
+      let a = le-val x high f (ends .high-fine) (theta-in .high) in
+      let o = ≤F-trans one-least (le-val one M (ends .one-fine) g (within-ge most-range one tt tt tt)) in
+      let w : val x *F val M within val M =
+          within-by (val x ∷ val M ∷ val high ∷ []) 127 (num 128 ⊠ (up a ⊠ m) ⊞ up high-most ⊠ m ⊞ m) (num 128 ⊠ (n ⊠ m) ⊞ num 128 ⊠ m) (search quote depth 24) tt tt in
       let e = rounding-error (mul-rounds x M f g) w (size-wider 1022 1023 (within-scaled most-range 0 17 tt tt .size) (lit≤ tt) (lit≤ tt)) .near in
-      rounds-le (held least (number-high .1 .1 .1 .1) (ofBits-fits binary64 0x3f70_0000_0000_0000)) (sub-rounds M c g (surface-range .0 .fine))
+      rounds-le (held least (ends .least-fine) (ofBits-fits binary64 0x3f70_0000_0000_0000)) (sub-rounds M c g (surface-range .0 .fine))
       (le-by (val x ∷ val M ∷ val c ∷ u ∷ val least ∷ val high ∷ []) 255
       (num 256 ⊠ (up a ⊠ m) ⊞ num 2 ⊠ (up high-most ⊠ m) ⊞ num 256 ⊠ hi e ⊞ up u-most ⊠ m ⊞ up o ⊞ up least-most) (search quote depth 24) tt)
 
@@ -146,8 +152,8 @@ module _ (p : ParticleDiffusion) (h : particleRefusal p ≡ 0) where
   exchange-range =
       let thousand = literal (f64 0x408f_4000_0000_0000) (2 ^ 10) 1 (2 ^ 9) 1 tt tt tt tt tt in
       let z = mul-between (mul-between surface-range gap-range (2 ^ 35) 1 1 (2 ^ 15) tt tt tt tt) thousand (2 ^ 46) 1 1 (2 ^ 6) tt tt tt tt in
-      mul-between (sheet-ranges (p .params) (sheet-passed p h) .reaction) (root-within (c ⊗ (M ⊖ c) ⊗ f64 0x408f_4000_0000_0000) (mul-fits binary64 (c ⊗ (M ⊖ c)) (f64 0x408f_4000_0000_0000)) z)
-      (2 ^ 23) 1 1 (2 ^ 57) tt tt tt tt
+      let root = root-within (c ⊗ (M ⊖ c) ⊗ f64 0x408f_4000_0000_0000) (mul-fits binary64 (c ⊗ (M ⊖ c)) (f64 0x408f_4000_0000_0000)) z in
+      mul-between (sheet-ranges (p .params) (sheet-passed p h) .reaction) root (2 ^ 23) 1 1 (2 ^ 57) tt tt tt tt
 
   potential-sized : Sized (surfacePotential p) (2 ^ 150) 1
   unfolding surfacePotential

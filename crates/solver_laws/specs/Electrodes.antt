@@ -232,7 +232,7 @@ module _ (s : SpmSolver) (i dt t : Float) (h : inputRefusal s i dt t ≡ 0) wher
   unfolding inputRefusal
   current-fits = current-range i (passed (loadFits i (f64 0x412e_8480_0000_0000)) load (zero-lt-suc 2) (none-met _ _ (none-met _ _ h .1) .0))
 
-  interval-fits : T (intervalFits dt)
+  pub interval-fits : T (intervalFits dt)
   unfolding inputRefusal
   interval-fits = passed (intervalFits dt) interval (zero-lt-suc 3) (none-met _ _ (none-met _ _ (none-met _ _ h .1) .1) .0)
 

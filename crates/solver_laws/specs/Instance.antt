@@ -1,7 +1,7 @@
 -- A worked instance of theorems 2 and 3: the ready cell of graphite and lithium iron phosphate, 11 nodes, 298.15 K. A call of 2 s, which has two sub-steps, and one of 1 s on the
 -- cell that it leaves, at 3 A and at 4 A, with refused calls before, between and after them; and a second cell of another clock. Computed. Assumes nothing.
 use Prim.Native.Nat.{ℕ, _+_, _^_, _<_}
-use mathlib.Core.Path.{_≡_, refl, sym, ap, _∙_, subst}
+use mathlib.Core.Path.{_≡_, refl, ap, _∙_, subst}
 use mathlib.Core.Bool.{_&&_}
 use mathlib.Core.List.{List, [], _∷_, _++_}
 use native.Mathlib.Omega.{arith}
@@ -26,8 +26,6 @@ use Rattle.refusal.specs.Ranges.{loadFits, intervalFits, temperatureFits, clock
 use Rattle.electrode.specs.Sheet.{graphiteAnode, lfpCathode, specificArea, diffusivityAt}
 use Rattle.diffusion.specs.Premises.{Kept}
 use Rattle.diffusion.specs.Run.{Each, Both}
-use Rattle.diffusion.specs.CallLaws.{each-with}
-use Rattle.particle.specs.declared.ParticleDiffusion.{ParticleDiffusion}
 use Rattle.particle.specs.Checks.{fieldsFit}
 use Rattle.particle.specs.Particle.{spacing, stableStep}
 use Rattle.particle.specs.Calls.{fresh}
@@ -43,7 +41,7 @@ use Rattle.solver_laws.specs.Closure.{step-count, step-clock}
 use Rattle.solver_laws.specs.Build.{cell-passes, build-passes}
 use Rattle.solver_laws.specs.Acceptance.{step-accepted}
 use Rattle.solver_laws.specs.Demand.{Call, answer, taken, K, planFor, numbersAt, KeptAt, place, exactPlace, Inv, itself, stays, same-plan, solver-near, at-accepted, at-refused}
-use Rattle.solver_laws.specs.Ranking.{Twins, Ranked, same-numbers, solver-ranking}
+use Rattle.solver_laws.specs.Ranking.{Paired, Twins, Ranked, same-numbers, solver-ranking}
 
 -- ---- two cells
 -- the config's defaults
@@ -129,7 +127,7 @@ same-particle Electrode.anode = refl
 same-particle Electrode.cathode = refl
 
 later-made : Inv start later
-later-made = record { passes = later-passes; make = record { config = refl; sheet = λ e. ap (λ (p : ParticleDiffusion). p .params) (same-particle e); nodes = λ e. ap (λ (p : ParticleDiffusion). p .«n_nodes») (same-particle e) } }
+later-made = record { passes = later-passes; make = record { config = refl; sheet = λ e. rw (same-particle e); nodes = λ e. rw (same-particle e) } }
 
 -- the same but for the clock
 twins : Twins start later
@@ -142,7 +140,10 @@ dNeg = f64 0x3d25_f47e_09a9_f0ea
 abbrev dPos : Float
 dPos = f64 0x3d06_849b_86a1_2b9b
 
-exponents : (f64 0x40e1_1700_0000_0000 ⊘ f64 0x4020_a0c4_9ba5_e354 ⊗ (one ⊘ room ⊖ one ⊘ room) ≡ f64 0) × (f64 0x40d3_8800_0000_0000 ⊘ f64 0x4020_a0c4_9ba5_e354 ⊗ (one ⊘ room ⊖ one ⊘ room) ≡ f64 0)
+abbrev exponent : Float → Float
+exponent activation = activation ⊘ f64 0x4020_a0c4_9ba5_e354 ⊗ (one ⊘ room ⊖ one ⊘ room)
+
+exponents : (exponent (f64 0x40e1_1700_0000_0000) ≡ f64 0) × (exponent (f64 0x40d3_8800_0000_0000) ≡ f64 0)
 unfolding sub mul div ofBits
 exponents = (refl, refl)
 
@@ -241,12 +242,12 @@ diffusivityOf Electrode.cathode = dPos
 record Conditions (e : Electrode) : Type 0 where
   spaced : nat 0 ≤F val (spacing (particleAt e start))
   stable : nat 6 *F val (diffusivityOf e) *F val one ≤F val (spacing (particleAt e start)) *F val (spacing (particleAt e start))
-  gentle : nat 2 *F val (spacing (particleAt e start)) *F val (fluxMost e) ≤F val (diffusivityOf e) *F val (particleAt e start .params .«c_s_max»)
+  flux : nat 2 *F val (spacing (particleAt e start)) *F val (fluxMost e) ≤F val (diffusivityOf e) *F val (particleAt e start .params .«c_s_max»)
 
 conditions : (e : Electrode) → Conditions e
 unfolding fresh spacing graphiteAnode lfpCathode val whole _*F_ div round size ofInt ofBits
-conditions Electrode.anode = record { spaced = lit≤F tt; stable = lit≤F tt; gentle = lit≤F tt }
-conditions Electrode.cathode = record { spaced = lit≤F tt; stable = lit≤F tt; gentle = lit≤F tt }
+conditions Electrode.anode = record { spaced = lit≤F tt; stable = lit≤F tt; flux = lit≤F tt }
+conditions Electrode.cathode = record { spaced = lit≤F tt; stable = lit≤F tt; flux = lit≤F tt }
 
 diffusivity-is : (e : Electrode) (i dt q : Float) → diffusivityIn e (planBy i dt q) ≡ diffusivityOf e
 diffusivity-is Electrode.anode i dt q = refl
@@ -263,7 +264,7 @@ draw-kept e i dt k c m h =
     let j = ∣ val (fluxIn e (planFor start (draw i dt))) ∣ in
     let d = val (diffusivityOf e) in
     let M = val (particleAt e start .params .«c_s_max») in
-    let g : nat 2 *F w *F j ≤F d *F M = le-by (w ∷ j ∷ d ∷ M ∷ val (fluxMost e) ∷ []) 0 (num 2 ⊠ s .spaced ⊠ up f ⊞ up (s .gentle)) (search quote depth 24) tt in
+    let g : nat 2 *F w *F j ≤F d *F M = le-by (w ∷ j ∷ d ∷ M ∷ val (fluxMost e) ∷ []) 0 (num 2 ⊠ s .spaced ⊠ up f ⊞ up (s .flux)) (search quote depth 24) tt in
     record { stable = rw (D, t) (s .stable); gentle = rw D g }
 
 -- ---- a cell of that make, in the middle of a list
@@ -335,7 +336,12 @@ nothing-counted : (s : SpmSolver) → K s [] ≡ 0
 unfolding K
 nothing-counted s = refl
 
--- ---- 2 s and then 1 s from a cell r, refused calls anywhere
+-- ---- 2 s and then 1 s from a cell r: both accepted, three sub-steps
+record Drawn (i : Float) (r : SpmSolver) (qs : List Call) : Type 0 where
+  calls : taken r qs ≡ draw i two ∷ draw i one ∷ []
+  count : K r qs ≡ 3
+
+-- with refused calls anywhere
 module _ (i : Float) (h : T (loadFits i (f64 0x412e_8480_0000_0000))) (r : SpmSolver) (v : Inv start r) (f : T (finite (r .«time_s» ⊕ two))) (g : T (finite (r .«time_s» ⊕ two ⊕ one)))
     {before between after : List Call} (a : Each Refuses before) (b : Each Refuses between) (c : Each Refuses after) where
   abbrev last : List Call
@@ -365,23 +371,27 @@ module _ (i : Float) (h : T (loadFits i (f64 0x412e_8480_0000_0000))) (r : SpmSo
   final-made : Inv start final
   final-made = stays start then (draw i one) then-made
 
-  both-taken : taken r (before ++ draw i two ∷ rest) ≡ draw i two ∷ draw i one ∷ []
-  both-taken =
-      skip-taken a r v (draw i two ∷ rest) ∙ at-accepted Electrode.anode start r (draw i two) rest [] first-accepted .calls
-      ∙ ap (λ (l : List Call). draw i two ∷ l) (skip-taken b then then-made (draw i one ∷ last) ∙ at-accepted Electrode.anode start then (draw i one) last [] second-accepted .calls
-      ∙ ap (λ (l : List Call). draw i one ∷ l) (skip-taken c final final-made [] ∙ nothing-taken final))
+  drawn : Drawn i r (before ++ draw i two ∷ rest)
+  drawn =
+      let x = at-accepted Electrode.anode start r (draw i two) rest [] first-accepted in
+      let y = at-accepted Electrode.anode start then (draw i one) last [] second-accepted in
+      record {
+        calls =
+            skip-taken a r v (draw i two ∷ rest) ∙ x .calls
+            ∙ ap (λ (l : List Call). draw i two ∷ l) (skip-taken b then then-made (draw i one ∷ last) ∙ y .calls
+            ∙ ap (λ (l : List Call). draw i one ∷ l) (skip-taken c final final-made [] ∙ nothing-taken final));
+        count =
+            skip-count a r v (draw i two ∷ rest) ∙ x .count ∙ ap (λ (k : ℕ). k + K then rest) (draw-count r v i two 2 two-split h f)
+            ∙ ap (λ (k : ℕ). 2 + k) (skip-count b then then-made (draw i one ∷ last) ∙ y .count
+            ∙ ap (λ (k : ℕ). k + K final last) (draw-count then then-made i one 1 one-split h then-clock)
+            ∙ ap (λ (k : ℕ). 1 + k) (skip-count c final final-made [] ∙ nothing-counted final));
+      }
 
-  three-counted : K r (before ++ draw i two ∷ rest) ≡ 3
-  three-counted =
-      skip-count a r v (draw i two ∷ rest) ∙ at-accepted Electrode.anode start r (draw i two) rest [] first-accepted .count
-      ∙ ap (λ (k : ℕ). k + K then rest) (draw-count r v i two 2 two-split h f)
-      ∙ ap (λ (k : ℕ). 2 + k) (skip-count b then then-made (draw i one ∷ last) ∙ at-accepted Electrode.anode start then (draw i one) last [] second-accepted .count
-      ∙ ap (λ (k : ℕ). k + K final last) (draw-count then then-made i one 1 one-split h then-clock) ∙ ap (λ (k : ℕ). 1 + k) (skip-count c final final-made [] ∙ nothing-counted final))
-
-  both-kept : T (loadFits i four) → (e : Electrode) → Each (λ q. Kept (numbersAt e start q)) (taken r (before ++ draw i two ∷ rest))
-  both-kept s e =
-      let m = current-range i h in
-      rw both-taken (Each.more (draw-kept e i two 2 two-split m s) (Each.more (draw-kept e i one 1 one-split m s) Each.none))
+-- at most 4 A: the conditions hold
+drawn-kept : (e : Electrode) (i : Float) (r : SpmSolver) (qs : List Call) → Sized i (2 ^ 20) 1 → T (loadFits i four) → Inv start r → Drawn i r qs → KeptAt e r qs
+drawn-kept e i r qs m s v d =
+    let k : (dt : Float) (n : ℕ) → Split dt n → Kept (numbersAt e r (draw i dt)) = λ dt n c. rw (same-numbers e start r (draw i dt) (v .make)) (draw-kept e i dt n c m s) in
+    rw (d .calls) (Each.more (k two 2 two-split) (Each.more (k one 1 one-split) Each.none))
 
 -- ---- the two lists
 clocks : (T (finite (start .«time_s» ⊕ two)) × T (finite (start .«time_s» ⊕ two ⊕ one))) × (T (finite (later .«time_s» ⊕ two)) × T (finite (later .«time_s» ⊕ two ⊕ one)))
@@ -391,26 +401,33 @@ clocks = ((tt, tt), (tt, tt))
 start-made : Inv start start
 start-made = itself start start-passes
 
--- the calls that are accepted, and K = 3
+discharge-drawn : Drawn three start discharge
+discharge-drawn =
+    let n = Each.more refuses-no-current Each.none in
+    drawn three (currents-fit .0) start start-made (clocks .0 .0) (clocks .0 .1) n (Each.more refuses-too-long Each.none) n
+
+stronger-drawn : Drawn four later stronger
+stronger-drawn = drawn four (currents-fit .1) later later-made (clocks .1 .0) (clocks .1 .1) Each.none (Each.more refuses-no-current (Each.more refuses-too-long Each.none)) Each.none
+
+-- which calls are accepted, and how many sub-steps they have
 pub discharge-taken : taken start discharge ≡ draw three two ∷ draw three one ∷ []
-discharge-taken = both-taken three (currents-fit .0) start start-made (clocks .0 .0) (clocks .0 .1) (Each.more refuses-no-current Each.none) (Each.more refuses-too-long Each.none) (Each.more refuses-no-current Each.none)
+discharge-taken = discharge-drawn .calls
 
 pub discharge-counted : K start discharge ≡ 3
-discharge-counted = three-counted three (currents-fit .0) start start-made (clocks .0 .0) (clocks .0 .1) (Each.more refuses-no-current Each.none) (Each.more refuses-too-long Each.none) (Each.more refuses-no-current Each.none)
-
-discharge-kept : (e : Electrode) → KeptAt e start discharge
-discharge-kept e = both-kept three (currents-fit .0) start start-made (clocks .0 .0) (clocks .0 .1) (Each.more refuses-no-current Each.none) (Each.more refuses-too-long Each.none) (Each.more refuses-no-current Each.none) (small .0) e
+discharge-counted = discharge-drawn .count
 
 pub stronger-taken : taken later stronger ≡ draw four two ∷ draw four one ∷ []
-stronger-taken = both-taken four (currents-fit .1) later later-made (clocks .1 .0) (clocks .1 .1) Each.none (Each.more refuses-no-current (Each.more refuses-too-long Each.none)) Each.none
+stronger-taken = stronger-drawn .calls
+
+discharge-kept : (e : Electrode) → KeptAt e start discharge
+discharge-kept e = drawn-kept e three start discharge (current-range three (currents-fit .0)) (small .0) start-made discharge-drawn
 
 stronger-kept : (e : Electrode) → KeptAt e later stronger
-stronger-kept e =
-    let k = both-kept four (currents-fit .1) later later-made (clocks .1 .0) (clocks .1 .1) Each.none (Each.more refuses-no-current (Each.more refuses-too-long Each.none)) Each.none (small .1) e in
-    each-with (λ q x y. subst Kept (sym (same-numbers e start later q (later-made .make))) x) k k
+stronger-kept e = drawn-kept e four later stronger (current-range four (currents-fit .1)) (small .1) later-made stronger-drawn
 
 -- THEOREM 2: five calls, three refused
-pub discharge-near : (e : Electrode) (i : ℕ) → i < 11 → place e start discharge i -F exactPlace e start discharge i within nat 3 *F val (particleAt e start .params .«c_s_max») /F pow2 49
+pub discharge-near : (e : Electrode) (i : ℕ) → i < 11
+    → place e start discharge i -F exactPlace e start discharge i within nat 3 *F val (particleAt e start .params .«c_s_max») /F pow2 49
 discharge-near e i l = rw (← discharge-counted) (solver-near e start discharge start-passes (discharge-kept e) i (rw (nodes-are start start-passes e) l))
 
 -- THEOREM 3: two clocks, refused calls at other places of the two lists
@@ -418,7 +435,10 @@ more-current : T (le three four)
 unfolding le ofBits
 more-current = tt
 
+stronger-paired : (dt : Float) → Paired (draw three dt) (draw four dt)
+stronger-paired dt = record { dt = refl; temp = refl; current = more-current }
+
 pub discharge-ranked : Ranked start later discharge stronger
 discharge-ranked =
     solver-ranking start later discharge stronger start-passes later-passes twins discharge-kept stronger-kept
-    (rw (discharge-taken, stronger-taken) (Both.more (record { dt = refl; temp = refl; current = more-current }) (Both.more (record { dt = refl; temp = refl; current = more-current }) Both.none)))
+    (rw (discharge-taken, stronger-taken) (Both.more (stronger-paired two) (Both.more (stronger-paired one) Both.none)))

@@ -17,6 +17,8 @@
 --   Closure     `step-passes`: an accepted step leads to a cell that passes the checks again;  `step-refused`: a refused one leaves the cell as it is and reports no sub-steps;
 --               `step-count`, `step-clock`, `step-make`: what it reports, the clock, and that config, sheets and counts of nodes stay;  `Leads`: what a step answers, in two cases
 --   Acceptance  `step-accepted`: a step that neither its input nor its plan refuses is accepted, whatever the profiles, where the clock stays finite
+--   Clock       `step-number`: 8 never comes from a step of the cell;  `step-again`: a step that is accepted is accepted again by the cell that it leaves
+--   RunEnds     `run-ends`: a run is refused before its first row or not at all
 --   Electrodes  an electrode's particle and its numbers in a plan;  `sub-step-ranged`: each sub-step of an accepted call is in its ranges;  `count-most`: at most 4,096 of them;
 --               `cathode-flux`, `anode-flux`: with the current the flux grows at the cathode and falls at the anode
 --   Ordered     the exact scheme keeps the order of two profiles over two lists of calls
@@ -25,7 +27,9 @@ pub mod Closure
 pub mod Build
 pub mod Acceptance
 pub mod Demand
+pub mod Clock
 pub mod Ordered
 pub mod Ranking
 pub mod RunLists
+pub mod RunEnds
 pub mod Instance
