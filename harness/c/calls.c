@@ -292,7 +292,7 @@ static int near(double x, double y)
     return gap <= 1e-9 * (y < 0 ? -y : y);
 }
 
-static void ready_records(void)
+static void ready_sheets(void)
 {
     EXPECT(build(PJ_BUILD_GRAPHITE_ANODE, empty, 0, graphite, sizeof graphite) == PJ_REFUSAL_NONE);
     EXPECT(build(PJ_BUILD_LFP_CATHODE, empty, 0, lfp, sizeof lfp) == PJ_REFUSAL_NONE);
@@ -309,7 +309,10 @@ static void ready_records(void)
     EXPECT_F64(graphite, PJ_AT_SHEET_AREA, 0.0626);
     EXPECT_F64(graphite, PJ_AT_SHEET_E_A_DS, 35000.0);
     EXPECT_F64(graphite, PJ_AT_SHEET_K_BV, 2e-11);
+}
 
+static void ready_salt(void)
+{
     EXPECT(build(PJ_BUILD_LIPF6_EC_DMC, empty, 0, salt, sizeof salt) == PJ_REFUSAL_NONE);
     EXPECT_F64(salt, PJ_AT_SALT_D_E_REF, 7.5e-11);
     EXPECT_F64(salt, PJ_AT_SALT_KAPPA_REF, 1.1);
@@ -318,7 +321,10 @@ static void ready_records(void)
     EXPECT_F64(salt, PJ_AT_SALT_C_E_INIT, 1000.0);
     EXPECT_F64(salt, PJ_AT_SALT_E_A_DE, 17000.0);
     EXPECT_F64(salt, PJ_AT_SALT_E_A_KAPPA, 12000.0);
+}
 
+static void ready_dfn_params(void)
+{
     EXPECT(build(PJ_BUILD_NMC_GRAPHITE, empty, 0, params_nmc, sizeof params_nmc) == PJ_REFUSAL_NONE);
     EXPECT(build(PJ_BUILD_LFP_GRAPHITE, empty, 0, params_lfp, sizeof params_lfp) == PJ_REFUSAL_NONE);
     EXPECT_F64(params_nmc, PJ_AT_DFN_PARAMS_L_NEG, 88e-6);
@@ -355,7 +361,7 @@ static void ready_records(void)
     EXPECT_F64(params_lfp, PJ_AT_DFN_PARAMS_OCV_POS_COEFFS + 8, 3.45);
 }
 
-static void new_records(void)
+static void new_particles(void)
 {
     memcpy(new_particle + PJ_AT_NEW_PARTICLE_SHEET, graphite, sizeof graphite);
     pj_put_u64(new_particle, PJ_AT_NEW_PARTICLE_N_NODES, 5);
@@ -364,7 +370,10 @@ static void new_records(void)
     EXPECT_U64(particle, PJ_AT_PARTICLE_N_NODES, 5);
     EXPECT_F64(particle, PJ_AT_PARTICLE_C_S + 8 * 4, 0.80 * 31833.0);
     EXPECT_U64(particle, PJ_AT_PARTICLE_C_S + 8 * 5, 0);
+}
 
+static void new_cells(void)
+{
     pj_put_u64(config, PJ_AT_CONFIG_N_NODES, 11);
     pj_put_f64(config, PJ_AT_CONFIG_V_MIN, 3.0);
     pj_put_f64(config, PJ_AT_CONFIG_V_MAX, 4.2);
@@ -382,7 +391,10 @@ static void new_records(void)
     memcpy(new_cell + PJ_AT_NEW_CELL_CATHODE, lfp, sizeof lfp);
     EXPECT(build(PJ_BUILD_CELL, new_cell, sizeof new_cell, cell_of, sizeof cell_of) == PJ_REFUSAL_NONE);
     EXPECT(memcmp(cell_of, cell_lfp, sizeof cell_of) == 0);
+}
 
+static void new_electrolytes(void)
+{
     memcpy(regions + PJ_AT_REGIONS_SALT, salt, sizeof salt);
     pj_put_f64(regions, PJ_AT_REGIONS_L_NEG, 1e-4);
     pj_put_f64(regions, PJ_AT_REGIONS_L_SEP, 2.5e-5);
@@ -397,7 +409,10 @@ static void new_records(void)
     EXPECT(memcmp(electrolyte + PJ_AT_ELECTROLYTE_REGIONS, regions, sizeof regions) == 0);
     EXPECT_F64(electrolyte, PJ_AT_ELECTROLYTE_C_E + 8 * 2, 1000.0);
     EXPECT_U64(electrolyte, PJ_AT_ELECTROLYTE_C_E + 8 * 3, 0);
+}
 
+static void new_dfn_cells(void)
+{
     memcpy(new_dfn + PJ_AT_NEW_DFN_PARAMS, params_nmc, sizeof params_nmc);
     pj_put_u64(new_dfn, PJ_AT_NEW_DFN_CONFIG + PJ_AT_DFN_CONFIG_N_X_NEG, 3);
     pj_put_u64(new_dfn, PJ_AT_NEW_DFN_CONFIG + PJ_AT_DFN_CONFIG_N_X_POS, 1);
@@ -444,10 +459,10 @@ static void numbers(void)
 }
 
 /* The signs that the header states. */
-static void steps(void)
+static void single_particle_steps(void)
 {
-    static uint8_t moved[PJ_PARTICLE_BYTES], step[PJ_CELL_STEP_BYTES], salted[PJ_ELECTROLYTE_BYTES], dfn_step[PJ_DFN_STEP_BYTES];
-    const uint8_t *report = step + PJ_AT_CELL_REPORT, *dfn_report = dfn_step + PJ_AT_DFN_CELL_REPORT;
+    static uint8_t moved[PJ_PARTICLE_BYTES], step[PJ_CELL_STEP_BYTES];
+    const uint8_t *report = step + PJ_AT_CELL_REPORT;
     EXPECT(pj_particle_step(particle, sizeof particle, 1e-6, 1.0, T, moved, sizeof moved) == PJ_REFUSAL_NONE);
     EXPECT(pj_get_f64(moved, PJ_AT_PARTICLE_C_S + 8 * 4) > pj_get_f64(particle, PJ_AT_PARTICLE_C_S + 8 * 4));
 
@@ -464,7 +479,12 @@ static void steps(void)
     EXPECT_F64(step, PJ_AT_CELL_TIME_S, 10.0);
     EXPECT_U64(report, PJ_AT_REPORT_CUTOFF, 0);
     EXPECT(1 <= pj_get_u64(report, PJ_AT_REPORT_SUB_STEPS) && pj_get_u64(report, PJ_AT_REPORT_SUB_STEPS) <= 4096);
+}
 
+static void porous_steps(void)
+{
+    static uint8_t salted[PJ_ELECTROLYTE_BYTES], dfn_step[PJ_DFN_STEP_BYTES];
+    const uint8_t *dfn_report = dfn_step + PJ_AT_DFN_CELL_REPORT;
     EXPECT(pj_electrolyte_step(electrolyte, sizeof electrolyte, 1.0, -1.0, 0.01, T, salted, sizeof salted) == PJ_REFUSAL_NONE);
     EXPECT(pj_get_f64(salted, PJ_AT_ELECTROLYTE_C_E) > 1000.0 && pj_get_f64(salted, PJ_AT_ELECTROLYTE_C_E + 16) < 1000.0);
 
@@ -500,9 +520,8 @@ static uint64_t discharge(double max_time_s, size_t rows_len)
     EXPECT_U64(answer, (at) + PJ_AT_ENDING_HOW, how); \
     EXPECT_U64(answer, (at) + PJ_AT_ENDING_ROWS, count)
 
-static void endings(void)
+static void discharges(void)
 {
-    static uint8_t hot[PJ_NEW_DFN_BYTES], wild[PJ_DFN_CELL_BYTES];
     const double *last = rows + 155 * PJ_ROW_DOUBLES, *second = rows + PJ_ROW_DOUBLES;
     size_t i;
     EXPECT(discharge(36000.0, PJ_ROW_DOUBLES * ROWS) == PJ_REFUSAL_NONE);
@@ -527,11 +546,15 @@ static void endings(void)
     EXPECT(pj_simulate_discharge(cell_of, sizeof cell_of, 5.0, 10.0, T, 10.0, rows, PJ_ROW_DOUBLES * ROWS, run, sizeof run) == PJ_REFUSAL_NONE);
     EXPECT_ENDING(run, PJ_AT_CELL_ENDING, PJ_ENDED_TIME, 1);
     EXPECT(rows[PJ_CELL_ROW_TIME_S] == 20.0);
+}
 
+static void galvanostatic_runs(void)
+{
+    static uint8_t hot[PJ_NEW_DFN_BYTES], wild[PJ_DFN_CELL_BYTES];
     /* a run of a DFN cell looks at the cell's clock, after a first row */
-    EXPECT(pj_run_galvanostatic(dfn, sizeof dfn, 1.0, 1.0, 0.0, rows, PJ_ROW_DOUBLES * ROWS, dfn_run, sizeof dfn_run) == PJ_REFUSAL_NONE);
+    EXPECT(pj_run_galvanostatic(dfn, sizeof dfn, 2.0, 1.0, 0.0, rows, PJ_ROW_DOUBLES * ROWS, dfn_run, sizeof dfn_run) == PJ_REFUSAL_NONE);
     EXPECT_ENDING(dfn_run, PJ_AT_DFN_CELL_ENDING, PJ_ENDED_TIME, 1);
-    EXPECT(rows[PJ_DFN_ROW_VOLTAGE] == pj_get_f64(dfn_run, PJ_AT_DFN_CELL_VOLTAGE) && rows[PJ_DFN_ROW_CURRENT] == 1.0 && rows[PJ_DFN_ROW_TIME_S] == 1.0);
+    EXPECT(rows[PJ_DFN_ROW_VOLTAGE] == pj_get_f64(dfn_run, PJ_AT_DFN_CELL_VOLTAGE) && rows[PJ_DFN_ROW_CURRENT] == 2.0 && rows[PJ_DFN_ROW_TIME_S] == 1.0);
     EXPECT(rows[PJ_DFN_ROW_THETA_NEG] == pj_get_f64(dfn_run, PJ_AT_DFN_CELL_THETA_NEG_SURF));
     EXPECT(rows[PJ_DFN_ROW_THETA_POS] == pj_get_f64(dfn_run, PJ_AT_DFN_CELL_THETA_POS_SURF));
     EXPECT(rows[PJ_DFN_ROW_DELTA_C_E_MAX] > 0.0 && rows[PJ_DFN_ROW_CUTOFF] == 0.0 && rows[PJ_DFN_ROW_NEWTON_ITER] == 1.0);
@@ -602,11 +625,18 @@ int main(void)
     EXPECT(pj_number(PJ_SHEET_BYTES, empty, 0, 0, 0, run, PJ_NUMBER_BYTES) == PJ_REFUSAL_SHEET);
 #endif
     EXPECT(PJ_LAYOUT_VERSION == 1);
-    ready_records();
-    new_records();
+    ready_sheets();
+    ready_salt();
+    ready_dfn_params();
+    new_particles();
+    new_cells();
+    new_electrolytes();
+    new_dfn_cells();
     numbers();
-    steps();
-    endings();
+    single_particle_steps();
+    porous_steps();
+    discharges();
+    galvanostatic_runs();
     refusals();
     if (failures != 0) {
         fprintf(stderr, "calls.c: %d of %d do not hold\n", failures, checks);
