@@ -1,5 +1,5 @@
 #!/usr/bin/env python3
-"""A second writing of document 01's E, L, S, H and powf, and its comparison with the oracle's.
+"""A second writing of the stand-ins E, L, S, H and powf of docs/REFERENCE.md, and its comparison with the oracle's.
 
     standins.py PROGRAM
 
