@@ -87,7 +87,7 @@ module _ {C : Type 0} (n : ℕ) (new old : C) where
 met-number : (b : Bool) (n : ℕ) → B.met b n ≡ 0 → n ≡ 0
 unfolding B.met
 met-number true n h = h
-met-number false n h = let z : N.length ≡ 0 = h in absurd (omega (arith, z))
+met-number false n h = let z : N.badLength ≡ 0 = h in absurd (omega (arith, z))
 
 particle-build-returned : (s : List ℕ) (q : Build) (a : List ℕ) → particleBuilds .returned s q a ≡ B.met (particleBuilds .formed q a) (particleMade (q .image) .refusal)
 unfolding B.buildNumber buildLength builtLength newNumber

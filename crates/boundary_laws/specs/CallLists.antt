@@ -68,7 +68,7 @@ module _ {C Q : Type 0} {size : ℕ} {read : List ℕ → C} (b : Calls size rea
 
   -- ---- what is to be shown of a kind of call
   pub record Implements : Type 0 where
-    pub malformed : (s : List ℕ) (q : Q) (a : List ℕ) → length s ≡ size → b .formed q a ≡ false → (b .returned s q a ≡ N.length) × (b .handed s q a ≡ false)
+    pub malformed : (s : List ℕ) (q : Q) (a : List ℕ) → length s ≡ size → b .formed q a ≡ false → (b .returned s q a ≡ N.badLength) × (b .handed s q a ≡ false)
     pub returns : (s : List ℕ) (q : Q) (a : List ℕ) → length s ≡ size → b .formed q a ≡ true → b .returned s q a ≡ b .number (read s) q
     pub reads : (s : List ℕ) (q : Q) (a : List ℕ) → length s ≡ size → b .formed q a ≡ true → b .handed s q a ≡ true → read (take size (b .left s q a)) ≡ b .next (read s) q
     pub fills : (s : List ℕ) (q : Q) (a : List ℕ) → length s ≡ size → b .formed q a ≡ true → b .handed s q a ≡ true → length (take size (b .left s q a)) ≡ size
@@ -163,7 +163,7 @@ module _ {C Q Q' : Type 0} {size : ℕ} {read : List ℕ → C} (b : Calls size 
   pub both-implement : Implements b → Implements b' → Implements orElse
   both-implement f g = record { malformed = malformed; returns = returns; reads = reads; fills = fills; keeps = keeps }
     where
-      malformed : (s : List ℕ) (q : Q ⊎ Q') (a : List ℕ) → length s ≡ size → orElse .formed q a ≡ false → (orElse .returned s q a ≡ N.length) × (orElse .handed s q a ≡ false)
+      malformed : (s : List ℕ) (q : Q ⊎ Q') (a : List ℕ) → length s ≡ size → orElse .formed q a ≡ false → (orElse .returned s q a ≡ N.badLength) × (orElse .handed s q a ≡ false)
       malformed s (inl p) a l e = f .malformed s p a l e
       malformed s (inr p) a l e = g .malformed s p a l e
 
@@ -196,9 +196,9 @@ module _ {C Q : Type 0} {size : ℕ} {read : List ℕ → C} (b : Calls size rea
   pub plain-implements : Plain → Implements b
   plain-implements p = record { malformed = malformed; returns = returns; reads = reads; fills = fills; keeps = keeps }
     where
-      malformed : (s : List ℕ) (q : Q) (a : List ℕ) → length s ≡ size → b .formed q a ≡ false → (b .returned s q a ≡ N.length) × (b .handed s q a ≡ false)
+      malformed : (s : List ℕ) (q : Q) (a : List ℕ) → length s ≡ size → b .formed q a ≡ false → (b .returned s q a ≡ N.badLength) × (b .handed s q a ≡ false)
       malformed s q a l e =
-          let z : b .returned s q a ≡ N.length = unfold met in rw e at (p .returned-is s q a l) in
+          let z : b .returned s q a ≡ N.badLength = unfold met in rw e at (p .returned-is s q a l) in
           (z, p .handed-is s q a ∙ rw z)
 
       returns : (s : List ℕ) (q : Q) (a : List ℕ) → length s ≡ size → b .formed q a ≡ true → b .returned s q a ≡ b .number (read s) q

@@ -1,5 +1,5 @@
--- A worked instance of theorem 2 of a list that mixes builds, steps and runs, every premise met: from an image of zeros, a build with an answer a byte short, a build of graphite_lfp, the three
--- steps of `Instance`, and a run without room for a row. Assumes nothing.
+-- A worked instance of theorem 2 of a list that mixes builds, steps and runs, every premise met: from an image of zeros, a build with an answer a byte short, a build of graphite_lfp, the steps
+-- of `Instance`, and among them a run without room for a row. Assumes nothing.
 use Prim.Native.Nat.{ℕ, _<_}
 use mathlib.Core.Path.{_≡_, ap, _∙_}
 use mathlib.Core.Bool.{false}
@@ -16,7 +16,7 @@ use Rattle.refusal.specs.Numbers.{refusalUnless, none-met}
 use Rattle.solver.specs.declared.SpmSolver.{SpmSolver}
 use Rattle.solver_laws.specs.Electrodes.{Electrode}
 use Rattle.solver_laws.specs.Demand as SD
-use Rattle.solver_laws.specs.Instance.{start, start-passes, no-current, draw, discharge, discharge-counted, discharge-keeps}
+use Rattle.solver_laws.specs.Instance.{start, start-passes, two, three, draw, no-current, too-long, discharge, discharge-counted, discharge-kept}
 use Rattle.discharge_run.specs.declared.Feed.{Feed}
 use Rattle.discharge_run.specs.Discharge.{runRefusal}
 use Rattle.cell_images.specs.Images.{cellAt}
@@ -36,15 +36,19 @@ graphiteLfp = record { call = 8; least = lit≤ tt; most = lit≤ tt; image = co
 
 -- no place for a row
 abbrev noRoom : CellRun
-noRoom = record { current = draw .current; dt = draw .dt; temp = draw .temp; limit = one; places = 0 }
+noRoom = record { current = draw three one .current; dt = draw three one .dt; temp = draw three one .temp; limit = one; places = 0 }
+
+abbrev step : SD.Call → CCall (CellBuild ⊎ (SD.Call ⊎ CellRun))
+step q = record { call = inr (inl q); answer = zeros 1328 }
 
 abbrev pub mixedCalls : List (CCall (CellBuild ⊎ (SD.Call ⊎ CellRun)))
 mixedCalls =
-    record { call = inl graphiteLfp; answer = zeros 1255 } ∷ record { call = inl graphiteLfp; answer = zeros 1256 } ∷ record { call = inr (inl no-current); answer = zeros 1328 }
-    ∷ record { call = inr (inl draw); answer = zeros 1328 } ∷ record { call = inr (inr noRoom); answer = zeros 1272 } ∷ record { call = inr (inl no-current); answer = zeros 1328 } ∷ []
+    record { call = inl graphiteLfp; answer = zeros 1255 } ∷ record { call = inl graphiteLfp; answer = zeros 1256 } ∷ step no-current ∷ step (draw three two)
+    ∷ record { call = inr (inr noRoom); answer = zeros 1272 } ∷ step too-long ∷ step (draw three one) ∷ step no-current ∷ []
 
 abbrev mixedFormed : List (CellBuild ⊎ (SD.Call ⊎ CellRun))
-mixedFormed = inl graphiteLfp ∷ inr (inl no-current) ∷ inr (inl draw) ∷ inr (inr noRoom) ∷ inr (inl no-current) ∷ []
+mixedFormed =
+    inl graphiteLfp ∷ inr (inl no-current) ∷ inr (inl (draw three two)) ∷ inr (inr noRoom) ∷ inr (inl too-long) ∷ inr (inl (draw three one)) ∷ inr (inl no-current) ∷ []
 
 -- ---- the premises
 formed-calls : wellFormed cellCalls mixedCalls ≡ mixedFormed
@@ -52,9 +56,9 @@ unfolding wellFormed buildLength
 formed-calls = rw config-length
 
 -- a run without room is refused, and makes no step
-length-refused : refusalUnless false N.length ≡ 0 → ⊥
+length-refused : refusalUnless false N.badLength ≡ 0 → ⊥
 unfolding refusalUnless
-length-refused h = let z : N.length ≡ 0 = h in omega (arith, z)
+length-refused h = let z : N.badLength ≡ 0 = h in omega (arith, z)
 
 no-room-refused : (w : Feed) (c : SpmSolver) → runRefusal w c 0 ≡ 0 → ⊥
 unfolding runRefusal
@@ -71,9 +75,9 @@ since-build c = rw (build-accepted, no-turns)
 pub mixed-since : sinceBuildIn (zeros 1256) mixedCalls ≡ record { start = start; steps = discharge }
 mixed-since = ap (sinceBuild (record { start = cellAt (zeros 1256); steps = [] })) formed-calls ∙ since-build (cellAt (zeros 1256)) ∙ ap (λ (c : SpmSolver). record { start = c; steps = discharge }) build-is
 
--- ---- THEOREM 2 for the words of the last image, K = 1
+-- ---- THEOREM 2 for the words of the last image, K = 3
 pub mixed-image-near : (e : Electrode) (i : ℕ) → i < 11
-    → nodeAt e (imageAfter cellCalls (zeros 1256) mixedCalls) i -F SD.exactPlace e start discharge i within nat 1 *F mostAt e start /F pow2 49
+    → nodeAt e (imageAfter cellCalls (zeros 1256) mixedCalls) i -F SD.exactPlace e start discharge i within nat 3 *F mostAt e start /F pow2 49
 mixed-image-near e i l =
     rw (mixed-since, discharge-counted) at
-    (mixed-images-near e (zeros 1256) mixedCalls (zeros-length 1256) (rw mixed-since start-passes) (rw mixed-since (discharge-keeps e)) i (rw mixed-since l))
+    (mixed-images-near e (zeros 1256) mixedCalls (zeros-length 1256) (rw mixed-since start-passes) (rw mixed-since (discharge-kept e)) i (rw mixed-since l))

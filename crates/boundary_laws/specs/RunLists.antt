@@ -80,7 +80,7 @@ no-row refusal rows h = go (eqb refusal 0) (eqb rows 0) refl h
 
 module _ (s : List ℕ) (q : CellRun) (a : List ℕ) (l : length s ≡ 1256) where
   module _ (e : eqb (length a) 1272 ≡ false) where
-    cell-run-malformed : (cellRuns .returned s q a ≡ N.length) × (cellRuns .handed s q a ≡ false)
+    cell-run-malformed : (cellRuns .returned s q a ≡ N.badLength) × (cellRuns .handed s q a ≡ false)
     unfolding BR.dischargeNumber B.met
     cell-run-malformed = (rw (eq-eqb (length s) 1256 l, e), rw (eq-eqb (length s) 1256 l, e))
 
@@ -109,7 +109,7 @@ cell-runs-implement = record { malformed = cell-run-malformed; returns = cell-ru
 
 module _ (s : List ℕ) (q : DfnRun) (a : List ℕ) (l : length s ≡ 9008) where
   module _ (e : eqb (length a) 9024 ≡ false) where
-    dfn-run-malformed : (dfnRuns .returned s q a ≡ N.length) × (dfnRuns .handed s q a ≡ false)
+    dfn-run-malformed : (dfnRuns .returned s q a ≡ N.badLength) × (dfnRuns .handed s q a ≡ false)
     unfolding BR.galvanostaticNumber B.met
     dfn-run-malformed = (rw (eq-eqb (length s) 9008 l, e), rw (eq-eqb (length s) 9008 l, e))
 

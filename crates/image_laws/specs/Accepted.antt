@@ -41,8 +41,8 @@ accepted s a m n k new = go (eqb (length s) m) (eqb (length a) n) refl refl
   where
     go : (x y : Bool) → eqb (length s) m ≡ x → eqb (length a) n ≡ y → met (lengths (length s) m (length a) n) k ≡ 0 → Accepted s a m n k new
     go true true d e h = record { image = eqb-true _ _ d; answer = eqb-true _ _ e; number = rw (d, e) at h; writes = rw (d, e) }
-    go true false d e h = let z : N.length ≡ 0 = rw (d, e) at h in absurd (omega (arith, z))
-    go false y d e h = let z : N.length ≡ 0 = rw d at h in absurd (omega (arith, z))
+    go true false d e h = let z : N.badLength ≡ 0 = rw (d, e) at h in absurd (omega (arith, z))
+    go false y d e h = let z : N.badLength ≡ 0 = rw d at h in absurd (omega (arith, z))
 
 -- a run that returns 0 has written its answer
 pub no-refusal : (refusal rows : ℕ) → refusal ≡ 0 → T (told refusal rows)

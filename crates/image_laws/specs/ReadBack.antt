@@ -218,7 +218,7 @@ number-read-back call s x y a = go (B.listed call 19) (B.lengths (length s) (num
         let l : length a ≡ 8 = eqb-true (length a) 8 (second-true (eqb (length s) (numberLength call)) (eqb (length a) 8) e) in
         let z : numberSaid call s x y .number ≡ 0 = rw (d, e) at h in
         rw (d, e) (row-read-back 1 a 0 (numberSaid call s x y .values) (n .one z) (rw l (le-refl 8)) (n .places))
-    go true false d e h = let z : N.length ≡ 0 = rw (d, e) at h in absurd (omega (arith, z))
+    go true false d e h = let z : N.badLength ≡ 0 = rw (d, e) at h in absurd (omega (arith, z))
     go false v d e h = let z : N.sheet ≡ 0 = rw d at h in absurd (omega (arith, z))
 
 -- ---- the solution of linear equations, whose right side is a row of doubles

@@ -71,16 +71,16 @@ abbrev room : Float
 room = f64 0x4072_a266_6666_6666
 
 -- 2 s, and a day
-abbrev two : Float
+abbrev pub two : Float
 two = f64 0x4000_0000_0000_0000
 
 abbrev day : Float
 day = f64 0x40f5_1800_0000_0000
 
-abbrev three : Float
+abbrev pub three : Float
 three = f64 0x4008_0000_0000_0000
 
-abbrev four : Float
+abbrev pub four : Float
 four = f64 0x4010_0000_0000_0000
 
 abbrev pub draw : Float → Float → Call
@@ -102,7 +102,7 @@ abbrev pub stronger : List Call
 stronger = draw four two ∷ no-current ∷ too-long ∷ draw four one ∷ []
 
 -- ---- the cells pass the checks
-start-is : (ready config lfpCathode .refusal ≡ 0) × (ready config lfpCathode .solver ≡ start)
+pub start-is : (ready config lfpCathode .refusal ≡ 0) × (ready config lfpCathode .solver ≡ start)
 unfolding built buildRefusal freshSolver firstMet refusalUnless graphiteAnode lfpCathode le neg ofBits
 start-is = (refl, refl)
 
@@ -110,14 +110,14 @@ max-fits : T (fits binary64 (graphiteAnode .«c_s_max»)) × T (fits binary64 (l
 unfolding graphiteAnode lfpCathode fits ofBits
 max-fits = (tt, tt)
 
-start-passes : cellRefusal start ≡ 0
+pub start-passes : cellRefusal start ≡ 0
 start-passes = subst (λ (s : SpmSolver). cellRefusal s ≡ 0) (start-is .1) (build-passes config graphiteAnode lfpCathode (max-fits .0) (max-fits .1) (start-is .0))
 
 later-clock : T (clockFits (later .«time_s»))
 unfolding le ofBits
 later-clock = tt
 
-later-passes : cellRefusal later ≡ 0
+pub later-passes : cellRefusal later ≡ 0
 later-passes =
     let a = configFits config && fieldsFit (fresh graphiteAnode 11) && fieldsFit (fresh lfpCathode 11) in
     cell-passes later (grid-passed start start-passes) (and-i a (clockFits (later .«time_s»)) (and-l a (clockFits (f64 0)) (cell-met start start-passes)) later-clock)
@@ -130,7 +130,7 @@ later-made : Inv start later
 later-made = record { passes = later-passes; make = record { config = refl; sheet = λ e. rw (same-particle e); nodes = λ e. rw (same-particle e) } }
 
 -- the same but for the clock
-twins : Twins start later
+pub twins : Twins start later
 twins = record { config = refl; sheet = λ e. later-made .make .sheet e; nodes = λ e i l. rw (same-particle e) ≈F-refl }
 
 -- ---- the diffusivities: at the reference temperature the exponent is 0, and E(0) = 1
@@ -419,10 +419,10 @@ discharge-counted = discharge-drawn .count
 pub stronger-taken : taken later stronger ≡ draw four two ∷ draw four one ∷ []
 stronger-taken = stronger-drawn .calls
 
-discharge-kept : (e : Electrode) → KeptAt e start discharge
+pub discharge-kept : (e : Electrode) → KeptAt e start discharge
 discharge-kept e = drawn-kept e three start discharge (current-range three (currents-fit .0)) (small .0) start-made discharge-drawn
 
-stronger-kept : (e : Electrode) → KeptAt e later stronger
+pub stronger-kept : (e : Electrode) → KeptAt e later stronger
 stronger-kept e = drawn-kept e four later stronger (current-range four (currents-fit .1)) (small .1) later-made stronger-drawn
 
 -- THEOREM 2: five calls, three refused
@@ -435,7 +435,7 @@ more-current : T (le three four)
 unfolding le ofBits
 more-current = tt
 
-stronger-paired : (dt : Float) → Paired (draw three dt) (draw four dt)
+pub stronger-paired : (dt : Float) → Paired (draw three dt) (draw four dt)
 stronger-paired dt = record { dt = refl; temp = refl; current = more-current }
 
 pub discharge-ranked : Ranked start later discharge stronger
