@@ -132,8 +132,8 @@ enum pj_at_particle {
 
 enum pj_at_config {
     PJ_AT_CONFIG_N_NODES = 0,              /* whole, 3 to 64, of both particles */
-    PJ_AT_CONFIG_V_MIN = 8,                /* V, -10 to 10 */
-    PJ_AT_CONFIG_V_MAX = 16,               /* V, -10 to 10 */
+    PJ_AT_CONFIG_V_MIN = 8,                /* V, -10 to 10; the Rust's default 2.5, which no ready cell meets on discharge */
+    PJ_AT_CONFIG_V_MAX = 16,               /* V, -10 to 10; may be below v_min; the Rust's default 4.2 */
     PJ_AT_CONFIG_FARADAY = 24,             /* C/mol, 9e4 to 1e5; the Rust's default 96485 */
     PJ_AT_CONFIG_R_GAS = 32,               /* J/(mol K), 8 to 9; the Rust's default 8.314 */
     PJ_AT_CONFIG_R_ELECTROLYTE_OHM_M2 = 40 /* ohm m^2, 0 to 1; the Rust's default 2e-4 */
@@ -173,15 +173,15 @@ enum pj_at_salt {
 
 enum pj_at_regions {
     PJ_AT_REGIONS_SALT = 0,
-    PJ_AT_REGIONS_L_NEG = 56, /* m, 1e-7 to 1e-2; so the next two */
-    PJ_AT_REGIONS_L_SEP = 64,
-    PJ_AT_REGIONS_L_POS = 72,
-    PJ_AT_REGIONS_EPS_NEG = 80, /* porosity, 0.01 to 1; so the next two */
-    PJ_AT_REGIONS_EPS_SEP = 88,
-    PJ_AT_REGIONS_EPS_POS = 96,
-    PJ_AT_REGIONS_N_NEG = 104, /* whole, 1 to 32; so the next two */
-    PJ_AT_REGIONS_N_SEP = 112,
-    PJ_AT_REGIONS_N_POS = 120
+    PJ_AT_REGIONS_L_NEG = 56,   /* m, 1e-7 to 1e-2 */
+    PJ_AT_REGIONS_L_SEP = 64,   /* m, 1e-7 to 1e-2 */
+    PJ_AT_REGIONS_L_POS = 72,   /* m, 1e-7 to 1e-2 */
+    PJ_AT_REGIONS_EPS_NEG = 80, /* porosity, 0.01 to 1 */
+    PJ_AT_REGIONS_EPS_SEP = 88, /* porosity, 0.01 to 1 */
+    PJ_AT_REGIONS_EPS_POS = 96, /* porosity, 0.01 to 1 */
+    PJ_AT_REGIONS_N_NEG = 104,  /* whole, 1 to 32 */
+    PJ_AT_REGIONS_N_SEP = 112,  /* whole, 1 to 32 */
+    PJ_AT_REGIONS_N_POS = 120   /* whole, 1 to 32 */
 };
 
 enum pj_at_electrolyte {
@@ -190,9 +190,9 @@ enum pj_at_electrolyte {
 };
 
 enum pj_at_dfn_params {
-    PJ_AT_DFN_PARAMS_L_NEG = 0,            /* m, 1e-7 to 1e-2; so the next two */
-    PJ_AT_DFN_PARAMS_L_SEP = 8,
-    PJ_AT_DFN_PARAMS_L_POS = 16,
+    PJ_AT_DFN_PARAMS_L_NEG = 0,            /* m, 1e-7 to 1e-2 */
+    PJ_AT_DFN_PARAMS_L_SEP = 8,            /* m, 1e-7 to 1e-2 */
+    PJ_AT_DFN_PARAMS_L_POS = 16,           /* m, 1e-7 to 1e-2 */
     PJ_AT_DFN_PARAMS_AREA = 24,            /* m^2, 1e-6 to 1e4 */
     PJ_AT_DFN_PARAMS_R_NEG = 32,           /* m, 1e-8 to 1e-3 */
     PJ_AT_DFN_PARAMS_D_S_NEG_REF = 40,     /* m^2/s, 1e-20 to 1e-8 */
@@ -200,12 +200,12 @@ enum pj_at_dfn_params {
     PJ_AT_DFN_PARAMS_EPS_NEG = 56,         /* share of active material, 0.01 to 1 */
     PJ_AT_DFN_PARAMS_THETA_NEG_0 = 64,     /* 0 to 1 */
     PJ_AT_DFN_PARAMS_K_NEG = 72,           /* m^2.5/(mol^0.5 s), 1e-16 to 1 */
-    PJ_AT_DFN_PARAMS_R_POS = 80,           /* the same six of the cathode */
-    PJ_AT_DFN_PARAMS_D_S_POS_REF = 88,
-    PJ_AT_DFN_PARAMS_C_S_POS_MAX = 96,
-    PJ_AT_DFN_PARAMS_EPS_POS = 104,
-    PJ_AT_DFN_PARAMS_THETA_POS_0 = 112,
-    PJ_AT_DFN_PARAMS_K_POS = 120,
+    PJ_AT_DFN_PARAMS_R_POS = 80,           /* m, 1e-8 to 1e-3 */
+    PJ_AT_DFN_PARAMS_D_S_POS_REF = 88,     /* m^2/s, 1e-20 to 1e-8 */
+    PJ_AT_DFN_PARAMS_C_S_POS_MAX = 96,     /* mol/m^3, 1 to 131,072 */
+    PJ_AT_DFN_PARAMS_EPS_POS = 104,        /* share of active material, 0.01 to 1 */
+    PJ_AT_DFN_PARAMS_THETA_POS_0 = 112,    /* 0 to 1 */
+    PJ_AT_DFN_PARAMS_K_POS = 120,          /* m^2.5/(mol^0.5 s), 1e-16 to 1 */
     PJ_AT_DFN_PARAMS_C_E0 = 128,           /* mol/m^3, 1 to 1e5 */
     PJ_AT_DFN_PARAMS_D_E0 = 136,           /* m^2/s, 1e-16 to 1e-6 */
     PJ_AT_DFN_PARAMS_GAMMA_E = 144,        /* 0 to 1000 */
@@ -217,8 +217,8 @@ enum pj_at_dfn_params {
     PJ_AT_DFN_PARAMS_TEMPERATURE_K = 192,  /* K, 200 to 400, else PJ_REFUSAL_SHEET */
     PJ_AT_DFN_PARAMS_OCV_NEG_COUNT = 200,  /* whole, 0 to 16, else PJ_REFUSAL_SHEET */
     PJ_AT_DFN_PARAMS_OCV_NEG_COEFFS = 208, /* V, -1000 to 1000, 16 places, the highest power of theta first, the rest +0 */
-    PJ_AT_DFN_PARAMS_OCV_POS_COUNT = 336,  /* the same of the cathode */
-    PJ_AT_DFN_PARAMS_OCV_POS_COEFFS = 344
+    PJ_AT_DFN_PARAMS_OCV_POS_COUNT = 336,  /* whole, 0 to 16, else PJ_REFUSAL_SHEET */
+    PJ_AT_DFN_PARAMS_OCV_POS_COEFFS = 344  /* V, -1000 to 1000, 16 places, as the anode's */
 };
 
 enum pj_at_dfn_config {
@@ -233,14 +233,14 @@ enum pj_at_dfn_cell {
     PJ_AT_DFN_CELL_PARAMS = 0,
     PJ_AT_DFN_CELL_CONFIG = 472,
     PJ_AT_DFN_CELL_C_S_NEG = 512,  /* mol/m^3, 512 places, node ri of particle xi at xi * n_r + ri; 0 to c_s_neg_max, the rest +0 */
-    PJ_AT_DFN_CELL_C_S_POS = 4608, /* the same of the cathode */
+    PJ_AT_DFN_CELL_C_S_POS = 4608, /* mol/m^3, 512 places, likewise; 0 to c_s_pos_max, the rest +0 */
     PJ_AT_DFN_CELL_C_E = 8704,     /* mol/m^3, 33 places; the first n_x_neg + 1 + n_x_pos 1 to 1e5, the rest +0 */
     PJ_AT_DFN_CELL_TIME_S = 8968,  /* s, the cell's clock: finite, not below 0 */
     /* not checked, overwritten by a step; in a new cell the constant 3.8, then 0, theta_neg_0 and theta_pos_0 */
-    PJ_AT_DFN_CELL_VOLTAGE = 8976,
-    PJ_AT_DFN_CELL_CURRENT = 8984,
-    PJ_AT_DFN_CELL_THETA_NEG_SURF = 8992,
-    PJ_AT_DFN_CELL_THETA_POS_SURF = 9000,
+    PJ_AT_DFN_CELL_VOLTAGE = 8976,        /* V */
+    PJ_AT_DFN_CELL_CURRENT = 8984,        /* A */
+    PJ_AT_DFN_CELL_THETA_NEG_SURF = 8992, /* 0 to 1 */
+    PJ_AT_DFN_CELL_THETA_POS_SURF = 9000, /* 0 to 1 */
     /* after the cell, in the answers of pj_dfn_step and pj_run_galvanostatic */
     PJ_AT_DFN_CELL_REPORT = 9008,
     PJ_AT_DFN_CELL_ENDING = 9008
