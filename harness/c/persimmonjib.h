@@ -63,7 +63,7 @@ enum pj_refusal {
 enum pj_ending {
     PJ_ENDED_VOLTAGE = 1, /* the last row's voltage is below v_min or above v_max */
     PJ_ENDED_TIME = 2,    /* the time limit */
-    PJ_ENDED_FULL = 3,    /* every whole row is written: hand the answer's cell in again to go on */
+    PJ_ENDED_FULL = 3,    /* every whole row is written: hand the answer's cell in again, with the time that is left, to go on */
     PJ_ENDED_REFUSED = 4  /* a step was refused; the call returned its number */
 };
 
@@ -132,7 +132,7 @@ enum pj_at_particle {
 
 enum pj_at_config {
     PJ_AT_CONFIG_N_NODES = 0,              /* whole, 3 to 64, of both particles */
-    PJ_AT_CONFIG_V_MIN = 8,                /* V, -10 to 10; the Rust's default 2.5, which no ready cell meets on discharge */
+    PJ_AT_CONFIG_V_MIN = 8,                /* V, -10 to 10; the Rust's default 2.5; see the WARNINGS of pj_cell_step */
     PJ_AT_CONFIG_V_MAX = 16,               /* V, -10 to 10; may be below v_min; the Rust's default 4.2 */
     PJ_AT_CONFIG_FARADAY = 24,             /* C/mol, 9e4 to 1e5; the Rust's default 96485 */
     PJ_AT_CONFIG_R_GAS = 32,               /* J/(mol K), 8 to 9; the Rust's default 8.314 */
