@@ -294,6 +294,9 @@ static int near(double x, double y)
 
 static void ready_sheets(void)
 {
+    static const double numbers_lfp[9] = {2.5e-6, 1e-14, 22806.0, 0.20, 80e-6, 0.50, 0.0626, 20000.0, 2e-11};
+    static const double numbers_nmc[9] = {5e-6, 1.5e-14, 49000.0, 0.15, 90e-6, 0.55, 0.0626, 25000.0, 2e-11};
+    size_t i;
     EXPECT(build(PJ_BUILD_GRAPHITE_ANODE, empty, 0, graphite, sizeof graphite) == PJ_REFUSAL_NONE);
     EXPECT(build(PJ_BUILD_LFP_CATHODE, empty, 0, lfp, sizeof lfp) == PJ_REFUSAL_NONE);
     EXPECT(build(PJ_BUILD_NMC_CATHODE, empty, 0, nmc, sizeof nmc) == PJ_REFUSAL_NONE);
@@ -309,6 +312,10 @@ static void ready_sheets(void)
     EXPECT_F64(graphite, PJ_AT_SHEET_AREA, 0.0626);
     EXPECT_F64(graphite, PJ_AT_SHEET_E_A_DS, 35000.0);
     EXPECT_F64(graphite, PJ_AT_SHEET_K_BV, 2e-11);
+    for (i = 0; i < 9; i++) {
+        EXPECT_F64(lfp, PJ_AT_SHEET_R_PARTICLE + 8 * i, numbers_lfp[i]);
+        EXPECT_F64(nmc, PJ_AT_SHEET_R_PARTICLE + 8 * i, numbers_nmc[i]);
+    }
 }
 
 static void ready_salt(void)
@@ -358,6 +365,11 @@ static void ready_dfn_params(void)
     EXPECT_U64(params_nmc, PJ_AT_DFN_PARAMS_OCV_POS_COUNT, 2);
     EXPECT_F64(params_nmc, PJ_AT_DFN_PARAMS_OCV_POS_COEFFS, -2.0);
     EXPECT_F64(params_nmc, PJ_AT_DFN_PARAMS_OCV_POS_COEFFS + 8, 4.5);
+    EXPECT_F64(params_lfp, PJ_AT_DFN_PARAMS_D_S_NEG_REF, 2e-14);
+    EXPECT_F64(params_lfp, PJ_AT_DFN_PARAMS_D_S_POS_REF, 5.9e-18);
+    EXPECT_F64(params_lfp, PJ_AT_DFN_PARAMS_C_S_POS_MAX, 26390.0);
+    EXPECT_F64(params_lfp, PJ_AT_DFN_PARAMS_K_POS, 1e-6);
+    EXPECT_F64(params_lfp, PJ_AT_DFN_PARAMS_OCV_POS_COEFFS, -0.1);
     EXPECT_F64(params_lfp, PJ_AT_DFN_PARAMS_OCV_POS_COEFFS + 8, 3.45);
 }
 

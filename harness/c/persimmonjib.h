@@ -1,4 +1,4 @@
-/* The stepper for lithium cells, as C and C++ call it: libboundary.a, made by `rt staticlib boundary`.
+/* The stepper for lithium cells, as C (C99) and C++ (C++11) call it: libboundary.a, made by `rt staticlib boundary`.
  *
  * docs/REFERENCE.md has the formulas and an input for each refusal; docs/DIFFERENCES.md where the model is wrong.
  *
@@ -63,7 +63,7 @@ enum pj_refusal {
 enum pj_ending {
     PJ_ENDED_VOLTAGE = 1, /* the last row's voltage is below v_min or above v_max */
     PJ_ENDED_TIME = 2,    /* the time limit */
-    PJ_ENDED_FULL = 3,    /* every whole row is written: hand the answer's cell in again to go on */
+    PJ_ENDED_FULL = 3,    /* every whole row is written: hand the answer's cell in again, with the time that is left, to go on */
     PJ_ENDED_REFUSED = 4  /* a step was refused; the call returned its number */
 };
 
@@ -111,7 +111,9 @@ enum pj_places {
 
 enum pj_chemistry { PJ_CHEMISTRY_GRAPHITE = 1, PJ_CHEMISTRY_LFP = 2, PJ_CHEMISTRY_NMC = 3 };
 
-enum pj_at_sheet {
+/* One enumeration, so that the offset of a record and of a field in it may be added. */
+enum pj_at {
+    /* a sheet */
     PJ_AT_SHEET_CHEMISTRY = 0,   /* whole: PJ_CHEMISTRY_... */
     PJ_AT_SHEET_R_PARTICLE = 8,  /* m, 1e-8 to 1e-3 */
     PJ_AT_SHEET_D_S_REF = 16,    /* m^2/s at 298.15 K, 1e-20 to 1e-8 */
@@ -121,35 +123,31 @@ enum pj_at_sheet {
     PJ_AT_SHEET_EPSILON_S = 48,  /* share of active material, 0.01 to 1 */
     PJ_AT_SHEET_AREA = 56,       /* m^2, 1e-6 to 1e4; a cell uses its anode's */
     PJ_AT_SHEET_E_A_DS = 64,     /* J/mol, 0 to 1e5 */
-    PJ_AT_SHEET_K_BV = 72        /* m^2.5/(mol^0.5 s), 1e-16 to 1 */
-};
+    PJ_AT_SHEET_K_BV = 72,       /* m^2.5/(mol^0.5 s), 1e-16 to 1 */
 
-enum pj_at_particle {
+    /* a particle */
     PJ_AT_PARTICLE_SHEET = 0,
     PJ_AT_PARTICLE_N_NODES = 80, /* whole, 3 to 64; take an odd one: the averages of an even one are wrong */
-    PJ_AT_PARTICLE_C_S = 88      /* mol/m^3, 64 places from centre to surface; the first n_nodes 0 to c_s_max, the rest +0 */
-};
+    PJ_AT_PARTICLE_C_S = 88,     /* mol/m^3, 64 places from centre to surface; the first n_nodes 0 to c_s_max, the rest +0 */
 
-enum pj_at_config {
-    PJ_AT_CONFIG_N_NODES = 0,              /* whole, 3 to 64, of both particles */
-    PJ_AT_CONFIG_V_MIN = 8,                /* V, -10 to 10 */
-    PJ_AT_CONFIG_V_MAX = 16,               /* V, -10 to 10 */
-    PJ_AT_CONFIG_FARADAY = 24,             /* C/mol, 9e4 to 1e5; the Rust's default 96485 */
-    PJ_AT_CONFIG_R_GAS = 32,               /* J/(mol K), 8 to 9; the Rust's default 8.314 */
-    PJ_AT_CONFIG_R_ELECTROLYTE_OHM_M2 = 40 /* ohm m^2, 0 to 1; the Rust's default 2e-4 */
-};
+    /* the config of a single-particle cell */
+    PJ_AT_CONFIG_N_NODES = 0,               /* whole, 3 to 64, of both particles */
+    PJ_AT_CONFIG_V_MIN = 8,                 /* V, -10 to 10; the Rust's default 2.5; see the WARNINGS of pj_cell_step */
+    PJ_AT_CONFIG_V_MAX = 16,                /* V, -10 to 10; may be below v_min; the Rust's default 4.2 */
+    PJ_AT_CONFIG_FARADAY = 24,              /* C/mol, 9e4 to 1e5; the Rust's default 96485 */
+    PJ_AT_CONFIG_R_GAS = 32,                /* J/(mol K), 8 to 9; the Rust's default 8.314 */
+    PJ_AT_CONFIG_R_ELECTROLYTE_OHM_M2 = 40, /* ohm m^2, 0 to 1; the Rust's default 2e-4 */
 
-enum pj_at_cell {
+    /* a single-particle cell */
     PJ_AT_CELL_CONFIG = 0,
     PJ_AT_CELL_ANODE = 48,    /* particle; its n_nodes is the config's, else PJ_REFUSAL_GRID */
     PJ_AT_CELL_CATHODE = 648, /* particle; likewise */
     PJ_AT_CELL_TIME_S = 1248, /* s, the cell's clock: finite, not below 0 */
     /* after the cell, in the answers of pj_cell_step and pj_simulate_discharge */
     PJ_AT_CELL_REPORT = 1256,
-    PJ_AT_CELL_ENDING = 1256
-};
+    PJ_AT_CELL_ENDING = 1256,
 
-enum pj_at_report {
+    /* a step's report */
     PJ_AT_REPORT_VOLTAGE = 0,        /* V */
     PJ_AT_REPORT_CURRENT = 8,        /* A, as given: discharge above 0 */
     PJ_AT_REPORT_THETA_NEG = 16,     /* anode's surface, 0 to 1 */
@@ -158,41 +156,37 @@ enum pj_at_report {
     PJ_AT_REPORT_THETA_POS_AVG = 40, /* cathode's average */
     PJ_AT_REPORT_TIME_S = 48,        /* s, the cell's clock after the step */
     PJ_AT_REPORT_CUTOFF = 56,        /* whole: 1 where the voltage is below v_min or above v_max, else 0 */
-    PJ_AT_REPORT_SUB_STEPS = 64      /* whole, 1 to 4096 */
-};
+    PJ_AT_REPORT_SUB_STEPS = 64,     /* whole, 1 to 4096 */
 
-enum pj_at_salt {
+    /* electrolyte parameters */
     PJ_AT_SALT_D_E_REF = 0,    /* m^2/s, 1e-16 to 1e-6 */
     PJ_AT_SALT_KAPPA_REF = 8,  /* S/m, 1e-6 to 100 */
     PJ_AT_SALT_T_PLUS = 16,    /* 0 to 1 */
     PJ_AT_SALT_BRUGGEMAN = 24, /* 0 to 4 */
     PJ_AT_SALT_C_E_INIT = 32,  /* mol/m^3, 1 to 1e5 */
     PJ_AT_SALT_E_A_DE = 40,    /* J/mol, 0 to 1e5 */
-    PJ_AT_SALT_E_A_KAPPA = 48  /* J/mol, 0 to 1e5 */
-};
+    PJ_AT_SALT_E_A_KAPPA = 48, /* J/mol, 0 to 1e5 */
 
-enum pj_at_regions {
+    /* the regions of an electrolyte */
     PJ_AT_REGIONS_SALT = 0,
-    PJ_AT_REGIONS_L_NEG = 56, /* m, 1e-7 to 1e-2; so the next two */
-    PJ_AT_REGIONS_L_SEP = 64,
-    PJ_AT_REGIONS_L_POS = 72,
-    PJ_AT_REGIONS_EPS_NEG = 80, /* porosity, 0.01 to 1; so the next two */
-    PJ_AT_REGIONS_EPS_SEP = 88,
-    PJ_AT_REGIONS_EPS_POS = 96,
-    PJ_AT_REGIONS_N_NEG = 104, /* whole, 1 to 32; so the next two */
-    PJ_AT_REGIONS_N_SEP = 112,
-    PJ_AT_REGIONS_N_POS = 120
-};
+    PJ_AT_REGIONS_L_NEG = 56,   /* m, 1e-7 to 1e-2 */
+    PJ_AT_REGIONS_L_SEP = 64,   /* m, 1e-7 to 1e-2 */
+    PJ_AT_REGIONS_L_POS = 72,   /* m, 1e-7 to 1e-2 */
+    PJ_AT_REGIONS_EPS_NEG = 80, /* porosity, 0.01 to 1 */
+    PJ_AT_REGIONS_EPS_SEP = 88, /* porosity, 0.01 to 1 */
+    PJ_AT_REGIONS_EPS_POS = 96, /* porosity, 0.01 to 1 */
+    PJ_AT_REGIONS_N_NEG = 104,  /* whole, 1 to 32 */
+    PJ_AT_REGIONS_N_SEP = 112,  /* whole, 1 to 32 */
+    PJ_AT_REGIONS_N_POS = 120,  /* whole, 1 to 32 */
 
-enum pj_at_electrolyte {
+    /* an electrolyte */
     PJ_AT_ELECTROLYTE_REGIONS = 0,
-    PJ_AT_ELECTROLYTE_C_E = 128 /* mol/m^3, 96 places; the first n_neg + n_sep + n_pos at least 1e-10, the rest +0 */
-};
+    PJ_AT_ELECTROLYTE_C_E = 128, /* mol/m^3, 96 places; the first n_neg + n_sep + n_pos at least 1e-10, the rest +0 */
 
-enum pj_at_dfn_params {
-    PJ_AT_DFN_PARAMS_L_NEG = 0,            /* m, 1e-7 to 1e-2; so the next two */
-    PJ_AT_DFN_PARAMS_L_SEP = 8,
-    PJ_AT_DFN_PARAMS_L_POS = 16,
+    /* DFN parameters */
+    PJ_AT_DFN_PARAMS_L_NEG = 0,            /* m, 1e-7 to 1e-2 */
+    PJ_AT_DFN_PARAMS_L_SEP = 8,            /* m, 1e-7 to 1e-2 */
+    PJ_AT_DFN_PARAMS_L_POS = 16,           /* m, 1e-7 to 1e-2 */
     PJ_AT_DFN_PARAMS_AREA = 24,            /* m^2, 1e-6 to 1e4 */
     PJ_AT_DFN_PARAMS_R_NEG = 32,           /* m, 1e-8 to 1e-3 */
     PJ_AT_DFN_PARAMS_D_S_NEG_REF = 40,     /* m^2/s, 1e-20 to 1e-8 */
@@ -200,12 +194,12 @@ enum pj_at_dfn_params {
     PJ_AT_DFN_PARAMS_EPS_NEG = 56,         /* share of active material, 0.01 to 1 */
     PJ_AT_DFN_PARAMS_THETA_NEG_0 = 64,     /* 0 to 1 */
     PJ_AT_DFN_PARAMS_K_NEG = 72,           /* m^2.5/(mol^0.5 s), 1e-16 to 1 */
-    PJ_AT_DFN_PARAMS_R_POS = 80,           /* the same six of the cathode */
-    PJ_AT_DFN_PARAMS_D_S_POS_REF = 88,
-    PJ_AT_DFN_PARAMS_C_S_POS_MAX = 96,
-    PJ_AT_DFN_PARAMS_EPS_POS = 104,
-    PJ_AT_DFN_PARAMS_THETA_POS_0 = 112,
-    PJ_AT_DFN_PARAMS_K_POS = 120,
+    PJ_AT_DFN_PARAMS_R_POS = 80,           /* m, 1e-8 to 1e-3 */
+    PJ_AT_DFN_PARAMS_D_S_POS_REF = 88,     /* m^2/s, 1e-20 to 1e-8 */
+    PJ_AT_DFN_PARAMS_C_S_POS_MAX = 96,     /* mol/m^3, 1 to 131,072 */
+    PJ_AT_DFN_PARAMS_EPS_POS = 104,        /* share of active material, 0.01 to 1 */
+    PJ_AT_DFN_PARAMS_THETA_POS_0 = 112,    /* 0 to 1 */
+    PJ_AT_DFN_PARAMS_K_POS = 120,          /* m^2.5/(mol^0.5 s), 1e-16 to 1 */
     PJ_AT_DFN_PARAMS_C_E0 = 128,           /* mol/m^3, 1 to 1e5 */
     PJ_AT_DFN_PARAMS_D_E0 = 136,           /* m^2/s, 1e-16 to 1e-6 */
     PJ_AT_DFN_PARAMS_GAMMA_E = 144,        /* 0 to 1000 */
@@ -217,36 +211,33 @@ enum pj_at_dfn_params {
     PJ_AT_DFN_PARAMS_TEMPERATURE_K = 192,  /* K, 200 to 400, else PJ_REFUSAL_SHEET */
     PJ_AT_DFN_PARAMS_OCV_NEG_COUNT = 200,  /* whole, 0 to 16, else PJ_REFUSAL_SHEET */
     PJ_AT_DFN_PARAMS_OCV_NEG_COEFFS = 208, /* V, -1000 to 1000, 16 places, the highest power of theta first, the rest +0 */
-    PJ_AT_DFN_PARAMS_OCV_POS_COUNT = 336,  /* the same of the cathode */
-    PJ_AT_DFN_PARAMS_OCV_POS_COEFFS = 344
-};
+    PJ_AT_DFN_PARAMS_OCV_POS_COUNT = 336,  /* whole, 0 to 16, else PJ_REFUSAL_SHEET */
+    PJ_AT_DFN_PARAMS_OCV_POS_COEFFS = 344, /* V, -1000 to 1000, 16 places, as the anode's */
 
-enum pj_at_dfn_config {
+    /* a DFN config */
     PJ_AT_DFN_CONFIG_N_X_NEG = 0, /* whole, 1 to 16 */
     PJ_AT_DFN_CONFIG_N_X_POS = 8, /* whole, 1 to 16 */
     PJ_AT_DFN_CONFIG_N_R = 16,    /* whole, 2 to 32 */
     PJ_AT_DFN_CONFIG_V_MIN = 24,  /* V, -10 to 10 */
-    PJ_AT_DFN_CONFIG_V_MAX = 32   /* V, -10 to 10 */
-};
+    PJ_AT_DFN_CONFIG_V_MAX = 32,  /* V, -10 to 10 */
 
-enum pj_at_dfn_cell {
+    /* a DFN cell */
     PJ_AT_DFN_CELL_PARAMS = 0,
     PJ_AT_DFN_CELL_CONFIG = 472,
     PJ_AT_DFN_CELL_C_S_NEG = 512,  /* mol/m^3, 512 places, node ri of particle xi at xi * n_r + ri; 0 to c_s_neg_max, the rest +0 */
-    PJ_AT_DFN_CELL_C_S_POS = 4608, /* the same of the cathode */
+    PJ_AT_DFN_CELL_C_S_POS = 4608, /* mol/m^3, 512 places, likewise; 0 to c_s_pos_max, the rest +0 */
     PJ_AT_DFN_CELL_C_E = 8704,     /* mol/m^3, 33 places; the first n_x_neg + 1 + n_x_pos 1 to 1e5, the rest +0 */
     PJ_AT_DFN_CELL_TIME_S = 8968,  /* s, the cell's clock: finite, not below 0 */
     /* not checked, overwritten by a step; in a new cell the constant 3.8, then 0, theta_neg_0 and theta_pos_0 */
-    PJ_AT_DFN_CELL_VOLTAGE = 8976,
-    PJ_AT_DFN_CELL_CURRENT = 8984,
-    PJ_AT_DFN_CELL_THETA_NEG_SURF = 8992,
-    PJ_AT_DFN_CELL_THETA_POS_SURF = 9000,
+    PJ_AT_DFN_CELL_VOLTAGE = 8976,        /* V */
+    PJ_AT_DFN_CELL_CURRENT = 8984,        /* A */
+    PJ_AT_DFN_CELL_THETA_NEG_SURF = 8992, /* 0 to 1 */
+    PJ_AT_DFN_CELL_THETA_POS_SURF = 9000, /* 0 to 1 */
     /* after the cell, in the answers of pj_dfn_step and pj_run_galvanostatic */
     PJ_AT_DFN_CELL_REPORT = 9008,
-    PJ_AT_DFN_CELL_ENDING = 9008
-};
+    PJ_AT_DFN_CELL_ENDING = 9008,
 
-enum pj_at_dfn_report {
+    /* a DFN report */
     PJ_AT_DFN_REPORT_VOLTAGE = 0,        /* V, clamped to 0 to 5 */
     PJ_AT_DFN_REPORT_CURRENT = 8,        /* A, as given */
     PJ_AT_DFN_REPORT_TIME_S = 16,        /* s, the cell's clock after the step */
@@ -254,16 +245,13 @@ enum pj_at_dfn_report {
     PJ_AT_DFN_REPORT_THETA_POS = 32,     /* cathode's surfaces, their mean */
     PJ_AT_DFN_REPORT_DELTA_C_E_MAX = 40, /* mol/m^3, the largest change of a place of c_e */
     PJ_AT_DFN_REPORT_CUTOFF = 48,        /* whole: 1 or 0, as above */
-    PJ_AT_DFN_REPORT_NEWTON_ITER = 56    /* whole, always 1 */
-};
+    PJ_AT_DFN_REPORT_NEWTON_ITER = 56,   /* whole, always 1 */
 
-enum pj_at_ending {
-    PJ_AT_ENDING_HOW = 0, /* whole: PJ_ENDED_... */
-    PJ_AT_ENDING_ROWS = 8 /* whole: how many rows were written */
-};
+    /* an ending */
+    PJ_AT_ENDING_HOW = 0,  /* whole: PJ_ENDED_... */
+    PJ_AT_ENDING_ROWS = 8, /* whole: how many rows were written */
 
-/* The joined records that a build takes. */
-enum pj_at_new {
+    /* the joined records that a build takes */
     PJ_AT_NEW_PARTICLE_SHEET = 0,
     PJ_AT_NEW_PARTICLE_N_NODES = 80,
     PJ_AT_NEW_CELL_CONFIG = 0,
