@@ -1,96 +1,73 @@
-/* How firmware calls the stepper: builds the ready cell graphite_lfp with 11 nodes, discharges it for an hour at 3 A into
+/* How firmware calls the stepper: builds the ready cell graphite_nmc with 11 nodes, discharges it at 5 A down to 3 V into
  * a lent array, prints some of the rows and how the run ended, and shows a refusal. harness/c/run compiles it and
  * compares what it prints with expected.txt, which is the oracle's. */
 #include "persimmonjib.h"
 
 #include <inttypes.h>
 #include <stdio.h>
-#include <string.h>
 
-enum { ROW = 8, ROWS = 360, SHOWN = 30 };
+enum { ROWS = 360, SHOWN = 15 };
 
 static const char *const endings[] = {"", "voltage", "time", "full", "refused"};
 static const char *const refusals[] = {"none", "grid", "sheet", "load", "interval", "temperature",
                                        "diffusivity", "sub-steps", "not finite", "singular", "length"};
 
-/* A record's words, the lowest byte first, on a machine of either byte order. */
-static void put_word(uint8_t *image, size_t at, uint64_t word)
+static const char *refusal_word(uint64_t refusal)
 {
-    for (size_t i = 0; i < 8; i++)
-        image[8 * at + i] = (uint8_t)(word >> (8 * i));
-}
-
-static uint64_t get_word(const uint8_t *image, size_t at)
-{
-    uint64_t word = 0;
-    for (size_t i = 0; i < 8; i++)
-        word |= (uint64_t)image[8 * at + i] << (8 * i);
-    return word;
-}
-
-static uint64_t bits(double x)
-{
-    uint64_t word;
-    memcpy(&word, &x, sizeof word);
-    return word;
-}
-
-static double number(uint64_t word)
-{
-    double x;
-    memcpy(&x, &word, sizeof x);
-    return x;
+    return refusal <= PJ_REFUSAL_LENGTH ? refusals[refusal] : "?";
 }
 
 static int refused(const char *what, uint64_t refusal)
 {
-    fprintf(stderr, "%s: refused, %" PRIu64 " (%s)\n", what, refusal, refusal <= 10 ? refusals[refusal] : "?");
+    fprintf(stderr, "%s: refused, %" PRIu64 " (%s)\n", what, refusal, refusal_word(refusal));
     return 1;
 }
 
 int main(void)
 {
-    static uint8_t config[PJ_CONFIG], cell[PJ_CELL], answer[PJ_CELL + PJ_ENDING], soc[8];
-    static double rows[ROW * ROWS];
-    const double v_min = 2.5, v_max = 4.2, faraday = 96485.0, r_gas = 8.314, r_electrolyte_ohm_m2 = 2e-4;
-    const double current_a = 3.0, dt = 10.0, temp_k = 298.15, max_time_s = 3600.0;
+    static uint8_t config[PJ_CONFIG_BYTES], cell[PJ_CELL_BYTES], answer[PJ_CELL_RUN_BYTES], soc[PJ_NUMBER_BYTES];
+    static double rows[PJ_ROW_DOUBLES * ROWS];
+    const double current_a = 5.0, dt = 10.0, temp_k = 298.15, max_time_s = 3600.0;
 
-    put_word(config, 0, 11);
-    put_word(config, 1, bits(v_min));
-    put_word(config, 2, bits(v_max));
-    put_word(config, 3, bits(faraday));
-    put_word(config, 4, bits(r_gas));
-    put_word(config, 5, bits(r_electrolyte_ohm_m2));
-    uint64_t refusal = pj_build(PJ_CELL_LFP, config, sizeof config, cell, sizeof cell);
-    if (refusal != 0)
-        return refused("graphite_lfp", refusal);
+    pj_put_u64(config, PJ_AT_CONFIG_N_NODES, 11);
+    pj_put_f64(config, PJ_AT_CONFIG_V_MIN, 3.0);
+    pj_put_f64(config, PJ_AT_CONFIG_V_MAX, 4.2);
+    pj_put_f64(config, PJ_AT_CONFIG_FARADAY, 96485.0);
+    pj_put_f64(config, PJ_AT_CONFIG_R_GAS, 8.314);
+    pj_put_f64(config, PJ_AT_CONFIG_R_ELECTROLYTE_OHM_M2, 2e-4);
+    uint64_t refusal = pj_build(PJ_BUILD_CELL_NMC, config, sizeof config, cell, sizeof cell);
+    if (refusal != PJ_REFUSAL_NONE)
+        return refused("graphite_nmc", refusal);
 
-    refusal = pj_simulate_discharge(cell, sizeof cell, current_a, dt, temp_k, max_time_s, rows, ROW * ROWS, answer, sizeof answer);
-    if (refusal != 0)
-        return refused("simulate_discharge", refusal);
-    uint64_t ending = get_word(answer, PJ_CELL / 8), count = get_word(answer, PJ_CELL / 8 + 1);
-    if (ending < 1 || 4 < ending || ROWS < count)
-        return refused("the ending", ending);
+    /* rows_len counts doubles. The answer is new, so its ending is 0 unless the run writes it. */
+    refusal = pj_simulate_discharge(cell, sizeof cell, current_a, dt, temp_k, max_time_s, rows, PJ_ROW_DOUBLES * ROWS, answer, sizeof answer);
+    uint64_t ending = pj_get_u64(answer, PJ_AT_CELL_ENDING + PJ_AT_ENDING_HOW);
+    uint64_t count = pj_get_u64(answer, PJ_AT_CELL_ENDING + PJ_AT_ENDING_ROWS);
+    if (refusal != PJ_REFUSAL_NONE)
+        return refused(ending == PJ_ENDED_REFUSED ? "a later step" : "simulate_discharge", refusal);
 
-    printf("graphite_lfp, 11 nodes, %.1f A, %.1f s a step, %.2f K\n", current_a, dt, temp_k);
+    printf("graphite_nmc, 11 nodes, %.1f A, %.1f s a step, %.2f K\n", current_a, dt, temp_k);
     printf("  time_s   voltage          its bits  theta_neg  theta_pos\n");
     for (uint64_t i = 0; i < count; i++) {
-        const double *row = rows + ROW * i;
+        const double *row = rows + PJ_ROW_DOUBLES * i;
+        uint64_t bits;
+        memcpy(&bits, &row[PJ_CELL_ROW_VOLTAGE], sizeof bits);
         if ((i + 1) % SHOWN == 0 || i + 1 == count)
-            printf("%8.1f  %8.6f  %016" PRIX64 "  %9.7f  %9.7f\n", row[6], row[0], bits(row[0]), row[2], row[3]);
+            printf("%8.1f  %8.6f  %016" PRIX64 "  %9.7f  %9.7f\n", row[PJ_CELL_ROW_TIME_S], row[PJ_CELL_ROW_VOLTAGE], bits,
+                   row[PJ_CELL_ROW_THETA_NEG], row[PJ_CELL_ROW_THETA_POS]);
     }
     printf("ended by %s after %" PRIu64 " rows\n", endings[ending], count);
 
-    /* The answer starts with the cell after the run: it is handed in again. */
-    refusal = pj_number(PJ_SOC_ESTIMATE, answer, PJ_CELL, 0.0, 0.0, soc, sizeof soc);
-    if (refusal != 0)
+    /* The answer begins with the cell after the run: it is handed in again. */
+    refusal = pj_number(PJ_NUMBER_SOC_ESTIMATE, answer, PJ_CELL_BYTES, 0.0, 0.0, soc, sizeof soc);
+    if (refusal != PJ_REFUSAL_NONE)
         return refused("soc_estimate", refusal);
-    printf("state of charge %.6f\n", number(get_word(soc, 0)));
+    printf("state of charge %.6f\n", pj_get_f64(soc, 0));
 
     /* A refusal is a number, and nothing changes. */
-    static uint8_t step[PJ_CELL + PJ_REPORT], kept[PJ_CELL + PJ_REPORT];
-    refusal = pj_cell_step(answer, PJ_CELL, current_a, dt, 500.0, step, sizeof step);
-    printf("a step at 500 K is refused: %" PRIu64 ", %s; the answer is %s\n", refusal, refusal <= 10 ? refusals[refusal] : "?",
+    static uint8_t step[PJ_CELL_STEP_BYTES], kept[PJ_CELL_STEP_BYTES];
+    refusal = pj_cell_step(answer, PJ_CELL_BYTES, current_a, dt, 500.0, step, sizeof step);
+    printf("a step at 500 K is refused: %" PRIu64 ", %s; the answer is %s\n", refusal, refusal_word(refusal),
            memcmp(step, kept, sizeof step) == 0 ? "unchanged" : "changed");
     return 0;
 }

@@ -1,14 +1,14 @@
 //! What discharge.c has to print, worked out by the oracle.
 use calls::solver::{Cell, Config};
 
-const SHOWN: usize = 30;
+const SHOWN: usize = 15;
 
 fn main() {
-    let config = Config { n_nodes: 11, numbers: [2.5, 4.2, 96_485.0, 8.314, 2e-4] };
-    let cell = Cell::graphite_lfp(config).expect("the ready cell");
-    let (current_a, dt, temp_k) = (3.0, 10.0, 298.15);
+    let config = Config { n_nodes: 11, numbers: [3.0, 4.2, 96_485.0, 8.314, 2e-4] };
+    let cell = Cell::graphite_nmc(config).expect("the ready cell");
+    let (current_a, dt, temp_k) = (5.0, 10.0, 298.15);
     let made = cell.simulate_discharge(current_a, dt, temp_k, 3600.0, 8 * 360);
-    println!("graphite_lfp, 11 nodes, {current_a:.1} A, {dt:.1} s a step, {temp_k:.2} K");
+    println!("graphite_nmc, 11 nodes, {current_a:.1} A, {dt:.1} s a step, {temp_k:.2} K");
     println!("  time_s   voltage          its bits  theta_neg  theta_pos");
     for (i, row) in made.rows.iter().enumerate() {
         if (i + 1) % SHOWN == 0 || i + 1 == made.rows.len() {

@@ -1,5 +1,5 @@
-//! The public calls of document 01 over the oracle. The published Rust refuses nothing, lets a run go on without end and
-//! knows no `full`: here its members stand behind 01's refusal table and endings, written from the paper in plain Rust,
+//! The public calls of docs/REFERENCE.md over the oracle. The published Rust refuses nothing, lets a run go on without end and
+//! knows no `full`: here its members stand behind its refusals and endings, written from the paper in plain Rust,
 //! apart from the definitions that the port is proved against.
 //!
 //! A refusal is `Err(number)`; what is not refused is what the Rust gives.

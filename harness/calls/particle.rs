@@ -38,7 +38,7 @@ impl Particle {
         Ok(Self { sheet, n, c_s: [0.0; PLACES] }.with(&made))
     }
 
-    /// Sheet and places as 01 checks a particle that is handed in.
+    /// Sheet and places, as a particle that is handed in is checked.
     pub fn fits(&self) -> bool {
         let solid = range(0.0, self.sheet.c_s_max());
         self.sheet.fits() && places(&self.c_s, self.n.min(PLACES as u64) as usize, |x| solid.holds(x))

@@ -1,6 +1,6 @@
-//! Document 01's table of refusals: which numbers a call meets, and which of these it answers.
+//! The table of refusals (docs/REFERENCE.md): which numbers a call meets, and which of these it answers.
 
-/// "Building checks 1, 2; every other call 1, 10, 2 to 9, first met wins."
+/// The order in which refusals are tested; the first that is met is answered.
 const ORDER: [u64; 10] = [1, 10, 2, 3, 4, 5, 6, 7, 8, 9];
 
 /// The numbers that a call meets.

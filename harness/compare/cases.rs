@@ -153,8 +153,16 @@ fn some_word(draw: &mut Draw, record: Record, words: &[u64]) -> usize {
     array.start + at.min(array.places - 1)
 }
 
-/// One argument or one word of the record at its limits; or, for a run, the length of the slice.
+/// Where a cell's image has its three counts of nodes: the config's, the anode's and the cathode's.
+const CELL_COUNTS: [usize; 3] = [0, 16, 91];
+
+/// One argument or one word of the record at its limits; for a run, the length of the slice; of a cell, all its counts at once.
 fn one_fault(draw: &mut Draw, turn: &mut Turn, record: Record, words: &[u64]) {
+    if record == Record::Cell && draw.below(16) == 0 {
+        let count = count_around(draw, 3, 64);
+        turn.changes.extend(CELL_COUNTS.map(|at| (at, count)));
+        return;
+    }
     let run = matches!(turn.call.function, Function::Discharge | Function::Galvanostatic);
     if run && draw.below(8) == 0 {
         turn.call.rows = draw.below(9) as usize;
@@ -375,12 +383,34 @@ fn cell_temperature(draw: &mut Draw, cell: &Cell) -> f64 {
     298.15
 }
 
+/// Moves an electrode's d_s_ref so that its corrected diffusivity is a limit or next to one, where there is such a number.
+fn diffusivity_to_limit(draw: &mut Draw, sheet: &mut Sheet, temp_k: f64) {
+    let limit = draw.pick(&[DIFFUSIVITY.low, DIFFUSIVITY.high]);
+    let wanted = draw.pick(&[limit.next_down(), limit, limit.next_up()]);
+    let ratio = sheet.numbers[1] / sheet.d_s(temp_k).expect("a sheet in range");
+    let near = (wanted * ratio).to_bits();
+    let mut tried = *sheet;
+    for bits in near - 8..near + 8 {
+        tried.numbers[1] = f64::from_bits(bits);
+        if tried.d_s(temp_k) == Ok(wanted) {
+            *sheet = tried;
+            return;
+        }
+    }
+}
+
 fn cell_steps(draw: &mut Draw, turn: u64) -> Case {
-    let (cell, build) = some_cell(draw, 3 + turn % 62);
+    let (mut cell, mut build) = some_cell(draw, 3 + turn % 62);
+    let limit_at = records::temperature(draw);
+    if draw.below(12) == 0 {
+        let sheet = if draw.below(2) == 0 { &mut cell.anode.sheet } else { &mut cell.cathode.sheet };
+        diffusivity_to_limit(draw, sheet, limit_at);
+        build = None;
+    }
     let area = cell.anode.sheet.numbers[6];
     let mut turns = Vec::new();
     for _ in 0..draw.count(1, 6) {
-        let temp_k = cell_temperature(draw, &cell);
+        let temp_k = if draw.below(4) == 0 { limit_at } else { cell_temperature(draw, &cell) };
         let (mut current, mut dt) = (records::current(draw, area), interval_of(draw, least_interval(&cell, temp_k)));
         if (next_to_empty(cell.anode.c_s[0]) || next_to_empty(cell.cathode.c_s[0])) && draw.below(2) == 0 {
             (current, dt) = (draw.pick(&[1e-300, -1e-300, 0.0, -0.0, current]), records::short_interval(draw));
@@ -534,6 +564,19 @@ fn dfn_steps(draw: &mut Draw, _: u64) -> Case {
     listed(draw, Record::DfnCell, &cell.slots(), build, turns)
 }
 
+/// A step in which all digits of the electrolyte's diffusivities show.
+fn dfn_exponents(draw: &mut Draw, _: u64) -> Case {
+    let (cell, dt) = records::by_exponents(draw);
+    let current = records::current(draw, cell.params.numbers[3]);
+    Case { start: image_of(Record::DfnCell.parts(), &cell.slots()), turns: vec![Turn::new(draw, Function::DfnStep, &[current, dt])] }
+}
+
+/// A step whose voltage is the overpotentials alone.
+fn dfn_overpotentials(draw: &mut Draw, _: u64) -> Case {
+    let (cell, numbers) = records::by_overpotentials(draw);
+    Case { start: image_of(Record::DfnCell.parts(), &cell.slots()), turns: vec![Turn::new(draw, Function::DfnStep, &numbers)] }
+}
+
 fn galvanostatic(draw: &mut Draw, _: u64) -> Case {
     let (mut cell, mut build) = some_dfn(draw);
     let (current, dt) = (dfn_current(draw, &cell), dfn_interval(draw, &cell));
@@ -657,10 +700,10 @@ fn random_byte(draw: &mut Draw, turn: u64) -> Case {
 }
 
 /// The plans in turn, some more often than others.
-pub const PLANS: [Plan; 24] = [
+pub const PLANS: [Plan; 26] = [
     sheet_numbers, particle_steps, cell_steps, electrolyte_steps, dfn_steps, solve, discharges, galvanostatic, ready, salt_numbers,
     particle_steps, cell_steps, random_byte, dfn_steps, solve, sphere, electrolyte_steps, random_images, particle_steps, cell_steps,
-    sheet_numbers, dfn_steps, discharges, galvanostatic,
+    sheet_numbers, dfn_steps, discharges, galvanostatic, dfn_exponents, dfn_overpotentials,
 ];
 
 /// A case by its number; it depends on the seed and the number alone.

@@ -25,7 +25,7 @@ use std::time::{Duration, Instant};
 use tally::Tally;
 
 const GATE_SEED: u64 = 20_040_613;
-const GATE_CASES: u64 = 240_000;
+const GATE_CASES: u64 = 260_000;
 
 struct Options {
     seed: u64,

@@ -101,11 +101,16 @@ pub fn short_interval(draw: &mut Draw) -> f64 {
     draw.pick(&[5e-324, 5e-324, 1e-300, 1e-100, 1e-30, 1e-12])
 }
 
+/// Two to the whole part of the exponent, and evenly on to the next power.
+fn two_to(exponent: f64) -> f64 {
+    let (whole, half) = (exponent.floor(), (0.5 * exponent).floor());
+    let scale = |power: f64| f64::from_bits(((1023.0 + power) as u64) << 52);
+    scale(half) * scale(whole - half) * (1.0 + (exponent - whole))
+}
+
 /// From 2^low to 2^high, evenly by the exponent.
 pub fn power(draw: &mut Draw, low: f64, high: f64) -> f64 {
-    let exponent = draw.uniform(low, high);
-    let whole = exponent.floor();
-    f64::from_bits(((1023.0 + whole) as u64) << 52) * (1.0 + (exponent - whole))
+    two_to(draw.uniform(low, high))
 }
 
 pub fn sign(draw: &mut Draw) -> f64 {
@@ -269,4 +274,62 @@ pub fn dfn_cell(draw: &mut Draw) -> dfn::Cell {
         }
     }
     made
+}
+
+/// Exponents at which E is told from a wrong one: its limits, and where one term more or fewer shows.
+const EXPONENTS: [f64; 5] =
+    [709.0, 709.0f64.next_down(), 709.0f64.next_up(), f64::from_bits(0x4086_17DA_14B8_3F81), f64::from_bits(0x4085_A4E9_5055_7529)];
+const LEAST_EXPONENTS: [f64; 3] = [-708.0, -708.0f64.next_up(), -708.0f64.next_down()];
+
+/// The electrolyte's concentration whose diffusivity has this exponent, -gamma_e*(c_e/c_e0 - 1); one near to it where there is none.
+fn concentration_at(exponent: f64, c_e0: f64, gamma_e: f64) -> f64 {
+    let near = (c_e0 * (1.0 - exponent / gamma_e)).to_bits();
+    let found = (0..32).flat_map(|k| [near + k, near - k]).map(f64::from_bits).find(|c_e| -gamma_e * ((c_e / c_e0) - 1.0) == exponent);
+    found.unwrap_or(f64::from_bits(near)).clamp(dfn::CONCENTRATION.low, dfn::CONCENTRATION.high)
+}
+
+/// A cell and an interval in which all digits of E show, at exponents up to its limits: each other node of the electrolyte has a
+/// diffusivity D beside which its neighbours' is nothing, and D*dt/dx^2 is about 1.
+pub fn by_exponents(draw: &mut Draw) -> (dfn::Cell, f64) {
+    let exponent = match draw.below(8) {
+        0 => draw.pick(&EXPONENTS),
+        1 => draw.uniform(-30.0, 40.0),
+        2 | 3 => draw.uniform(40.0, 650.0),
+        _ => draw.uniform(650.0, 709.0),
+    };
+    let (mut params, mut config) = (dfn_params(draw), dfn_config(draw));
+    config.counts = [draw.count(3, dfn::MOST_X), draw.count(2, dfn::MOST_X), 2];
+    let (c_e0, gamma_e) = (draw.uniform(200.0, 2500.0), draw.uniform(1.01 * exponent.abs().max(40.0), 1000.0));
+    let (brugg, d_e0) = (draw.uniform(0.0, 4.0), draw.uniform(-53.0, if exponent > 600.0 { -36.0 } else { -20.0 }));
+    let (porosity, spacing) = (draw.uniform(-6.0, -0.1), draw.uniform(-23.0, -11.0));
+    let lengths = [0, 1].map(|side| (two_to(spacing) * config.counts[side] as f64).clamp(dfn::RANGES[0].low, dfn::RANGES[0].high));
+    for (at, to) in [(0, lengths[0]), (2, lengths[1]), (16, c_e0), (17, two_to(d_e0)), (18, gamma_e), (21, two_to(porosity)), (23, brugg)] {
+        params.numbers[at] = to.clamp(dfn::RANGES[at].low, dfn::RANGES[at].high);
+    }
+    let least = if draw.below(4) == 0 { draw.pick(&LEAST_EXPONENTS) } else { exponent - draw.uniform(40.0, 400.0) };
+    let mut made = dfn::Cell::new(params, config).expect("parameters in range");
+    for i in 0..(config.counts[0] + 1 + config.counts[1]) as usize {
+        let own = if i == 1 { exponent } else { 709.0 - (709.0 - exponent - draw.uniform(-1.5, 1.5)).abs() };
+        made.c_e[i] = concentration_at(if i % 2 == 1 { own } else { least }, params.numbers[16], params.numbers[18]);
+    }
+    let diffusivity = d_e0 + brugg * porosity + exponent / std::f64::consts::LN_2;
+    let dt = two_to(draw.uniform(-4.0, 1.0) + porosity + 2.0 * spacing - diffusivity);
+    (made, dt.clamp(f64::from_bits(1), 86_400.0))
+}
+
+/// A cell without open-circuit voltage, a current and an interval: its voltage is the overpotentials, so the digits of L show, and
+/// with a current those of H. L's last terms matter most just below 1.5.
+pub fn by_overpotentials(draw: &mut Draw) -> (dfn::Cell, [f64; 2]) {
+    let mut params = dfn::Params { ocv_neg: Coefficients::of(&[]), ocv_pos: Coefficients::of(&[]), ..dfn_params(draw) };
+    let config = dfn::Config { counts: [draw.count(1, 2), 1, 2], voltages: [-10.0, 10.0] };
+    let (c_e0, ratio) = (draw.uniform(100.0, 1000.0), if draw.below(2) == 0 { draw.uniform(1.48, 1.5) } else { power(draw, 0.0, 3.0) });
+    let current = if draw.below(2) == 0 { draw.pick(&[0.0, -0.0]) } else { params.numbers[3] * power(draw, -30.0, 10.0) };
+    for (at, to) in [(0, 1e-7), (1, 1e-7), (2, 1e-7), (9, draw.within(dfn::RANGES[9])), (15, draw.within(dfn::RANGES[15])), (16, c_e0), (20, 100.0)] {
+        params.numbers[at] = to;
+    }
+    let mut made = dfn::Cell::new(params, config).expect("parameters in range");
+    for place in made.c_e.iter_mut().filter(|place| **place != 0.0) {
+        *place = (c_e0 * ratio).min(3000.0);
+    }
+    (made, [current.min(1e6), power(draw, -16.0, 10.0)])
 }

@@ -34,6 +34,56 @@ fn ohmic_sign() {
     println!("ohmic sign: graphite_lfp, 11 nodes, -3 A, 1 s: {got:.6} V, with a drop that keeps its sign {plain:.6} V");
 }
 
+fn nmc() -> Cell {
+    let config = Config { n_nodes: 11, numbers: [2.5, 4.2, 96_485.0, 8.314, 2e-4] };
+    Cell::graphite_nmc(config).expect("the ready cell")
+}
+
+/// mol of lithium in both electrodes
+fn lithium(anode: f64, cathode: f64, cell: &Cell) -> f64 {
+    [(anode, &cell.anode.sheet), (cathode, &cell.cathode.sheet)]
+        .iter()
+        .map(|(theta, sheet)| theta * sheet.c_s_max() * sheet.numbers[5] * sheet.numbers[6] * sheet.numbers[4])
+        .sum()
+}
+
+fn lfp_curve() {
+    let sheet = Sheet::lfp_cathode();
+    let [low, middle, high] = [0.05, 0.5, 0.97].map(|theta| sheet.ocp(theta).unwrap());
+    println!("LFP curve: {low:.4} V at theta 0.05, {middle:.4} V at 0.5, {high:.4} V at 0.97");
+}
+
+fn clamped_run() {
+    let cell = spm(11);
+    let rows = cell.simulate_discharge(3.0, 10.0, T, 3600.0, 8 * 360).rows;
+    let rises = rows.windows(2).filter(|pair| pair[1][0] > pair[0][0]).count();
+    let (first, middle) = (&rows[0], &rows[89]);
+    println!("LFP discharge: 3 A, 10 s: {:.6} V at 10 s, {:.6} V at 900 s; the voltage rises in {rises} of {} steps", first[0], middle[0], rows.len() - 1);
+    let full = rows.iter().find(|row| row[3] == 1.0).expect("a full cathode");
+    let empty = rows.iter().find(|row| row[2] == 0.0).expect("an empty anode");
+    let last = &rows[359];
+    let still = rows.iter().rev().take_while(|row| row[0].to_bits() == last[0].to_bits()).last().expect("the last row");
+    println!("clamp: the same run: the cathode's surface is full from {} s on, the anode's empty from {} s on", full[6], empty[6]);
+    println!("clamp: one voltage, {:.6} V, from {} s to {} s; v_min 2.5 is not met", last[0], still[6], last[6]);
+    let held = |row: &[f64; 8]| lithium(row[4], row[5], &cell);
+    println!("clamp: mol of lithium in both electrodes: {:.4} at 10 s, {:.4} at 1420 s, {:.4} at 3600 s", held(first), held(&rows[141]), held(last));
+}
+
+fn graphite_bump() {
+    let rows = nmc().simulate_discharge(5.0, 10.0, T, 3600.0, 8 * 360).rows;
+    let at = rows.windows(2).position(|pair| pair[1][0] > pair[0][0]).expect("a rise");
+    let top = rows[at..].iter().max_by(|a, b| a[0].total_cmp(&b[0])).expect("a row");
+    let last = &rows[rows.len() - 1];
+    println!("graphite bump: graphite_nmc, 11 nodes, 5 A, 10 s: {:.4} V at {} s, up to {:.4} V at {} s, anode's surface {:.3} to {:.3}", rows[at][0], rows[at][6], top[0], top[6], rows[at][2], top[2]);
+    println!("NMC floor: the same run stands at {:.4} V at {} s, after {} rows; v_min 2.5 is not met", last[0], last[6], rows.len());
+}
+
+fn dfn_discharge() {
+    let run = dfn_cell([5, 5, 6]).run_galvanostatic(20.0, 10.0, 3600.0, 8 * 360);
+    let (first, last) = (&run.rows[0], &run.rows[run.rows.len() - 1]);
+    println!("DFN discharge: nmc_graphite, 5/5/6, 20 A, 10 s: {:.4} V at {} s, {:.4} V at {} s, ended by {:?} at v_max 4.3", first[0], first[2], last[0], last[2], run.ending);
+}
+
 fn even_nodes() {
     for n in [4, 5] {
         let mut sheet = Sheet::graphite_anode();
@@ -114,11 +164,15 @@ fn stand_ins() {
 
 fn main() {
     anode_curve();
+    lfp_curve();
+    clamped_run();
+    graphite_bump();
     ohmic_sign();
     even_nodes();
     stability();
     soc_window();
     dfn_signs();
+    dfn_discharge();
     electrolyte();
     stand_ins();
 }

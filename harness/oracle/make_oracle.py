@@ -1,5 +1,5 @@
 #!/usr/bin/env python3
-"""Makes the oracle's sources: the published Rust with document 01's stand-ins in place of exp, ln, powf, asinh and powi.
+"""Makes the oracle's sources: the published Rust with the stand-ins of docs/REFERENCE.md in place of exp, ln, powf, asinh and powi.
 
     make_oracle.py --out FOLDER [--source FOLDER]
 

@@ -1,10 +1,11 @@
 #!/usr/bin/env python3
-"""A second writing of document 01's E, L, S, H and powf, and its comparison with the oracle's.
+"""A second writing of the stand-ins E, L, S, H and powf of docs/REFERENCE.md, and its comparison with the oracle's.
 
     standins.py PROGRAM
 
 PROGRAM is print_standins.rs, compiled. Both get the same arguments: specials, subnormals, all powers of two, the thresholds
-and their neighbours, and random bit patterns from a fixed seed. One line says how many agreed; any difference is status 1.
+and their neighbours, where E has its largest and least values, and random bit patterns from a fixed seed. One line says how
+many agreed; any difference is status 1.
 Python's floats are binary64 and each operation below rounds once; the square root is worked out in whole numbers.
 """
 import math
@@ -16,6 +17,13 @@ import sys
 C = struct.unpack(">d", bytes.fromhex("3FE62E42FEFA39EF"))[0]
 NAN = 0x7FF8000000000000
 SEED = 20040613
+# E's values where the count of its terms shows: 17 and 18 differ at the first two arguments, 18 and 19 at the others
+TERMS = {
+    0x408617DA14B83F81: 0x7FAF18B6DAFE115D,
+    0xC084F2D8D0892694: 0x037D76F6B582B003,
+    0x4085A4E950557529: 0x7E62C62B37F85577,
+    0xC084E6459E554398: 0x03A1BC8B24E18597,
+}
 
 
 def to_bits(x):
@@ -100,8 +108,9 @@ def arguments():
     subnormals = [rng.getrandbits(rng.randrange(1, 53)) | rng.getrandbits(1) << 63 for _ in range(5000)]
     moderate = [to_bits(rng.uniform(-1, 1) * 10.0 ** rng.uniform(-6, 3)) for _ in range(50000)]
     patterns = [rng.getrandbits(64) for _ in range(100000)]
+    largest = [to_bits(rng.choice((1, -1)) * rng.uniform(650, 709)) for _ in range(20000)]
     powers = [0.5, 1.5, 0.0, 1.0, 2.0, 4.0]
-    for n in sorted(bits) + subnormals + moderate + patterns:
+    for n in sorted(bits) + subnormals + moderate + patterns + list(TERMS) + largest:
         b = rng.choice(powers) if rng.getrandbits(1) else rng.uniform(-40, 40)
         yield n, to_bits(b)
 
@@ -109,6 +118,9 @@ def arguments():
 def main():
     if len(sys.argv) != 2:
         sys.exit("standins.py: say which program prints the oracle's values")
+    for x, value in TERMS.items():
+        if to_bits(E(from_bits(x))) != value:
+            sys.exit(f"standins.py: at {x:016X} this writing of E is not {value:016X}")
     given = list(arguments())
     text = "".join(f"{x:016X} {b:016X}\n" for x, b in given)
     try:

@@ -1,4 +1,4 @@
-//! Document 01's stand-ins for exp, ln, powf, asinh and powi: each operation rounds once, in the order written there.
+//! The stand-ins (docs/REFERENCE.md) for exp, ln, powf, asinh and powi: each operation rounds once, in the order written there.
 //! The square root is the machine's, which is correctly rounded; standins.py has it by whole numbers.
 
 /// c of L: the binary64 nearest to the natural logarithm of 2.

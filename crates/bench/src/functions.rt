@@ -13,6 +13,10 @@ pub(crate) fn elementary_line(fd: i32, first: u64) -> bool {
     exp & ln & sqrt & asinh
 }
 
+pub(crate) fn exp_line(fd: i32, first: u64) -> bool {
+    is_f64(fd, elementary::exp(words::from_bits(first)))
+}
+
 pub(crate) fn powf_line(fd: i32, first: u64) -> bool {
     let b = next_f64(fd);
     is_f64(fd, elementary::powf(words::from_bits(first), b))

@@ -78,6 +78,8 @@ const DFN_STEP: u64 = 27;
 
 const RUN_GALVANOSTATIC: u64 = 28;
 
+const EXP: u64 = 29;
+
 // Whether a line agrees, whose first word is read already: of the inner parts, the sheet and the particle.
 fn small_line(which: u64, fd: i32, first: u64) -> bool {
     match which {
@@ -99,7 +101,7 @@ fn small_line(which: u64, fd: i32, first: u64) -> bool {
     }
 }
 
-// The same of the cells, the electrolyte and the equations.
+// The same of the cells, the electrolyte, the equations, and E where it is largest and least.
 fn large_line(which: u64, fd: i32, first: u64) -> bool {
     match which {
         READY_CELLS => cells::ready_line(fd, first),
@@ -117,6 +119,7 @@ fn large_line(which: u64, fd: i32, first: u64) -> bool {
         DFN_NEW => porous::new_line(fd, first),
         DFN_STEP => porous::step_line(fd, first),
         RUN_GALVANOSTATIC => porous::run_line(fd, first),
+        EXP => functions::exp_line(fd, first),
         _ => false,
     }
 }
@@ -203,7 +206,7 @@ fn replay_argument(which: usize) -> u64 {
 
 fn replay_all() -> u64 {
     let mut answers: u64 = 0;
-    for which in 0..29 {
+    for which in 0..30 {
         answers = std::num::wrapping_add_u64(answers, replay_argument(which));
     }
     answers

@@ -12,6 +12,7 @@ use lib.Ieee.{Float, fin, binary64, neg, fits}
 use lib.Ieee.Fits.{and-i, neg-fits}
 use lib.Ieee.Positive.{num, den, den-pos, through}
 use lib.Ieee.Scale.{finite}
+use Rattle.fraction.specs.Integer.{pos-≤, ≤-pos}
 use Rattle.fraction.specs.Fraction.{Fraction, whole, nat, pow2, negF, _*F_, _≈F_, _within_}
 use Rattle.fraction.specs.Field.{nn-natF, ≈F-sym, ≤F-of-≈F, ≤F-trans}
 use Rattle.fraction.specs.Certificate.{quote, le-by, up as gap, hi, lo, eqn, _⊞_, _⊠_, _·_}
@@ -131,7 +132,7 @@ bounded-most {x} {A} {C} {P} h = record {
   over = P;
   fine = h .fine;
   sign = refl;
-  most = signed-size (negative x) (ratio (num x) (den x) (den-pos x)) (ratio A C P) (rw (val-is x (h .fine)) at (h .size)) .cross;
+  most = ≤-pos (signed-size (negative x) (ratio (num x) (den x) (den-pos x)) (ratio A C P) (rw (val-is x (h .fine)) at (h .size)) .cross);
 }
 
 pub within-scaled : {x : Float} {A C B E : ℕ} → Within x A C B E → (e f : ℕ) → T (leb E (B * 2 ^ e)) → T (leb A (2 ^ f * C)) → Scaled x e f
@@ -139,4 +140,4 @@ unfolding whole _*F_
 within-scaled {x} {A} {C} {B} {E} h e f l m =
     let lo : 1 * den x ≤ num x * 2 ^ e = through 1 B (num x) (2 ^ e) E (den x) (h .1 .over) (le-trans (le-of-eq (one-mul E)) (leb→le E (B * 2 ^ e) l)) (h .1 .least) in
     let hi : num x * 1 ≤ 2 ^ f * den x = through (num x) A (2 ^ f) (den x) C 1 (h .0 .over) (h .0 .most) (le-trans (le-of-eq (mul-one A)) (leb→le A (2 ^ f * C) m)) in
-    record { fine = h .0 .fine; size = rw (val-is x (h .0 .fine), h .0 .sign) (record { low = record { cross = simp mul-one lo }; high = record { cross = hi } }) }
+    record { fine = h .0 .fine; size = rw (val-is x (h .0 .fine), h .0 .sign) (record { low = record { cross = simp mul-one (pos-≤ lo) }; high = record { cross = pos-≤ hi } }) }

@@ -15,6 +15,7 @@ use lib.Ieee.Exact.{HasValue, units-val}
 use lib.Ieee.Fits.{round-is}
 use lib.Ieee.Order.{drop, kept}
 use lib.Ieee.Scale.{finite, grid, round-under}
+use Rattle.fraction.specs.Integer.{pos-≤, ≤-pos}
 use Rattle.fraction.specs.Fraction.{Fraction, whole, nat, pow2, frac, _+F_, negF, _-F_, _*F_, _≈F_, _≤F_, _within_}
 use Rattle.fraction.specs.Field.{≈F-sym, ≈F-trans, +F-cong, negF-cong, ≤F-of-≈F, ≤F-trans}
 use Rattle.fraction.specs.Certificate.{quote, within-by, up, num, eqn, _⊞_, _⊠_, _·_}
@@ -53,14 +54,14 @@ round-value s a c p = subst (λ (z : Float). HasValue z s (grid binary64 a c) (2
 -- twice the distance is at most a unit, as fractions
 twice-le : (G L a c U : ℕ) (P : 0 < L) (C : 0 < c) → G * c * 2 ≤ a * L * 2 + U * c → nat 2 *F ratio G L P ≤F nat 2 *F ratio a c C +F ratio U L P
 unfolding whole _*F_ _+F_
-twice-le G L a c U P C h = record { cross = sorted }
+twice-le G L a c U P C h = record { cross = pos-≤ sorted }
   where
     sorted : 2 * G * (1 * c * L) ≤ (2 * a * L + U * (1 * c)) * (1 * L)
     sorted = simp (one-mul, add-mul, mul-assoc, mul-comm, mul-left-comm) (simp (add-mul, mul-assoc, mul-comm, mul-left-comm) at (mul-le-mul-right L h))
 
 twice-ge : (G L a c U : ℕ) (P : 0 < L) (C : 0 < c) → a * L * 2 ≤ G * c * 2 + U * c → nat 2 *F ratio a c C ≤F nat 2 *F ratio G L P +F ratio U L P
 unfolding whole _*F_ _+F_
-twice-ge G L a c U P C h = record { cross = sorted }
+twice-ge G L a c U P C h = record { cross = pos-≤ sorted }
   where
     sorted : 2 * a * (1 * L * L) ≤ (2 * G * L + U * (1 * L)) * (1 * c)
     sorted = simp (one-mul, add-mul, mul-assoc, mul-comm, mul-left-comm) (simp (add-mul, mul-assoc, mul-comm, mul-left-comm) at (mul-le-mul-right L h))
@@ -72,7 +73,7 @@ smallest = record { cross = refl }
 
 large : (U a c L : ℕ) (C : 0 < c) (P : 0 < L) → U * 2 ^ 52 * c ≤ a * L → ratio U L P *F pow2 52 ≤F ratio a c C
 unfolding whole _*F_
-large U a c L C P h = record { cross = le-trans h (le-of-eq (ap (λ (k : ℕ). a * k) (sym (mul-one L)))) }
+large U a c L C P h = record { cross = pos-≤ (le-trans h (le-of-eq (ap (λ (k : ℕ). a * k) (sym (mul-one L))))) }
 
 unit-le : (a c : ℕ) (C : 0 < c) (A : Fraction) → ratio a c C ≤F A → nat 1 ≤F A *F pow2 1022 → ratio (unit a c) (2 ^ 1074) (pow-pos 1074) *F pow2 52 ≤F A
 unit-le a c C A h l = elim (unit-cases a c C) [
@@ -83,7 +84,7 @@ unit-le a c C A h l = elim (unit-cases a c C) [
 module _ (s : Bool) (a c : ℕ) (C : 0 < c) (A : Fraction) (h : ratio a c C ≤F A) where
   round-fine : A ≤F pow2 1023 → T (finite (round binary64 s a c))
   unfolding whole
-  round-fine m = round-most s a c C (2 ^ 1023) 1 tt (≤F-trans h m .cross) .fine
+  round-fine m = round-most s a c C (2 ^ 1023) 1 tt (≤-pos (≤F-trans h m .cross)) .fine
 
   abbrev L : 0 < 2 ^ 1074
   L = pow-pos 1074

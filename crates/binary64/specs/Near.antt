@@ -9,6 +9,7 @@ use lib.Dec.{T, leb, ltb, leb→le, ltb→lt, lit≤}
 use lib.IntN.{pos}
 use lib.Ieee.{Float, neg}
 use lib.Ieee.Scale.{finite}
+use Rattle.fraction.specs.Integer.{pos-≤}
 use Rattle.fraction.specs.Fraction.{Fraction, whole, nat, frac, _+F_, negF, _-F_, _*F_, _/F_, inv, _≈F_, _≤F_, _<F_, _within_}
 use Rattle.fraction.specs.Field.{≈F-refl, ≤F-of-≈F, nn-natF, lt-not-le, lt-of-not-le, le-of-lt}
 use Rattle.fraction.specs.Certificate.{quote, ring, le-by, within-by, up, hi, lo, num, eqn, _⊞_, _⊠_, _·_, _&_}
@@ -52,12 +53,12 @@ half-more-is b = record { cross = ap pos (omega arith) }
 
 half-more-size : (b : ℕ) → b ≤ 2 ^ 20 → Size (half-more b) 1 21
 unfolding whole _*F_
-half-more-size b h = record { low = record { cross = omega arith }; high = record { cross = omega arith } }
+half-more-size b h = record { low = record { cross = pos-≤ (omega arith) }; high = record { cross = pos-≤ (omega arith) } }
 
 -- n / 2 ^ 53 is at most 1
 small : (n : ℕ) → n ≤ 2 ^ 53 → nat n *F u ≤F nat 1
 unfolding whole _*F_ u
-small n h = record { cross = omega arith }
+small n h = record { cross = pos-≤ (omega arith) }
 
 products : (k l : ℕ) → k ≤ 2 ^ 20 → l ≤ 2 ^ 20 → 4 * (k * l) ≤ 2 ^ 53
 products k l h g = let p : k * l ≤ 2 ^ 40 = mul-le-mul h g in omega arith

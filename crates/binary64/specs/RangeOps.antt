@@ -17,55 +17,55 @@ pub use Rattle.binary64.specs.Range.{least-zero}
 pub use Rattle.binary64.specs.RangeTests.{literal, tested-within, tested-sized, int-between, count-within}
 
 -- ---- products and sums of fractions of naturals: with x / p ≤ A / C and y / q ≤ B / D
-ruleset ac = (add-mul, mul-add, mul-assoc, mul-comm, mul-left-comm)
+ruleset expand = (add-mul, mul-add, mul-assoc, mul-comm, mul-left-comm)
 
 module _ (x p A C y q B D G H : ℕ) (P : 0 < C) (Q : 0 < D) where
   times-le : x * C ≤ A * p → y * D ≤ B * q → A * B * H ≤ G * (C * D) → x * y * H ≤ G * (p * q)
   times-le h k l =
-      let a = simp ac at (mul-le-mul-right H (mul-le-mul h k)) in
-      let b = simp ac at (mul-le-mul-right (p * q) l) in
-      let z : x * y * H * (C * D) ≤ G * (p * q) * (C * D) = simp ac (omega arith) in
+      let a = simp expand at (mul-le-mul-right H (mul-le-mul h k)) in
+      let b = simp expand at (mul-le-mul-right (p * q) l) in
+      let z : x * y * H * (C * D) ≤ G * (p * q) * (C * D) = simp expand (omega arith) in
       le-of-mul-le-mul-right z (mul-pos P Q)
 
   times-ge : A * p ≤ x * C → B * q ≤ y * D → G * (C * D) ≤ A * B * H → G * (p * q) ≤ x * y * H
   times-ge h k l =
-      let a = simp ac at (mul-le-mul-right H (mul-le-mul h k)) in
-      let b = simp ac at (mul-le-mul-right (p * q) l) in
-      let z : G * (p * q) * (C * D) ≤ x * y * H * (C * D) = simp ac (omega arith) in
+      let a = simp expand at (mul-le-mul-right H (mul-le-mul h k)) in
+      let b = simp expand at (mul-le-mul-right (p * q) l) in
+      let z : G * (p * q) * (C * D) ≤ x * y * H * (C * D) = simp expand (omega arith) in
       le-of-mul-le-mul-right z (mul-pos P Q)
 
   sum-le : x * C ≤ A * p → y * D ≤ B * q → (A * D + B * C) * H ≤ G * (C * D) → (x * q + y * p) * H ≤ G * (p * q)
   sum-le h k l =
-      let a = simp ac at (mul-le-mul-right (q * D * H) h) in
-      let b = simp ac at (mul-le-mul-right (p * C * H) k) in
-      let c = simp ac at (mul-le-mul-right (p * q) l) in
-      let z : (x * q + y * p) * H * (C * D) ≤ G * (p * q) * (C * D) = simp ac (omega arith) in
+      let a = simp expand at (mul-le-mul-right (q * D * H) h) in
+      let b = simp expand at (mul-le-mul-right (p * C * H) k) in
+      let c = simp expand at (mul-le-mul-right (p * q) l) in
+      let z : (x * q + y * p) * H * (C * D) ≤ G * (p * q) * (C * D) = simp expand (omega arith) in
       le-of-mul-le-mul-right z (mul-pos P Q)
 
   sum-ge : A * p ≤ x * C → B * q ≤ y * D → G * (C * D) ≤ (A * D + B * C) * H → G * (p * q) ≤ (x * q + y * p) * H
   sum-ge h k l =
-      let a = simp ac at (mul-le-mul-right (q * D * H) h) in
-      let b = simp ac at (mul-le-mul-right (p * C * H) k) in
-      let c = simp ac at (mul-le-mul-right (p * q) l) in
-      let z : G * (p * q) * (C * D) ≤ (x * q + y * p) * H * (C * D) = simp ac (omega arith) in
+      let a = simp expand at (mul-le-mul-right (q * D * H) h) in
+      let b = simp expand at (mul-le-mul-right (p * C * H) k) in
+      let c = simp expand at (mul-le-mul-right (p * q) l) in
+      let z : G * (p * q) * (C * D) ≤ (x * q + y * p) * H * (C * D) = simp expand (omega arith) in
       le-of-mul-le-mul-right z (mul-pos P Q)
 
   -- G / H + B / D ≤ A / C, and A / C ≤ x / p
   rest-ge : A * p ≤ x * C → y * D ≤ B * q → (G * D + B * H) * C ≤ A * (H * D) → G * (p * q) + y * p * H ≤ x * q * H
   rest-ge h k l =
-      let a = simp ac at (mul-le-mul-right (q * D * H) h) in
-      let b = simp ac at (mul-le-mul-right (p * C * H) k) in
-      let c = simp ac at (mul-le-mul-right (p * q) l) in
-      let z : (G * (p * q) + y * p * H) * (C * D) ≤ x * q * H * (C * D) = simp ac (omega arith) in
+      let a = simp expand at (mul-le-mul-right (q * D * H) h) in
+      let b = simp expand at (mul-le-mul-right (p * C * H) k) in
+      let c = simp expand at (mul-le-mul-right (p * q) l) in
+      let z : (G * (p * q) + y * p * H) * (C * D) ≤ x * q * H * (C * D) = simp expand (omega arith) in
       le-of-mul-le-mul-right z (mul-pos P Q)
 
   -- A / C ≤ G / H + B / D, and B / D ≤ y / q
   rest-le : x * C ≤ A * p → B * q ≤ y * D → A * (H * D) ≤ (G * D + B * H) * C → x * q * H ≤ G * (p * q) + y * p * H
   rest-le h k l =
-      let a = simp ac at (mul-le-mul-right (q * D * H) h) in
-      let b = simp ac at (mul-le-mul-right (p * C * H) k) in
-      let c = simp ac at (mul-le-mul-right (p * q) l) in
-      let z : x * q * H * (C * D) ≤ (G * (p * q) + y * p * H) * (C * D) = simp ac (omega arith) in
+      let a = simp expand at (mul-le-mul-right (q * D * H) h) in
+      let b = simp expand at (mul-le-mul-right (p * C * H) k) in
+      let c = simp expand at (mul-le-mul-right (p * q) l) in
+      let z : x * q * H * (C * D) ≤ (G * (p * q) + y * p * H) * (C * D) = simp expand (omega arith) in
       le-of-mul-le-mul-right z (mul-pos P Q)
 
 -- ---- ⊗

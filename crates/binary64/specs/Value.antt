@@ -12,6 +12,7 @@ use lib.Ieee.Exact.{HasValue}
 use lib.Ieee.Fits.{down-pos}
 use lib.Ieee.Positive.{num, den, den-pos}
 use lib.Ieee.Scale.{finite}
+use Rattle.fraction.specs.Integer.{pos-≤, ≤-pos}
 use Rattle.fraction.specs.Fraction.{Fraction, whole, nat, _+F_, negF, _-F_, _≈F_, _≤F_, _<F_, _within_}
 use Rattle.fraction.specs.Field.{≈F-refl, negF-cong, lt-not-le, lt-of-not-le}
 use Rattle.fraction.specs.Certificate.{quote, ring, le-by, up as gap, lo, _⊞_}
@@ -42,14 +43,14 @@ val-is (fin s m e) p = ap (λ (C : 0 < down e). signed s (ratio (m * up e) (down
 
 -- ---- fractions of naturals, with a sign
 pub ratio-le : {a c b d : ℕ} {C : 0 < c} {D : 0 < d} → a * d ≤ b * c → ratio a c C ≤F ratio b d D
-ratio-le h = record { cross = h }
+ratio-le h = record { cross = pos-≤ h }
 
 pub ratio-same : {a c b d : ℕ} {C : 0 < c} {D : 0 < d} → a * d ≡ b * c → ratio a c C ≈F ratio b d D
 ratio-same h = record { cross = ap pos h }
 
 pub ratio-nn : (a c : ℕ) (C : 0 < c) → nat 0 ≤F ratio a c C
 unfolding whole
-ratio-nn a c C = record { cross = le-trans (le-of-eq (zero-mul c)) zero-le }
+ratio-nn a c C = record { cross = pos-≤ (le-trans (le-of-eq (zero-mul c)) zero-le) }
 
 pub signed-cong : (s : Bool) {p q : Fraction} → p ≈F q → signed s p ≈F signed s q
 signed-cong false e = e
@@ -70,19 +71,19 @@ signed-sub true p q = ring (p ∷ q ∷ []) (search quote depth 24) tt
 -- the order, for each pair of signs
 sum-zero : (a c b d : ℕ) (C : 0 < c) (D : 0 < d) → ratio a c C +F ratio b d D ≤F nat 0 → a * d + b * c ≤ 0
 unfolding whole _+F_
-sum-zero a c b d C D h = simp (mul-one, zero-mul) at (h .cross)
+sum-zero a c b d C D h = simp (mul-one, zero-mul) at (≤-pos (h .cross))
 
 zero-sum : (a c b d : ℕ) (C : 0 < c) (D : 0 < d) → a * d + b * c ≤ 0 → ratio a c C +F ratio b d D ≤F nat 0
 unfolding whole _+F_
-zero-sum a c b d C D h = record { cross = simp (mul-one, zero-mul) h }
+zero-sum a c b d C D h = record { cross = simp (mul-one, zero-mul) (pos-≤ h) }
 
 pub signed→below : (s t : Bool) (a c b d : ℕ) (C : 0 < c) (D : 0 < d) → signed s (ratio a c C) ≤F signed t (ratio b d D) → Below s (a * d) t (b * c)
-signed→below false false a c b d C D h = h .cross
+signed→below false false a c b d C D h = ≤-pos (h .cross)
 signed→below false true a c b d C D h = sum-zero a c b d C D (le-by (ratio a c C ∷ ratio b d D ∷ []) 0 (gap h) (search quote depth 24) tt)
 signed→below true false a c b d C D h = zero-le
 signed→below true true a c b d C D h =
     let k : ratio b d D ≤F ratio a c C = le-by (ratio a c C ∷ ratio b d D ∷ []) 0 (gap h) (search quote depth 24) tt in
-    k .cross
+    ≤-pos (k .cross)
 
 pub below→signed : (s t : Bool) (a c b d : ℕ) (C : 0 < c) (D : 0 < d) → Below s (a * d) t (b * c) → signed s (ratio a c C) ≤F signed t (ratio b d D)
 below→signed false false a c b d C D h = ratio-le h

@@ -1,5 +1,6 @@
--- What each call of the boundary returns and what it leaves in its answer, for every string of bytes of every length. A wrong length of the image
--- or of the answer is 10 before all else and leaves the answer as it was. Definitions only.
+-- What each call of the boundary returns and what it leaves in its answer, for every string of bytes of every length. A call whose number is not
+-- listed is 2, whatever the lengths; then a wrong length of the image or of the answer is 10, before the table's 1. Both leave the answer as it was.
+-- Definitions only.
 use Prim.Native.Nat.{ℕ}
 use mathlib.Core.Bool.{Bool, cond, _&&_}
 use mathlib.Core.List.{List, []}
@@ -26,14 +27,14 @@ lengths image m answer n = eqb image m && eqb answer n
 
 -- the number of a call whose lengths are right or not
 unfoldable pub met : Bool → ℕ → ℕ
-met fits n = cond fits n N.length
+met fits n = cond fits n N.badLength
 
 -- ---- numbers
 
 unfoldable pub numberCall : ℕ → List ℕ → Float → Float → ℕ → Said
 numberCall call s x y answer =
     cond (listed call 19)
-    (cond (lengths (length s) (numberLength call) answer 8) (numberSaid call s x y) (record { number = N.length; values = [] }))
+    (cond (lengths (length s) (numberLength call) answer 8) (numberSaid call s x y) (record { number = N.badLength; values = [] }))
     (record { number = N.sheet; values = [] })
 
 -- ---- records

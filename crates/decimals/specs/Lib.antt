@@ -2,3 +2,4 @@
 --
 -- Nearest: the power of ten, and what is read.
 pub mod Nearest
+pub mod Literals

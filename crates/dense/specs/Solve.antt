@@ -43,7 +43,7 @@ solution a b n = substituted (reduced a b n .value .matrix) n (reduced a b n .va
 unfoldable pub inputRefusal : List Float → List Float → ℕ → ℕ
 inputRefusal a b n =
     firstMet (refusalUnless (leb n 32) grid)
-    (firstMet (refusalUnless (eqb (length a) (n * n) && eqb (length b) n) Numbers.length)
+    (firstMet (refusalUnless (eqb (length a) (n * n) && eqb (length b) n) Numbers.badLength)
     (refusalUnless (allFinite a && allFinite b) sheet))
 
 -- of the solution: 9 says that there is none, 8 looks at one that there is

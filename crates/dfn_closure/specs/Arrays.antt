@@ -1,6 +1,6 @@
 -- The particles and the salt after a step fit again, where what the step makes is finite. Assumes nothing.
 use Prim.Native.Nat.{ℕ, zero, suc, _+_, _-_, _*_, _≤_, _<_}
-use mathlib.Core.Path.{_≡_, refl, sym}
+use mathlib.Core.Path.{_≡_, refl}
 use mathlib.Core.Bool.{Bool, true, false}
 use mathlib.Core.Logic.{_⊎_, inl, inr, ⊎-elim}
 use mathlib.Core.List.{List}
@@ -8,7 +8,7 @@ use native.Mathlib.Omega.{arith}
 use native.Mathlib.Nat.{not-suc-le-zero, zero-mul, suc-mul}
 use borrow.Author.Tests.{lt-ltb, ltb-true, ltb-false}
 use lib.Dec.{T, ltb}
-use lib.ListN.{length, getD, List·getD-eq-default}
+use lib.ListN.{length, List·getD-eq-default}
 use lib.Ieee.{Float, nan, le, toBits, ofBits}
 use lib.Ieee.Scale.{finite}
 use lib.Ieee.Fits.{and-i, and-l, and-r}
@@ -16,7 +16,7 @@ use Rattle.binary64.specs.Operators.{f64}
 use Rattle.choice.specs.Choice.{clampOf}
 use Rattle.refusal.specs.Ranges.{inRange, plusZero}
 use Rattle.turns.specs.Turns.{firstBy, allBelow, all-at, all-of, first-below, first-above}
-use Rattle.places.specs.Places.{placesBy, places-length, places-inside, places-before, places-after}
+use Rattle.places.specs.Places.{places-length, places-inside, places-before, places-after}
 use Rattle.dfn_places.specs.Places.{at, placeFits, solidFitsTo, solidFits, electrolyteFits, allFinite}
 use Rattle.dfn_solid.specs.declared.Grain.{Grain}
 use Rattle.dfn_solid.specs.Solid.{nodeWith, heldNode, particleWith, particlesWith}
@@ -42,7 +42,7 @@ unfolding placeFits plusZero le toBits
 nan-unfit true lo hi t = and-r (le lo nan) (le nan hi) t
 nan-unfit false lo hi t = t
 
-abbrev fitsTo : ℕ → List Float → ℕ → Float → Float → Bool
+abbrev pub fitsTo : ℕ → List Float → ℕ → Float → Float → Bool
 fitsTo size c n lo hi = allBelow size (λ i. placeFits (at c i) (ltb i n) lo hi)
 
 -- so a list whose places fit is long enough

@@ -1,5 +1,5 @@
--- An accepted step returns a cell that passes the checks again. Assumes nothing.
-use Prim.Native.Nat.{ℕ, zero, suc, _+_, _*_, _≤_}
+-- What a step leads to: an accepted one to a cell that passes the checks again, a refused one to the cell as it was. Assumes nothing.
+use Prim.Native.Nat.{ℕ, zero, suc}
 use mathlib.Core.Path.{_≡_, refl, ap}
 use mathlib.Core.Bool.{Bool, true, false, cond, _&&_}
 use native.Mathlib.Omega.{arith}
@@ -18,16 +18,16 @@ use Rattle.dfn_places.specs.Places.{solidFits, electrolyteFits, allFinite}
 use Rattle.dfn_solid.specs.Solid.{dSolids, solidAfter}
 use Rattle.dfn_solid.specs.Room.{room}
 use Rattle.dfn_electrolyte.specs.Electrolyte.{saltOf, regionOf, dEffs, electrolyteAfter}
-use Rattle.dfn.specs.Checks.{Grid, Fields, usedNeg, usedPos, usedSalt, fieldsFit, cellRefusal, stepRefusal, cell-grid, cell-fields, fields-met, step-cell}
-use Rattle.dfn.specs.Step.{grainOf, movedBy, reportOf, cellWith, allNumbers, refusedWith, answered, followed, advanced, stepped}
+use Rattle.dfn.specs.Checks.{Fields, usedNeg, usedPos, usedSalt, fieldsFit, cellRefusal, stepRefusal, cell-grid, cell-fields, fields-met, step-cell}
+use Rattle.dfn.specs.Step.{grainOf, movedBy, reportOf, cellWith, allNumbers, noReport, refusedWith, answered, followed, advanced, stepped}
 use Rattle.dfn.specs.declared.DfnSolver.{DfnSolver}
 use Rattle.dfn.specs.declared.DfnStep.{DfnStep}
 use Rattle.dfn.specs.declared.DfnAnswer.{DfnAnswer}
 use Rattle.dfn_closure.specs.Held.{le-chain, clock-on}
-use Rattle.dfn_closure.specs.Tests.{Range, range-neg, range-pos, numbers-of}
+use Rattle.dfn_closure.specs.Tests.{Range, unit, top, max-neg, max-pos}
 use Rattle.dfn_closure.specs.Arrays.{solid-closed, salt-closed}
 
--- ---- an accepted step
+-- ---- what a step answers
 module _ (d new : DfnSolver) (r : DfnStep) where
   abbrev outcome : ℕ → Bool → DfnAnswer
   outcome k b = cond (eqb k 0) (cond b (record { refusal = 0; report = r; cell = new }) (refusedWith 8 d)) (refusedWith k d)
@@ -37,10 +37,22 @@ module _ (d new : DfnSolver) (r : DfnStep) where
   accepted zero false h = absurd (omega (arith, h))
   accepted (suc k) b h = let e : suc k ≡ 0 = rw eqb·suc-zero at h in absurd (omega (arith, e))
 
--- what the step d → new has met
+  refused : (k : ℕ) (b : Bool) → (outcome k b .refusal ≡ 0 → ⊥) → (outcome k b .cell ≡ d) × (outcome k b .report ≡ noReport)
+  refused zero true n = absurd (n refl)
+  refused zero false n = (refl, refl)
+  refused (suc k) b n = rw eqb·suc-zero (refl, refl)
+
 abbrev newCell : DfnSolver → Float → Float → DfnSolver
 newCell d current dt = cellWith d (movedBy d current dt) (reportOf d (movedBy d current dt) current dt)
 
+-- A STEP THAT IS REFUSED leaves the cell as it is, bit for bit, and reports nothing
+pub step-refused : (d : DfnSolver) (current dt : Float) → (stepped d current dt .refusal ≡ 0 → ⊥) → (stepped d current dt .cell ≡ d) × (stepped d current dt .report ≡ noReport)
+unfolding stepped advanced followed answered
+step-refused d current dt n =
+    let r = reportOf d (movedBy d current dt) current dt in
+    refused d (newCell d current dt) r (stepRefusal d current dt) (allNumbers (newCell d current dt) r) n
+
+-- what an accepted one has met
 pub record Accepted (d : DfnSolver) (current dt : Float) : Type 0 where
   pub before : stepRefusal d current dt ≡ 0
   pub numbers : T (allNumbers (newCell d current dt) (reportOf d (movedBy d current dt) current dt))
@@ -54,15 +66,15 @@ accepted-step d current dt h =
     record { before = q .0; numbers = q .1 .0; leaves = ap (λ (a : DfnAnswer). a .cell) (q .1 .1) }
 
 -- ---- numbers
-one-finite : T (finite (f64 0x3ff0_0000_0000_0000))
+pub one-finite : T (finite unit)
 unfolding ofBits
 one-finite = tt
 
-top-finite : T (finite (f64 0x4100_0000_0000_0000))
+top-finite : T (finite top)
 unfolding ofBits
 top-finite = tt
 
-zero-finite : T (finite (f64 0))
+pub zero-finite : T (finite (f64 0))
 unfolding ofBits
 zero-finite = tt
 
@@ -70,15 +82,15 @@ day-finite : T (finite (f64 0x40f5_1800_0000_0000))
 unfolding ofBits
 day-finite = tt
 
-zero-one : T (le (f64 0) (f64 0x3ff0_0000_0000_0000))
+zero-one : T (le (f64 0) unit)
 unfolding ofBits le
 zero-one = tt
 
-range-finite : (x : Float) → Range x → T (finite x)
-range-finite x h = between-finite (f64 0x3ff0_0000_0000_0000) x (f64 0x4100_0000_0000_0000) one-finite top-finite (h .low) (h .high)
+pub max-finite : (x : Float) → Range unit x top → T (finite x)
+max-finite x h = between-finite unit x top one-finite top-finite (h .low) (h .high)
 
-range-above : (x : Float) → Range x → T (le (f64 0) x)
-range-above x h = le-chain (f64 0) (f64 0x3ff0_0000_0000_0000) x zero-finite one-finite (range-finite x h) zero-one (h .low)
+pub max-above : (x : Float) → Range unit x top → T (le (f64 0) x)
+max-above x h = le-chain (f64 0) unit x zero-finite one-finite (max-finite x h) zero-one (h .low)
 
 -- ---- the fields of the new cell
 step-interval : (d : DfnSolver) (current dt : Float) → stepRefusal d current dt ≡ 0 → T (intervalFits dt)
@@ -109,7 +121,7 @@ counted d r t =
     let t2 = and-l (b1 && b2) b3 t3 in
     record { neg = and-l b1 b2 t2; pos = and-r b1 b2 t2; salt = and-r (b1 && b2) b3 t3; time = and-r (b1 && b2 && b3 && b4 && b5) b6 t6 }
 
--- the fields put together
+-- the fields, and then the grid, put together
 fields-fit : (d : DfnSolver) → Fields d → T (fieldsFit d)
 fields-fit d f =
     let b1 = parametersFit (d .params) in
@@ -122,6 +134,16 @@ fields-fit d f =
     (and-i (b1 && b2 && b3 && b4) b5 (and-i (b1 && b2 && b3) b4 (and-i (b1 && b2) b3 (and-i b1 b2 (f .parameters) (f .limits)) (f .neg)) (f .pos)) (f .salt))
     (f .clock)
 
+none : (a b : Bool) → T a → T b → firstMet (refusalUnless a 1) (refusalUnless b 2) ≡ 0
+unfolding firstMet refusalUnless
+none true true p q = refl
+none true false p q = absurd q
+none false b p q = absurd p
+
+pub cell-passes : (d : DfnSolver) → T (gridFits (d .config)) → Fields d → cellRefusal d ≡ 0
+unfolding cellRefusal
+cell-passes d g f = none (gridFits (d .config)) (fieldsFit d) g (fields-fit d f)
+
 clock-closed : (t dt : Float) → T (clockFits t) → T (intervalFits dt) → T (finite (t ⊕ dt)) → T (clockFits (t ⊕ dt))
 clock-closed t dt c i f =
     let day = f64 0x40f5_1800_0000_0000 in
@@ -129,45 +151,39 @@ clock-closed t dt c i f =
     and-i (finite (t ⊕ dt)) (le z (t ⊕ dt)) f
     (clock-on t dt day day-finite (and-l (finite t) (le z t) c) (and-r (finite t) (le z t) c) (and-l (lt z dt) (le dt day) i) (and-r (lt z dt) (le dt day) i))
 
-fields-closed : (d : DfnSolver) (current dt : Float) → Accepted d current dt → T (fieldsFit (newCell d current dt))
+fields-closed : (d : DfnSolver) (current dt : Float) → Accepted d current dt → Fields (newCell d current dt)
 unfolding cellWith movedBy reportOf solidAfter electrolyteAfter
 fields-closed d current dt a =
     let p = d .params in
     let c = step-cell d current dt (a .before) in
     let g = cell-grid d c in
     let f = fields-met d (cell-fields d c) in
-    let neg-range = range-neg p (numbers-of p (f .parameters)) in
-    let pos-range = range-pos p (numbers-of p (f .parameters)) in
+    let M = max-neg p (f .parameters) in
+    let N = max-pos p (f .parameters) in
     let n = counted (newCell d current dt) (reportOf d (movedBy d current dt) current dt) (a .numbers) in
     let vn = grainOf p (anodeOf p) (d .config .«n_r») (neg current) dt in
     let vp = grainOf p (cathodeOf p) (d .config .«n_r») current dt in
     let rn = regionOf p (anodeOf p) (d .config .«n_x_neg») (poreFlux (anodeOf p) (p .area) (neg current)) dt in
     let rp = regionOf p (cathodeOf p) (d .config .«n_x_pos») (poreFlux (cathodeOf p) (p .area) current) dt in
-    fields-fit (newCell d current dt) (record {
+    record {
       parameters = f .parameters;
       limits = f .limits;
-      neg = solid-closed vn (d .«c_s_neg») (dSolids vn (d .«c_s_neg») (usedNeg (d .config))) (d .config .«n_x_neg») (room (d .config .«n_x_neg») (d .config .«n_r») (g .most-neg) (g .most-r)) zero-finite (range-finite (p .«c_s_neg_max») neg-range) (range-above (p .«c_s_neg_max») neg-range) (f .neg) (n .neg);
-      pos = solid-closed vp (d .«c_s_pos») (dSolids vp (d .«c_s_pos») (usedPos (d .config))) (d .config .«n_x_pos») (room (d .config .«n_x_pos») (d .config .«n_r») (g .most-pos) (g .most-r)) zero-finite (range-finite (p .«c_s_pos_max») pos-range) (range-above (p .«c_s_pos_max») pos-range) (f .pos) (n .pos);
+      neg = solid-closed vn (d .«c_s_neg») (dSolids vn (d .«c_s_neg») (usedNeg (d .config))) (d .config .«n_x_neg») (room (d .config .«n_x_neg») (d .config .«n_r») (g .most-neg) (g .most-r)) zero-finite (max-finite (p .«c_s_neg_max») M) (max-above (p .«c_s_neg_max») M) (f .neg) (n .neg);
+      pos = solid-closed vp (d .«c_s_pos») (dSolids vp (d .«c_s_pos») (usedPos (d .config))) (d .config .«n_x_pos») (room (d .config .«n_x_pos») (d .config .«n_r») (g .most-pos) (g .most-r)) zero-finite (max-finite (p .«c_s_pos_max») N) (max-above (p .«c_s_pos_max») N) (f .pos) (n .pos);
       salt = salt-closed rn rp (d .«c_e») (dEffs (saltOf p) (d .«c_e») (usedSalt (d .config))) (omega (arith, g .most-neg, g .most-pos)) (f .salt) (n .salt);
       clock = clock-closed (d .«time_s») dt (f .clock) (step-interval d current dt (a .before)) (n .time);
-    })
+    }
 
 -- ---- the theorem
-none : (a b : Bool) → T a → T b → firstMet (refusalUnless a 1) (refusalUnless b 2) ≡ 0
-unfolding firstMet refusalUnless
-none true true p q = refl
-none true false p q = absurd q
-none false b p q = absurd p
-
 grid-kept : (d : DfnSolver) (current dt : Float) → cellRefusal d ≡ 0 → T (gridFits (newCell d current dt .config))
 unfolding cellRefusal cellWith
 grid-kept d current dt h = passed (gridFits (d .config)) 1 (zero-lt-suc 0) (none-met _ _ h .0)
 
-pub step-closed : (d : DfnSolver) (current dt : Float) → stepped d current dt .refusal ≡ 0 → cellRefusal (stepped d current dt .cell) ≡ 0
-unfolding cellRefusal
-step-closed d current dt h =
+-- A STEP THAT IS ACCEPTED leads to a cell that passes the checks
+pub step-passes : (d : DfnSolver) (current dt : Float) → stepped d current dt .refusal ≡ 0 → cellRefusal (stepped d current dt .cell) ≡ 0
+step-passes d current dt h =
     let a = accepted-step d current dt h in
-    rw (a .leaves) (none (gridFits (newCell d current dt .config)) (fieldsFit (newCell d current dt)) (grid-kept d current dt (step-cell d current dt (a .before))) (fields-closed d current dt a))
+    rw (a .leaves) (cell-passes (newCell d current dt) (grid-kept d current dt (step-cell d current dt (a .before))) (fields-closed d current dt a))
 
 -- so nothing refuses the same step again before it is made: only 8 can come
 call-met : (d : DfnSolver) (current dt : Float) → stepRefusal d current dt ≡ 0 → firstMet (refusalUnless (loadFits current (f64 0x412e_8480_0000_0000)) load) (refusalUnless (intervalFits dt) interval) ≡ 0
@@ -176,4 +192,4 @@ call-met d current dt h = none-met (cellRefusal d) _ h .1
 
 pub next-step : (d : DfnSolver) (current dt : Float) → stepped d current dt .refusal ≡ 0 → stepRefusal (stepped d current dt .cell) current dt ≡ 0
 unfolding stepRefusal firstMet
-next-step d current dt h = rw (step-closed d current dt h) (call-met d current dt (accepted-step d current dt h .before))
+next-step d current dt h = rw (step-passes d current dt h) (call-met d current dt (accepted-step d current dt h .before))

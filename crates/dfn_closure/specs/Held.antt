@@ -7,7 +7,7 @@ use lib.Ieee.Scale.{finite}
 use lib.Ieee.Fits.{and-i}
 use Rattle.fraction.specs.Field.{≈F-refl, ≤F-of-≈F, ≤F-trans, le-of-lt}
 use Rattle.binary64.specs.Operators.{_⊕_, f64}
-use Rattle.binary64.specs.Value.{val, le-val, val-le, lt-val}
+use Rattle.binary64.specs.Value.{le-val, val-le, lt-val}
 use Rattle.binary64.specs.Order.{not→lt}
 use Rattle.binary64.specs.OrderLaws.{add-le}
 use Rattle.choice.specs.Choice.{clampOf}

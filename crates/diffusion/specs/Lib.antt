@@ -46,3 +46,4 @@ pub mod Copies
 pub mod Calls
 pub mod CallLaws
 pub mod Examples
+pub mod Literals

@@ -89,7 +89,7 @@ allRows w r total l = rowsAfter overOf (turned w) lastRow total r l
 unfoldable pub runRefusal : Feed → SpmSolver → ℕ → ℕ
 runRefusal w s places =
     N.firstMet (N.refusalUnless (gridFits s) N.grid)
-    (N.firstMet (N.refusalUnless (leb 8 places) N.length)
+    (N.firstMet (N.refusalUnless (leb 8 places) N.badLength)
     (N.firstMet (N.refusalUnless (cellFits s) N.sheet)
     (N.firstMet (N.refusalUnless (loadFits (w .«current_a») (f64 0x412e_8480_0000_0000)) N.load)
     (N.firstMet (N.refusalUnless (intervalFits (w .dt) && finite (w .«max_time_s»)) N.interval)

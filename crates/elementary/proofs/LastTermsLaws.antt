@@ -14,8 +14,8 @@ use lib.Ieee.Fits.{add-fits, and-l, and-r}
 use lib.Ieee.Positive.{num, den, den-pos}
 use lib.Ieee.Scale.{finite, round-same}
 use Rattle.fraction.specs.Fraction.{Fraction, whole, nat, negF, _≈F_, _≤F_, _<F_}
-use Rattle.fraction.specs.Field.{≈F-sym, ≤F-of-≈F, ≤F-trans, lt-of-not-le}
-use Rattle.fraction.specs.Order.{≤F-antisym, lt-le-trans}
+use Rattle.fraction.specs.Field.{≈F-sym, ≤F-of-≈F, ≤F-trans}
+use Rattle.fraction.specs.Order.{≤F-antisym, lt-le-trans, nat-lt}
 use Rattle.fraction.specs.Certificate.{quote, le-by}
 use Rattle.binary64.specs.Operators.{_⊕_, _⊗_, _⊘_, f64, count, negative}
 use Rattle.binary64.specs.Held.{own-round}
@@ -38,12 +38,8 @@ abbrev term : Float → ℕ → Float → Float
 term y k a = one ⊕ ((a ⊗ y) ⊘ count (suc k))
 
 -- ---- the sign of a value
-not-below : (k : ℕ) → nat (suc k) ≤F nat 0 → ⊥
-unfolding whole
-not-below k h = let x : suc k * 1 ≤ 0 * 1 = h .cross in omega arith
-
 count-above : (k : ℕ) → suc k ≤ 2 ^ 53 → nat 0 <F val (count (suc k))
-count-above k l = lt-le-trans (lt-of-not-le (not-below k)) (≤F-of-≈F (≈F-sym (int-val (pos (suc k)) l)))
+count-above k l = lt-le-trans (nat-lt 0 (suc k) (omega arith)) (≤F-of-≈F (≈F-sym (int-val (pos (suc k)) l)))
 
 nonneg : (y : Float) → T (finite y) → negative y ≡ false → nat 0 ≤F val y
 nonneg y p s = rw (val-is y p, s) (ratio-nn (num y) (den y) (den-pos y))

@@ -4,7 +4,7 @@ use mathlib.Core.Logic.{inl, inr}
 use Prim.Native.Nat.{ℕ, _+_, _*_}
 use lib.Dec.{T, leb}
 use lib.IntN.{ℤ, pos, negsuc}
-use Rattle.fraction.specs.Ring.{con, _⊕_, _⊖_, _⊗_, ⊝, len, Vanish, norm}
+use Rattle.fraction.specs.Ring.{con, _+ₚ_, _-ₚ_, _*ₚ_, negₚ, len, Vanish, norm}
 use Rattle.fraction.specs.Quote.{At, Quoted, Quoted₂, Quoted₃, Quoted₄, variable, variables, solved, Fits, certified, Balances, balanced, multiple, both}
 use Rattle.fraction.specs.Fraction.{Fraction, whole, nat, _+F_, negF, _-F_, _*F_, _≈F_, _≤F_, _within_}
 use Rattle.fraction.specs.Field.{Fring, Ford, ≈F-refl, ≈F-sym, ≈F-trans, +F-cong, *F-cong, negF-cong, whole-+, whole-*, ≤F-of-≈F, to-gap, nn-addF, nn-mulF, nn-natF, le-or-lt, le-of-lt}
@@ -20,23 +20,23 @@ module _ {ρ : List Fraction} where
   q-var a = variable {A = Fring} a
 
   abbrev pub q-add : {x y : Fraction} → Quoted Fring ρ x → Quoted Fring ρ y → Quoted Fring ρ (x +F y)
-  q-add p q = record { ex = p .ex ⊕ q .ex; is = +F-cong (p .is) (q .is) }
+  q-add p q = record { ex = p .ex +ₚ q .ex; is = +F-cong (p .is) (q .is) }
 
   abbrev pub q-mul : {x y : Fraction} → Quoted Fring ρ x → Quoted Fring ρ y → Quoted Fring ρ (x *F y)
-  q-mul p q = record { ex = p .ex ⊗ q .ex; is = *F-cong (p .is) (q .is) }
+  q-mul p q = record { ex = p .ex *ₚ q .ex; is = *F-cong (p .is) (q .is) }
 
   abbrev pub q-neg : {x : Fraction} → Quoted Fring ρ x → Quoted Fring ρ (negF x)
-  q-neg p = record { ex = ⊝ (p .ex); is = negF-cong (p .is) }
+  q-neg p = record { ex = negₚ (p .ex); is = negF-cong (p .is) }
 
   abbrev pub q-whole : (z : ℤ) → Written z → Quoted Fring ρ (whole z)
   q-whole z t = record { ex = con z; is = ≈F-refl }
 
   -- sums and products of natural numbers
   abbrev pub q-nat-+ : (a b : ℕ) → Quoted Fring ρ (nat a) → Quoted Fring ρ (nat b) → Quoted Fring ρ (nat (a + b))
-  q-nat-+ a b p q = record { ex = p .ex ⊕ q .ex; is = ≈F-trans (+F-cong (p .is) (q .is)) (≈F-sym (whole-+ (pos a) (pos b))) }
+  q-nat-+ a b p q = record { ex = p .ex +ₚ q .ex; is = ≈F-trans (+F-cong (p .is) (q .is)) (≈F-sym (whole-+ (pos a) (pos b))) }
 
   abbrev pub q-nat-* : (a b : ℕ) → Quoted Fring ρ (nat a) → Quoted Fring ρ (nat b) → Quoted Fring ρ (nat (a * b))
-  q-nat-* a b p q = record { ex = p .ex ⊗ q .ex; is = ≈F-trans (*F-cong (p .is) (q .is)) (≈F-sym (whole-* (pos a) (pos b))) }
+  q-nat-* a b p q = record { ex = p .ex *ₚ q .ex; is = ≈F-trans (*F-cong (p .is) (q .is)) (≈F-sym (whole-* (pos a) (pos b))) }
 
   abbrev pub q₂ : {x y : Fraction} → Quoted Fring ρ x → Quoted Fring ρ y → Quoted₂ Fring ρ x y
   q₂ p q = record { one = p; two = q }
@@ -50,7 +50,7 @@ module _ {ρ : List Fraction} where
 pub ruleset quote = (q₂, q₃, q₄, q-var, variables, q-add, q-mul, q-neg, q-nat-+, q-nat-*, q-whole, tt)
 
 -- ---- an identity
-pub ring : (ρ : List Fraction) {x y : Fraction} (s : Quoted₂ Fring ρ x y) → Vanish (len ρ) (norm (len ρ) (s .one .ex ⊖ s .two .ex)) → x ≈F y
+pub ring : (ρ : List Fraction) {x y : Fraction} (s : Quoted₂ Fring ρ x y) → Vanish (len ρ) (norm (len ρ) (s .one .ex -ₚ s .two .ex)) → x ≈F y
 ring ρ s t = solved Fring ρ s t
 
 -- ---- what a certificate is made of: each is shown to be at least 0
@@ -87,9 +87,9 @@ sq x = elim (le-or-lt (nat 0) x) [
 
 -- ---- ∣x∣ ≤ b: by two certificates, of b − x and of x + b
 pub within-by : (ρ : List Fraction) (k : ℕ) {c d x b : Fraction} → nat 0 ≤F c → nat 0 ≤F d → (s : Quoted₄ Fring ρ c d x b)
-    → Fits Fring (len ρ) k (s .one .ex) (s .three .ex) (s .four .ex) → Fits Fring (len ρ) k (s .two .ex) (⊝ (s .four .ex)) (s .three .ex) → x within b
+    → Fits Fring (len ρ) k (s .one .ex) (s .three .ex) (s .four .ex) → Fits Fring (len ρ) k (s .two .ex) (negₚ (s .four .ex)) (s .three .ex) → x within b
 within-by ρ k h l s t u = record {
-  lo = le-by ρ k l (record { one = s .two; two = record { ex = ⊝ (s .four .ex); is = negF-cong (s .four .is) }; three = s .three }) u;
+  lo = le-by ρ k l (record { one = s .two; two = record { ex = negₚ (s .four .ex); is = negF-cong (s .four .is) }; three = s .three }) u;
   hi = le-by ρ k h (record { one = s .one; two = s .three; three = s .four }) t;
 }
 

@@ -3,7 +3,8 @@ use mathlib.Core.Bool.{Bool, true, false, not, cond}
 use mathlib.Core.List.{[], _∷_}
 use lib.Dec.{T}
 use lib.IntN.{_*ℤ_}
-use Rattle.fraction.specs.Integer.{leℤ-true, leℤ-false}
+use lib.Signed.{leZ-yes}
+use Rattle.fraction.specs.Integer.{not-≤ℤ}
 use Rattle.fraction.specs.Fraction.{Fraction, below, nat, _+F_, _-F_, _≤?_, minF, maxF, clampF, _≈F_, _≤F_, _within_, _from_to_}
 use Rattle.fraction.specs.Field.{≤F-trans, le-of-lt}
 use Rattle.fraction.specs.Order.{≤F-refl, ≤F-antisym}
@@ -17,11 +18,11 @@ choose P false f g = g tt
 
 test-true : (x y : Fraction) → T (x ≤? y) → x ≤F y
 unfolding _≤?_
-test-true x y t = record { cross = leℤ-true (x .top *ℤ below y) (y .top *ℤ below x) t }
+test-true x y t = record { cross = leZ-yes t }
 
 test-false : (x y : Fraction) → T (not (x ≤? y)) → y ≤F x
 unfolding _≤?_
-test-false x y t = le-of-lt (record { cross = leℤ-false (x .top *ℤ below y) (y .top *ℤ below x) t })
+test-false x y t = le-of-lt (record { cross = not-≤ℤ (x .top *ℤ below y) (y .top *ℤ below x) t })
 
 -- ---- the greater of two
 pub max-left : (x y : Fraction) → x ≤F maxF x y

@@ -5,7 +5,8 @@ use mathlib.Core.Logic.{_⊎_, inl, inr}
 use Prim.Native.Nat.{ℕ, suc}
 use native.Mathlib.Nat.{zero-lt-suc}
 use lib.IntN.{ℤ, pos, _+ℤ_, _*ℤ_, negℤ}
-use Rattle.fraction.specs.Integer.{≤ℤ-cancel, nn-div, <ℤ-not, ≤ℤ-or, <ℤ-≤ℤ}
+use Rattle.fraction.specs.Integer.{≤ℤ-cancel, nn-div, ≤ℤ-or, <ℤ-≤ℤ}
+use lib.Signed.{clashℤ}
 use Rattle.fraction.specs.Ring.{CRing}
 use Rattle.fraction.specs.Quote.{Ordered}
 use Rattle.fraction.specs.IntegerRing.{zquote, zring, zle-by, Nonneg, up, natural, _⊞_, _⊠_, zeq-by, _·_, _&_, zcancel, ≤ℤ-of-≡}
@@ -173,7 +174,7 @@ Ford = record { le = _≤F_; le-eq = ≤F-of-≈F; le-trans = ≤F-trans; from-g
 
 -- ---- the strict order: not the other way round
 pub lt-not-le : {x y : Fraction} → x <F y → y ≤F x → ⊥
-lt-not-le {x} {y} h k = <ℤ-not (x .top *ℤ below y) (y .top *ℤ below x) (h .cross) (k .cross)
+lt-not-le {x} {y} h k = clashℤ (h .cross) (k .cross)
 
 pub le-or-lt : (x y : Fraction) → (x ≤F y) ⊎ (y <F x)
 le-or-lt x y = elim (≤ℤ-or (x .top *ℤ below y) (y .top *ℤ below x)) [ inl h ↦ inl (record { cross = h }) | inr h ↦ inr (record { cross = h }) ]

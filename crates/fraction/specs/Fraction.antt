@@ -5,7 +5,7 @@ use Prim.Native.Nat.{ℕ, zero, suc, _*_, _^_, _<_}
 use native.Mathlib.Nat.{mul-pos, zero-lt-suc}
 use lib.Dec.{T, ltb, ltb→lt}
 use lib.IntN.{ℤ, pos, negsuc, _+ℤ_, _*ℤ_, negℤ, natAbs}
-use Rattle.fraction.specs.Integer.{_≤ℤ_, _<ℤ_, leℤ}
+use lib.Signed.{_≤ℤ_, _<ℤ_, leZ}
 
 pub record Fraction : Type 0 where
   pub top : ℤ
@@ -61,10 +61,10 @@ x /F y = x *F inv y
 -- (records, so that a law's fractions can be left out where it is used)
 infix 4 _≤F_ _<F_ _≈F_
 pub record _≤F_ (x y : Fraction) : Type 0 where
-  pub cross : x .top *ℤ below y ≤ℤ y .top *ℤ below x
+  pub cross : (x .top *ℤ below y) ≤ℤ (y .top *ℤ below x)
 
 pub record _<F_ (x y : Fraction) : Type 0 where
-  pub cross : x .top *ℤ below y <ℤ y .top *ℤ below x
+  pub cross : (x .top *ℤ below y) <ℤ (y .top *ℤ below x)
 
 pub record _≈F_ (x y : Fraction) : Type 0 where
   pub cross : x .top *ℤ below y ≡ y .top *ℤ below x
@@ -88,7 +88,7 @@ pub record _from_to_ (x low high : Fraction) : Type 0 where
 -- ---- the lesser, the greater and the clamp: what is below low becomes low, then what is above high becomes high
 infix 4 _≤?_
 unfoldable pub _≤?_ : Fraction → Fraction → Bool
-x ≤? y = leℤ (x .top *ℤ below y) (y .top *ℤ below x)
+x ≤? y = leZ (x .top *ℤ below y) (y .top *ℤ below x)
 
 unfoldable pub minF : Fraction → Fraction → Fraction
 unfolding _≤?_

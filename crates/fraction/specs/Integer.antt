@@ -1,64 +1,59 @@
--- Whole numbers of either sign: their order, and the ring laws that `lib.IntN` lacks. Each is `diff a b`, a − b for two naturals; sums and
+-- Whole numbers of either sign: the ring laws that `lib.IntN` lacks, and the laws of the order that `lib.Signed` lacks. Each is `diff a b`, a − b for two naturals; sums and
 -- products of differences are differences, so that each law is one of naturals, which `omega` proves.
 use mathlib.Core.Path.{_≡_, refl, sym, _∙_, ap, subst}
 use mathlib.Core.Bool.{Bool, true, false, not, cond}
 use mathlib.Core.Logic.{_⊎_, inl, inr}
 use Prim.Native.Nat.{ℕ, zero, suc, _+_, _*_, _-_, _<_, _≤_}
-use native.Mathlib.Nat.{le-refl, mul-pos, zero-lt-suc, le-of-mul-le-mul-right}
+use native.Mathlib.Nat.{mul-pos, zero-lt-suc, le-of-lt, le-of-mul-le-mul-right}
 use native.Mathlib.Omega.{arith}
-use lib.Dec.{T, ltb, leb, ltb→lt, nltb→le, leb→le, nleb→lt}
+use lib.Dec.{T, ltb, ltb→lt, lt→ltb, nltb→le, leb→le, le→leb, nleb→lt}
 use lib.IntN.{ℤ, pos, negsuc, subℕ, _+ℤ_, _*ℤ_, negℤ}
+use lib.Signed.{_≤ℤ_, _<ℤ_, leZ, ltZ, leZ-yes, ltZ-yes}
 
--- ---- the order: as a statement, as a test, and strict
-infix 4 _≤ℤ_ _<ℤ_
-abbrev pub _≤ℤ_ : ℤ → ℤ → Type 0
-pos a ≤ℤ pos b = a ≤ b
-pos a ≤ℤ negsuc b = ⊥
-negsuc a ≤ℤ pos b = Unit {0}
-negsuc a ≤ℤ negsuc b = b ≤ a
+-- ---- a number is at most another, or above it
+leZ-no : (x y : ℤ) → T (not (leZ x y)) → T (ltZ y x)
+leZ-no (pos a) (pos b) t = lt→ltb b a (nleb→lt a b t)
+leZ-no (pos a) (negsuc b) t = tt
+leZ-no (negsuc a) (pos b) t = absurd t
+leZ-no (negsuc a) (negsuc b) t = lt→ltb a b (nleb→lt b a t)
 
-abbrev pub _<ℤ_ : ℤ → ℤ → Type 0
-pos a <ℤ pos b = a < b
-pos a <ℤ negsuc b = ⊥
-negsuc a <ℤ pos b = Unit {0}
-negsuc a <ℤ negsuc b = b < a
-
-abbrev pub leℤ : ℤ → ℤ → Bool
-leℤ (pos a) (pos b) = leb a b
-leℤ (pos a) (negsuc b) = false
-leℤ (negsuc a) (pos b) = true
-leℤ (negsuc a) (negsuc b) = leb b a
-
-pub leℤ-true : (x y : ℤ) → T (leℤ x y) → x ≤ℤ y
-leℤ-true (pos a) (pos b) t = leb→le a b t
-leℤ-true (pos a) (negsuc b) t = t
-leℤ-true (negsuc a) (pos b) t = tt
-leℤ-true (negsuc a) (negsuc b) t = leb→le b a t
-
-pub leℤ-false : (x y : ℤ) → T (not (leℤ x y)) → y <ℤ x
-leℤ-false (pos a) (pos b) t = nleb→lt a b t
-leℤ-false (pos a) (negsuc b) t = tt
-leℤ-false (negsuc a) (pos b) t = absurd t
-leℤ-false (negsuc a) (negsuc b) t = nleb→lt b a t
-
-pub <ℤ-not : (x y : ℤ) → x <ℤ y → y ≤ℤ x → ⊥
-<ℤ-not (pos a) (pos b) h k = omega arith
-<ℤ-not (pos a) (negsuc b) h k = h
-<ℤ-not (negsuc a) (pos b) h k = k
-<ℤ-not (negsuc a) (negsuc b) h k = omega arith
+pub not-≤ℤ : (x y : ℤ) → T (not (leZ x y)) → y <ℤ x
+not-≤ℤ x y t = ltZ-yes (leZ-no x y t)
 
 pub ≤ℤ-or : (x y : ℤ) → (x ≤ℤ y) ⊎ (y <ℤ x)
-≤ℤ-or x y = go (leℤ x y) (leℤ-true x y) (leℤ-false x y)
+≤ℤ-or x y = go (leZ x y) leZ-yes (not-≤ℤ x y)
   where
     go : (b : Bool) → (T b → x ≤ℤ y) → (T (not b) → y <ℤ x) → (x ≤ℤ y) ⊎ (y <ℤ x)
     go true f g = inl (f tt)
     go false f g = inr (g tt)
 
+ltZ-leZ : (x y : ℤ) → T (ltZ x y) → T (leZ x y)
+ltZ-leZ (pos a) (pos b) t = le→leb a b (le-of-lt (ltb→lt a b t))
+ltZ-leZ (pos a) (negsuc b) t = t
+ltZ-leZ (negsuc a) (pos b) t = tt
+ltZ-leZ (negsuc a) (negsuc b) t = le→leb b a (le-of-lt (ltb→lt b a t))
+
 pub <ℤ-≤ℤ : (x y : ℤ) → x <ℤ y → x ≤ℤ y
-<ℤ-≤ℤ (pos a) (pos b) h = omega arith
-<ℤ-≤ℤ (pos a) (negsuc b) h = h
-<ℤ-≤ℤ (negsuc a) (pos b) h = tt
-<ℤ-≤ℤ (negsuc a) (negsuc b) h = omega arith
+<ℤ-≤ℤ x y h = leZ-yes (ltZ-leZ x y (h .lt))
+
+-- the order of naturals
+pub pos-≤ : {a b : ℕ} → a ≤ b → pos a ≤ℤ pos b
+pos-≤ {a} {b} h = leZ-yes (le→leb a b h)
+
+pub ≤-pos : {a b : ℕ} → pos a ≤ℤ pos b → a ≤ b
+≤-pos {a} {b} h = leb→le a b (h .le)
+
+pub pos-< : {a b : ℕ} → a < b → pos a <ℤ pos b
+pos-< {a} {b} h = ltZ-yes (lt→ltb a b h)
+
+pub <-pos : {a b : ℕ} → pos a <ℤ pos b → a < b
+<-pos {a} {b} h = ltb→lt a b (h .lt)
+
+negsuc-≤ : (a b : ℕ) → b ≤ a → negsuc a ≤ℤ negsuc b
+negsuc-≤ a b h = leZ-yes (le→leb b a h)
+
+≤-negsuc : (a b : ℕ) → negsuc a ≤ℤ negsuc b → b ≤ a
+≤-negsuc a b h = leb→le b a (h .le)
 
 -- ---- differences
 cond-ind : (c : Bool) (x y : ℤ) (P : ℤ → Type 0) → (T c → P x) → (T (not c) → P y) → P (cond c x y)
@@ -142,24 +137,20 @@ pub *ℤ-+ℤ : (x y z : ℤ) → x *ℤ (y +ℤ z) ≡ x *ℤ y +ℤ x *ℤ z
 ≤-diff : (a b c d : ℕ) → a + d ≤ c + b → diff a b ≤ℤ diff c d
 ≤-diff = diff-view (λ a b z. (c d : ℕ) → a + d ≤ c + b → z ≤ℤ diff c d)
     (λ b k. diff-view (λ c d w. (b + k) + d ≤ c + b → pos k ≤ℤ w)
-    (λ d l h. omega arith)
-    (λ c l h. omega arith))
+    (λ d l h. pos-≤ (omega arith))
+    (λ c l h. absurd (omega arith)))
     (λ a k. diff-view (λ c d w. a + d ≤ c + (a + suc k) → negsuc k ≤ℤ w)
-    (λ d l h. tt)
-    (λ c l h. omega arith))
+    (λ d l h. leZ-yes tt)
+    (λ c l h. negsuc-≤ k l (omega arith)))
 
 diff-≤ : (a b c d : ℕ) → diff a b ≤ℤ diff c d → a + d ≤ c + b
 diff-≤ = diff-view (λ a b z. (c d : ℕ) → z ≤ℤ diff c d → a + d ≤ c + b)
     (λ b k. diff-view (λ c d w. pos k ≤ℤ w → (b + k) + d ≤ c + b)
-    (λ d l h. omega arith)
-    (λ c l h. absurd h))
+    (λ d l h. omega (arith, ≤-pos h))
+    (λ c l h. absurd (h .le)))
     (λ a k. diff-view (λ c d w. negsuc k ≤ℤ w → a + d ≤ c + (a + suc k))
     (λ d l h. omega arith)
-    (λ c l h. omega arith))
-
-pub ≤ℤ-refl : (x : ℤ) → x ≤ℤ x
-≤ℤ-refl (pos n) = le-refl n
-≤ℤ-refl (negsuc n) = le-refl n
+    (λ c l h. omega (arith, ≤-negsuc k l h)))
 
 pub ≤ℤ-trans : (x y z : ℤ) → x ≤ℤ y → y ≤ℤ z → x ≤ℤ z
 ≤ℤ-trans = by-diff₃ (λ x y z. x ≤ℤ y → y ≤ℤ z → x ≤ℤ z) (λ a b c d e f h k. ≤-diff a b e f (omega (arith, diff-≤ a b c d h, diff-≤ c d e f k)))
@@ -168,43 +159,43 @@ pub ≤ℤ-antisym : (x y : ℤ) → x ≤ℤ y → y ≤ℤ x → x ≡ y
 ≤ℤ-antisym = by-diff₂ (λ x y. x ≤ℤ y → y ≤ℤ x → x ≡ y) (λ a b c d h k. diff-eq a b c d (omega (arith, diff-≤ a b c d h, diff-≤ c d a b k)))
 
 nn-diff : (a b : ℕ) → b ≤ a → pos 0 ≤ℤ diff a b
-nn-diff = diff-view (λ a b z. b ≤ a → pos 0 ≤ℤ z) (λ b k h. omega arith) (λ a k h. omega arith)
+nn-diff = diff-view (λ a b z. b ≤ a → pos 0 ≤ℤ z) (λ b k h. pos-≤ (omega arith)) (λ a k h. absurd (omega arith))
 
 diff-nn : (a b : ℕ) → pos 0 ≤ℤ diff a b → b ≤ a
-diff-nn = diff-view (λ a b z. pos 0 ≤ℤ z → b ≤ a) (λ b k h. omega arith) (λ a k h. absurd h)
+diff-nn = diff-view (λ a b z. pos 0 ≤ℤ z → b ≤ a) (λ b k h. omega arith) (λ a k h. absurd (h .le))
 
-pub nn-sub : (x y : ℤ) → x ≤ℤ y → pos 0 ≤ℤ y +ℤ negℤ x
-nn-sub = by-diff₂ (λ x y. x ≤ℤ y → pos 0 ≤ℤ y +ℤ negℤ x) (λ a b c d h. simp (neg-diff, add-diff) (nn-diff (c + b) (d + a) (omega (arith, diff-≤ a b c d h))))
+pub nn-sub : (x y : ℤ) → x ≤ℤ y → pos 0 ≤ℤ (y +ℤ negℤ x)
+nn-sub = by-diff₂ (λ x y. x ≤ℤ y → pos 0 ≤ℤ (y +ℤ negℤ x)) (λ a b c d h. simp (neg-diff, add-diff) (nn-diff (c + b) (d + a) (omega (arith, diff-≤ a b c d h))))
 
-pub sub-nn : (x y : ℤ) → pos 0 ≤ℤ y +ℤ negℤ x → x ≤ℤ y
-sub-nn = by-diff₂ (λ x y. pos 0 ≤ℤ y +ℤ negℤ x → x ≤ℤ y) (λ a b c d h. ≤-diff a b c d (omega (arith, diff-nn (c + b) (d + a) (simp (neg-diff, add-diff) at h))))
+pub sub-nn : (x y : ℤ) → pos 0 ≤ℤ (y +ℤ negℤ x) → x ≤ℤ y
+sub-nn = by-diff₂ (λ x y. pos 0 ≤ℤ (y +ℤ negℤ x) → x ≤ℤ y) (λ a b c d h. ≤-diff a b c d (omega (arith, diff-nn (c + b) (d + a) (simp (neg-diff, add-diff) at h))))
 
-pub nn-add : (x y : ℤ) → pos 0 ≤ℤ x → pos 0 ≤ℤ y → pos 0 ≤ℤ x +ℤ y
-nn-add (pos a) (pos b) h k = omega arith
-nn-add (pos a) (negsuc b) h k = absurd k
-nn-add (negsuc a) (pos b) h k = absurd h
-nn-add (negsuc a) (negsuc b) h k = absurd h
+pub nn-add : (x y : ℤ) → pos 0 ≤ℤ x → pos 0 ≤ℤ y → pos 0 ≤ℤ (x +ℤ y)
+nn-add (pos a) (pos b) h k = pos-≤ (omega arith)
+nn-add (pos a) (negsuc b) h k = absurd (k .le)
+nn-add (negsuc a) (pos b) h k = absurd (h .le)
+nn-add (negsuc a) (negsuc b) h k = absurd (h .le)
 
-pub nn-mul : (x y : ℤ) → pos 0 ≤ℤ x → pos 0 ≤ℤ y → pos 0 ≤ℤ x *ℤ y
-nn-mul (pos a) (pos b) h k = omega arith
-nn-mul (pos a) (negsuc b) h k = absurd k
-nn-mul (negsuc a) (pos b) h k = absurd h
-nn-mul (negsuc a) (negsuc b) h k = absurd h
+pub nn-mul : (x y : ℤ) → pos 0 ≤ℤ x → pos 0 ≤ℤ y → pos 0 ≤ℤ (x *ℤ y)
+nn-mul (pos a) (pos b) h k = pos-≤ (omega arith)
+nn-mul (pos a) (negsuc b) h k = absurd (k .le)
+nn-mul (negsuc a) (pos b) h k = absurd (h .le)
+nn-mul (negsuc a) (negsuc b) h k = absurd (h .le)
 
 below-zero : (m : ℕ) → 0 < m → pos 0 ≤ℤ negℤ (pos m) → ⊥
 below-zero zero h k = omega arith
-below-zero (suc m) h k = k
+below-zero (suc m) h k = k .le
 
-pub nn-div : (k : ℕ) (x : ℤ) → 0 < k → pos 0 ≤ℤ pos k *ℤ x → pos 0 ≤ℤ x
-nn-div k (pos n) p h = omega arith
+pub nn-div : (k : ℕ) (x : ℤ) → 0 < k → pos 0 ≤ℤ (pos k *ℤ x) → pos 0 ≤ℤ x
+nn-div k (pos n) p h = pos-≤ (omega arith)
 nn-div k (negsuc n) p h = absurd (below-zero (k * suc n) (mul-pos p (zero-lt-suc n)) h)
 
 mul-pos-diff : (a b d : ℕ) → diff a b *ℤ pos d ≡ diff (a * d) (b * d)
 mul-pos-diff a b d = ap (λ z. diff a b *ℤ z) (pos-is d d 0 (omega arith)) ∙ mul-diff a b d 0 ∙ diff-eq _ _ _ _ (omega arith)
 
 -- a positive factor cancels
-pub ≤ℤ-cancel : (d : ℕ) → 0 < d → (x y : ℤ) → x *ℤ pos d ≤ℤ y *ℤ pos d → x ≤ℤ y
-≤ℤ-cancel d p = by-diff₂ (λ x y. x *ℤ pos d ≤ℤ y *ℤ pos d → x ≤ℤ y) (λ a b c e h.
+pub ≤ℤ-cancel : (d : ℕ) → 0 < d → (x y : ℤ) → (x *ℤ pos d) ≤ℤ (y *ℤ pos d) → x ≤ℤ y
+≤ℤ-cancel d p = by-diff₂ (λ x y. (x *ℤ pos d) ≤ℤ (y *ℤ pos d) → x ≤ℤ y) (λ a b c e h.
     let u : a * d + e * d ≤ c * d + b * d = diff-≤ (a * d) (b * d) (c * d) (e * d) (simp mul-pos-diff at h) in
     let v : (a + e) * d ≤ (c + b) * d = omega arith in
     ≤-diff a b c e (le-of-mul-le-mul-right v p))

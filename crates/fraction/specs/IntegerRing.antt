@@ -5,8 +5,9 @@ use Prim.Native.Nat.{ℕ, suc, _*_, _<_}
 use native.Mathlib.Nat.{zero-lt-suc}
 use native.Mathlib.Omega.{arith}
 use lib.IntN.{ℤ, pos, one, _+ℤ_, _*ℤ_, negℤ, +ℤ-assoc, +ℤ-comm, +ℤ-idr, +ℤ-invr, *ℤ-comm, *ℤ-one}
-use Rattle.fraction.specs.Integer.{_≤ℤ_, *ℤ-assoc, *ℤ-+ℤ, ≤ℤ-refl, ≤ℤ-trans, ≤ℤ-antisym, ≤ℤ-cancel, sub-nn, nn-sub, nn-add, nn-mul, nn-div}
-use Rattle.fraction.specs.Ring.{CRing, con, _⊕_, _⊖_, _⊗_, ⊝, len, Vanish, norm}
+use lib.Signed.{_≤ℤ_, ≤ℤ-refl}
+use Rattle.fraction.specs.Integer.{pos-≤, *ℤ-assoc, *ℤ-+ℤ, ≤ℤ-trans, ≤ℤ-antisym, ≤ℤ-cancel, sub-nn, nn-sub, nn-add, nn-mul, nn-div}
+use Rattle.fraction.specs.Ring.{CRing, con, _+ₚ_, _-ₚ_, _*ₚ_, negₚ, len, Vanish, norm}
 use Rattle.fraction.specs.Quote.{Ordered, At, variable, Quoted, Quoted₂, Quoted₃, variables, solved, certified, Fits, balanced, Balances, multiple, both}
 
 pub *ℤ-pos1 : (m : ℤ) → m *ℤ pos 1 ≡ m
@@ -58,17 +59,17 @@ module _ {ρ : List ℤ} where
   z-var a = variable {A = Zring} a
 
   abbrev pub z-add : {x y : ℤ} → Quoted Zring ρ x → Quoted Zring ρ y → Quoted Zring ρ (x +ℤ y)
-  z-add p q = record { ex = p .ex ⊕ q .ex; is = ap₂ _+ℤ_ (p .is) (q .is) }
+  z-add p q = record { ex = p .ex +ₚ q .ex; is = ap₂ _+ℤ_ (p .is) (q .is) }
 
   abbrev pub z-mul : {x y : ℤ} → Quoted Zring ρ x → Quoted Zring ρ y → Quoted Zring ρ (x *ℤ y)
-  z-mul p q = record { ex = p .ex ⊗ q .ex; is = ap₂ _*ℤ_ (p .is) (q .is) }
+  z-mul p q = record { ex = p .ex *ₚ q .ex; is = ap₂ _*ℤ_ (p .is) (q .is) }
 
   -- a product of naturals, as it stands below a fraction
   abbrev pub z-nat : {a b : ℕ} → Quoted Zring ρ (pos a) → Quoted Zring ρ (pos b) → Quoted Zring ρ (pos (a * b))
-  z-nat p q = record { ex = p .ex ⊗ q .ex; is = ap₂ _*ℤ_ (p .is) (q .is) }
+  z-nat p q = record { ex = p .ex *ₚ q .ex; is = ap₂ _*ℤ_ (p .is) (q .is) }
 
   abbrev pub z-neg : {x : ℤ} → Quoted Zring ρ x → Quoted Zring ρ (negℤ x)
-  z-neg p = record { ex = ⊝ (p .ex); is = ap negℤ (p .is) }
+  z-neg p = record { ex = negₚ (p .ex); is = ap negℤ (p .is) }
 
   abbrev pub z-zero : Quoted Zring ρ (pos 0)
   z-zero = record { ex = con (pos 0); is = refl }
@@ -78,7 +79,7 @@ module _ {ρ : List ℤ} where
 
 pub ruleset zquote = (z-var, variables, z-add, z-mul, z-neg, z-nat, z-zero, z-one)
 
-pub zring : (ρ : List ℤ) {x y : ℤ} (s : Quoted₂ Zring ρ x y) → Vanish (len ρ) (norm (len ρ) (s .one .ex ⊖ s .two .ex)) → x ≡ y
+pub zring : (ρ : List ℤ) {x y : ℤ} (s : Quoted₂ Zring ρ x y) → Vanish (len ρ) (norm (len ρ) (s .one .ex -ₚ s .two .ex)) → x ≡ y
 zring ρ s t = solved Zring ρ s t
 
 -- (a record, so that the certificate's value is found)
@@ -89,7 +90,7 @@ pub up : (x y : ℤ) → x ≤ℤ y → Nonneg (y +ℤ negℤ x)
 up x y h = record { holds = nn-sub x y h }
 
 pub natural : (n : ℕ) → Nonneg (pos n)
-natural n = record { holds = omega arith }
+natural n = record { holds = pos-≤ (omega arith) }
 
 infixl 6 _⊞_
 infixl 7 _⊠_

@@ -5,7 +5,8 @@ use mathlib.Core.Logic.{inl, inr}
 use Prim.Native.Nat.{ℕ, zero, suc, _<_}
 use native.Mathlib.Omega.{arith}
 use lib.IntN.{ℤ, pos, negsuc, _*ℤ_, negℤ, negℤ-negℤ}
-use Rattle.fraction.specs.Integer.{_<ℤ_, ≤ℤ-or}
+use lib.Signed.{_<ℤ_, <ℤ-irrefl}
+use Rattle.fraction.specs.Integer.{≤ℤ-or}
 use Rattle.fraction.specs.IntegerRing.{zquote, zle-by}
 use Rattle.fraction.specs.IntegerRing as Z
 use Rattle.fraction.specs.Fraction.{Fraction, below, whole, nat, _+F_, negF, _-F_, _*F_, _/F_, inv, turned, _≈F_, _≤F_, _<F_, _within_}
@@ -24,9 +25,9 @@ top-pos {x} h = elim (≤ℤ-or (x .top) (pos 0)) [
 
 turned-is : (t : ℤ) (b : ℕ) (p : 0 < b) → pos 0 <ℤ t → (t *ℤ turned t b p .top) *ℤ pos 1 ≡ pos 1 *ℤ (pos b *ℤ below (turned t b p))
 unfolding turned
-turned-is (pos zero) b p h = absurd (omega arith)
+turned-is (pos zero) b p h = absurd (<ℤ-irrefl h)
 turned-is (pos (suc n)) b p h = ap pos (omega arith)
-turned-is (negsuc n) b p h = absurd h
+turned-is (negsuc n) b p h = absurd (h .lt)
 
 pub mul-inv : {x : Fraction} → nat 0 <F x → x *F inv x ≈F nat 1
 unfolding inv whole _*F_

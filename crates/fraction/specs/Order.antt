@@ -7,7 +7,8 @@ use native.Mathlib.Omega.{arith}
 use lib.Dec.{T}
 use lib.Pow.{pow-add, pow-pos, pow-mono}
 use lib.IntN.{pos, _*ℤ_}
-use Rattle.fraction.specs.Integer.{≤ℤ-antisym, leℤ, leℤ-true, leℤ-false}
+use Rattle.fraction.specs.Integer.{≤ℤ-antisym, not-≤ℤ, pos-≤, pos-<}
+use lib.Signed.{leZ, leZ-yes}
 use Rattle.fraction.specs.Fraction.{Fraction, below, whole, nat, pow2, _+F_, negF, _*F_, _≈F_, _≤F_, _<F_}
 use Rattle.fraction.specs.Field.{≈F-refl, ≈F-sym, ≤F-of-≈F, ≤F-trans, whole-+, whole-*, lt-from}
 use Rattle.fraction.specs.Certificate.{quote, le-by, up, _⊞_, _⊠_}
@@ -45,11 +46,11 @@ add-lt {x} {y} {z} {w} h k = lt-from h (λ (l : y +F w ≤F x +F z). le-by (x �
 -- ---- natural numbers
 pub nat-le : (a b : ℕ) → a ≤ b → nat a ≤F nat b
 unfolding whole
-nat-le a b h = record { cross = omega arith }
+nat-le a b h = record { cross = pos-≤ (omega arith) }
 
 pub nat-lt : (a b : ℕ) → a < b → nat a <F nat b
 unfolding whole
-nat-lt a b h = record { cross = omega arith }
+nat-lt a b h = record { cross = pos-< (omega arith) }
 
 -- what a factor at least 0 brings to 1 is above 0
 pub pos-of-one : (x p : Fraction) → nat 1 ≤F x *F p → nat 0 ≤F p → nat 0 <F x
@@ -76,11 +77,11 @@ pub pow2-mono : (e f : ℕ) → e ≤ f → pow2 e ≤F pow2 f
 pow2-mono e f h = nat-le (2 ^ e) (2 ^ f) (pow-mono h)
 
 -- ---- closed fractions, by computing
-pub lit≤F : {x y : Fraction} → T (leℤ (x .top *ℤ below y) (y .top *ℤ below x)) → x ≤F y
-lit≤F {x} {y} t = record { cross = leℤ-true (x .top *ℤ below y) (y .top *ℤ below x) t }
+pub lit≤F : {x y : Fraction} → T (leZ (x .top *ℤ below y) (y .top *ℤ below x)) → x ≤F y
+lit≤F {x} {y} t = record { cross = leZ-yes t }
 
-pub lit<F : {x y : Fraction} → T (not (leℤ (y .top *ℤ below x) (x .top *ℤ below y))) → x <F y
-lit<F {x} {y} t = record { cross = leℤ-false (y .top *ℤ below x) (x .top *ℤ below y) t }
+pub lit<F : {x y : Fraction} → T (not (leZ (y .top *ℤ below x) (x .top *ℤ below y))) → x <F y
+lit<F {x} {y} t = record { cross = not-≤ℤ (y .top *ℤ below x) (x .top *ℤ below y) t }
 
 pub lit≈F : {x y : Fraction} → x .top *ℤ below y ≡ y .top *ℤ below x → x ≈F y
 lit≈F e = record { cross = e }

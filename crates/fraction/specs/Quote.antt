@@ -4,7 +4,7 @@ use mathlib.Core.Path.{_≡_, refl, subst}
 use mathlib.Core.List.{List, [], _∷_}
 use Prim.Native.Nat.{ℕ, suc}
 use lib.IntN.{pos}
-use Rattle.fraction.specs.Ring.{CRing, Ex, var, con, _⊕_, _⊖_, _⊗_, len, nth, den, Vanish, norm, solve}
+use Rattle.fraction.specs.Ring.{CRing, Ex, var, con, _+ₚ_, _-ₚ_, _*ₚ_, len, nth, den, Vanish, norm, solve}
 
 pub record Ordered (A : CRing) : Type 1 where
   pub le : A .R → A .R → Type 0
@@ -98,15 +98,15 @@ module _ (A : CRing) where
   open CRing A using (R, eq, add, mul, neg, of, rfl, symm, trans, add-cong, mul-cong, neg-cong, add-zero)
 
   -- x ≈ y by the solver
-  pub solved : (ρ : List R) {x y : R} (s : Quoted₂ A ρ x y) → Vanish (len ρ) (norm (len ρ) (s .one .ex ⊖ s .two .ex)) → eq x y
+  pub solved : (ρ : List R) {x y : R} (s : Quoted₂ A ρ x y) → Vanish (len ρ) (norm (len ρ) (s .one .ex -ₚ s .two .ex)) → eq x y
   solved ρ s t = trans (symm (s .one .is)) (trans (solve A ρ (s .one .ex) (s .two .ex) t) (s .two .is))
 
   -- the test that C is (k + 1) · (Q − P)
   abbrev pub Fits : ℕ → ℕ → Ex → Ex → Ex → Type 0
-  Fits n k C P Q = Vanish n (norm n (C ⊖ con (pos (suc k)) ⊗ (Q ⊖ P)))
+  Fits n k C P Q = Vanish n (norm n (C -ₚ con (pos (suc k)) *ₚ (Q -ₚ P)))
 
   fits : (ρ : List R) (k : ℕ) {c x y : R} (s : Quoted₃ A ρ c x y) → Fits (len ρ) k (s .one .ex) (s .two .ex) (s .three .ex) → eq c (mul (of (pos (suc k))) (add y (neg x)))
-  fits ρ k s t = trans (symm (s .one .is)) (trans (solve A ρ (s .one .ex) (con (pos (suc k)) ⊗ (s .three .ex ⊖ s .two .ex)) t)
+  fits ρ k s t = trans (symm (s .one .is)) (trans (solve A ρ (s .one .ex) (con (pos (suc k)) *ₚ (s .three .ex -ₚ s .two .ex)) t)
       (mul-cong rfl (add-cong (s .three .is) (neg-cong (s .two .is)))))
 
   -- x ≤ y by a certificate
@@ -115,14 +115,14 @@ module _ (A : CRing) where
 
   -- x ≈ y from equations: y − x is a sum of multiples of what they say is 0
   pub multiple : (e : R) {x y : R} → eq x y → eq (of (pos 0)) (mul e (add y (neg x)))
-  multiple e {x} {y} p = trans (solve A (e ∷ x ∷ []) (con (pos 0)) (var 0 ⊗ (var 1 ⊖ var 1)) tt) (mul-cong rfl (add-cong p rfl))
+  multiple e {x} {y} p = trans (solve A (e ∷ x ∷ []) (con (pos 0)) (var 0 *ₚ (var 1 -ₚ var 1)) tt) (mul-cong rfl (add-cong p rfl))
 
   pub both : {x y : R} → eq (of (pos 0)) x → eq (of (pos 0)) y → eq (of (pos 0)) (add x y)
   both p q = trans (symm (add-zero (of (pos 0)))) (add-cong p q)
 
   abbrev pub Balances : ℕ → Ex → Ex → Ex → Type 0
-  Balances n C P Q = Vanish n (norm n (P ⊕ C ⊖ Q))
+  Balances n C P Q = Vanish n (norm n (P +ₚ C -ₚ Q))
 
   pub balanced : (ρ : List R) {c x y : R} → eq (of (pos 0)) c → (s : Quoted₃ A ρ c x y) → Balances (len ρ) (s .one .ex) (s .two .ex) (s .three .ex) → eq x y
   balanced ρ {c} {x} {y} h s t = trans (symm (add-zero x)) (trans (add-cong rfl h)
-      (trans (add-cong (symm (s .two .is)) (symm (s .one .is))) (trans (solve A ρ (s .two .ex ⊕ s .one .ex) (s .three .ex) t) (s .three .is))))
+      (trans (add-cong (symm (s .two .is)) (symm (s .one .is))) (trans (solve A ρ (s .two .ex +ₚ s .one .ex) (s .three .ex) t) (s .three .is))))

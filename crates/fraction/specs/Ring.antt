@@ -31,16 +31,16 @@ pub record CRing : Type 1 where
   pub of-neg : (a : ℤ) → eq (of (negℤ a)) (neg (of a))
 
 -- ---- polynomials as they are written
-infixl 6 _⊕_
-infixl 6 _⊖_
-infixl 7 _⊗_
+infixl 6 _+ₚ_
+infixl 6 _-ₚ_
+infixl 7 _*ₚ_
 pub data Ex : Type 0 where
   var : ℕ → Ex
   con : ℤ → Ex
-  _⊕_ : Ex → Ex → Ex
-  _⊖_ : Ex → Ex → Ex
-  _⊗_ : Ex → Ex → Ex
-  ⊝ : Ex → Ex
+  _+ₚ_ : Ex → Ex → Ex
+  _-ₚ_ : Ex → Ex → Ex
+  _*ₚ_ : Ex → Ex → Ex
+  negₚ : Ex → Ex
 
 -- ---- normal forms: in n variables, the list of the coefficients by the first variable's power, each in the other n − 1 variables
 abbrev pub Poly : ℕ → Type 0
@@ -136,10 +136,10 @@ Vanish n p = Gone (pisz n p) (terms n p)
 abbrev pub norm : (n : ℕ) → Ex → Poly n
 norm n (var i) = pvar n i
 norm n (con c) = pcon n c
-norm n (a ⊕ b) = padd n (norm n a) (norm n b)
-norm n (a ⊖ b) = padd n (norm n a) (pneg n (norm n b))
-norm n (a ⊗ b) = pmul n (norm n a) (norm n b)
-norm n (⊝ a) = pneg n (norm n a)
+norm n (a +ₚ b) = padd n (norm n a) (norm n b)
+norm n (a -ₚ b) = padd n (norm n a) (pneg n (norm n b))
+norm n (a *ₚ b) = pmul n (norm n a) (norm n b)
+norm n (negₚ a) = pneg n (norm n a)
 
 abbrev pub len : {A : Type 0} → List A → ℕ
 len [] = zero
@@ -165,10 +165,10 @@ module _ (A : CRing) where
   abbrev pub den : List R → Ex → R
   den ρ (var i) = nth (of (pos 0)) ρ i
   den ρ (con c) = of c
-  den ρ (a ⊕ b) = add (den ρ a) (den ρ b)
-  den ρ (a ⊖ b) = add (den ρ a) (neg (den ρ b))
-  den ρ (a ⊗ b) = mul (den ρ a) (den ρ b)
-  den ρ (⊝ a) = neg (den ρ a)
+  den ρ (a +ₚ b) = add (den ρ a) (den ρ b)
+  den ρ (a -ₚ b) = add (den ρ a) (neg (den ρ b))
+  den ρ (a *ₚ b) = mul (den ρ a) (den ρ b)
+  den ρ (negₚ a) = neg (den ρ a)
 
   -- small laws
   0# : R
@@ -295,10 +295,10 @@ module _ (A : CRing) where
   sound : (ρ : List R) (e : Ex) → eq (den ρ e) (ev ρ (norm (len ρ) e))
   sound ρ (var i) = symm (ev-var ρ i)
   sound ρ (con c) = symm (ev-con ρ c)
-  sound ρ (a ⊕ b) = trans (add-cong (sound ρ a) (sound ρ b)) (symm (ev-add ρ (norm (len ρ) a) (norm (len ρ) b)))
-  sound ρ (a ⊖ b) = trans (add-cong (sound ρ a) (trans (neg-cong (sound ρ b)) (symm (ev-neg ρ (norm (len ρ) b))))) (symm (ev-add ρ (norm (len ρ) a) (pneg (len ρ) (norm (len ρ) b))))
-  sound ρ (a ⊗ b) = trans (mul-cong (sound ρ a) (sound ρ b)) (symm (ev-mul ρ (norm (len ρ) a) (norm (len ρ) b)))
-  sound ρ (⊝ a) = trans (neg-cong (sound ρ a)) (symm (ev-neg ρ (norm (len ρ) a)))
+  sound ρ (a +ₚ b) = trans (add-cong (sound ρ a) (sound ρ b)) (symm (ev-add ρ (norm (len ρ) a) (norm (len ρ) b)))
+  sound ρ (a -ₚ b) = trans (add-cong (sound ρ a) (trans (neg-cong (sound ρ b)) (symm (ev-neg ρ (norm (len ρ) b))))) (symm (ev-add ρ (norm (len ρ) a) (pneg (len ρ) (norm (len ρ) b))))
+  sound ρ (a *ₚ b) = trans (mul-cong (sound ρ a) (sound ρ b)) (symm (ev-mul ρ (norm (len ρ) a) (norm (len ρ) b)))
+  sound ρ (negₚ a) = trans (neg-cong (sound ρ a)) (symm (ev-neg ρ (norm (len ρ) a)))
 
   sub-zero : (a b : R) → eq (add a (neg b)) 0# → eq a b
   unfolding 0#
@@ -308,5 +308,5 @@ module _ (A : CRing) where
   vanish ρ p g = ev-isz ρ p (gone (pisz (len ρ) p) (terms (len ρ) p) g)
 
   -- the solver
-  pub solve : (ρ : List R) (e₁ e₂ : Ex) → Vanish (len ρ) (norm (len ρ) (e₁ ⊖ e₂)) → eq (den ρ e₁) (den ρ e₂)
-  solve ρ e₁ e₂ t = sub-zero (den ρ e₁) (den ρ e₂) (trans (sound ρ (e₁ ⊖ e₂)) (vanish ρ (norm (len ρ) (e₁ ⊖ e₂)) t))
+  pub solve : (ρ : List R) (e₁ e₂ : Ex) → Vanish (len ρ) (norm (len ρ) (e₁ -ₚ e₂)) → eq (den ρ e₁) (den ρ e₂)
+  solve ρ e₁ e₂ t = sub-zero (den ρ e₁) (den ρ e₂) (trans (sound ρ (e₁ -ₚ e₂)) (vanish ρ (norm (len ρ) (e₁ -ₚ e₂)) t))

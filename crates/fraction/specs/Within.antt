@@ -5,7 +5,7 @@ use mathlib.Core.Logic.{_⊎_, inl, inr, ⊎-elim}
 use Prim.Native.Nat.{zero, suc}
 use native.Mathlib.Omega.{arith}
 use lib.IntN.{ℤ, pos, negsuc, _*ℤ_, negℤ, natAbs}
-use Rattle.fraction.specs.Integer.{_≤ℤ_}
+use lib.Signed.{_≤ℤ_, leZ-yes, ≤ℤ-refl}
 use Rattle.fraction.specs.IntegerRing.{zquote, zle-by}
 use Rattle.fraction.specs.IntegerRing as Z
 use Rattle.fraction.specs.Fraction.{Fraction, below, nat, _+F_, negF, _-F_, _*F_, _≈F_, _≤F_, _within_, ∣_∣}
@@ -62,15 +62,15 @@ within-abs x = record {
 }
   where
     high : (z : ℤ) → z ≤ℤ pos (natAbs z)
-    high (pos n) = omega arith
-    high (negsuc n) = tt
+    high (pos n) = ≤ℤ-refl (pos n)
+    high (negsuc n) = leZ-yes tt
 
     low : (z : ℤ) → negℤ (pos (natAbs z)) ≤ℤ z
-    low (pos zero) = omega arith
-    low (pos (suc n)) = tt
-    low (negsuc n) = omega arith
+    low (pos zero) = ≤ℤ-refl (pos zero)
+    low (pos (suc n)) = leZ-yes tt
+    low (negsuc n) = ≤ℤ-refl (negsuc n)
 
-    scale : (a b : ℤ) → a ≤ℤ b → a *ℤ below x ≤ℤ b *ℤ below x
+    scale : (a b : ℤ) → a ≤ℤ b → (a *ℤ below x) ≤ℤ (b *ℤ below x)
     scale a b h = zle-by (a ∷ b ∷ below x ∷ []) (Z._⊠_ (Z.up a b h) (Z.natural (x .bottom))) (a *ℤ below x) (b *ℤ below x) (search zquote depth 24) tt
 
 -- ∣x∣ is x or −x

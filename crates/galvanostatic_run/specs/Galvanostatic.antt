@@ -80,7 +80,7 @@ allRows w s total l = rowsAfter overOf (turned w) lastRow total s l
 unfoldable pub runRefusal : DfnSolver → Feed → ℕ → ℕ
 runRefusal d w n =
     firstMet (refusalUnless (gridFits (d .config)) Numbers.grid)
-    (firstMet (refusalUnless (leb 8 n) Numbers.length)
+    (firstMet (refusalUnless (leb 8 n) Numbers.badLength)
     (firstMet (stepRefusal d (w .current) (w .dt)) (refusalUnless (finite (w .limit)) Numbers.interval)))
 
 abbrev pub feedOf : Float → Float → Float → Feed

@@ -1,5 +1,5 @@
-// Rows of numbers in a string of bytes, from a word on. A row whose words are all whole and hold no NaN, as nearly every
-// row does, is tested first and then copied; any other goes word by word.
+// Rows of numbers in a string of bytes, from a word on, and how a run ended. A row is tested first: one that is read for
+// words that are whole and finite, one that is written for room and no NaN. Nearly every row passes and is copied; any other goes word by word.
 use codec::read_f64;
 use codec::word_from;
 use codec::write_bytes;

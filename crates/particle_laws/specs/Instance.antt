@@ -29,7 +29,7 @@ use Rattle.particle_laws.specs.Accepted.{callRefusal, answer-number, fit
 abbrev pub start : ParticleDiffusion
 start = made graphiteAnode 11 .particle
 
-start-passes : particleRefusal start ≡ 0
+pub start-passes : particleRefusal start ≡ 0
 unfolding made newRefusal firstMet refusalUnless graphiteAnode le fits ofBits
 start-passes = build-passes graphiteAnode 11 tt refl
 
@@ -71,11 +71,11 @@ diffusivity-is : diffusivityAt graphiteAnode room ≡ f64 0x3d25_f47e_09a9_f0ea
 unfolding diffusivityAt graphiteAnode
 diffusivity-is = ap (λ (x : Float). f64 0x3d25_f47e_09a9_f0ea ⊗ expOf x) exponent-is ∙ ap (λ (x : Float). f64 0x3d25_f47e_09a9_f0ea ⊗ x) exp-0 ∙ times-one
 
-sheet-is : start .params ≡ graphiteAnode
+pub sheet-is : start .params ≡ graphiteAnode
 unfolding made newRefusal fresh firstMet refusalUnless graphiteAnode le ofBits
 sheet-is = refl
 
-nodes-are : start .«n_nodes» ≡ 11
+pub nodes-are : start .«n_nodes» ≡ 11
 unfolding made newRefusal fresh firstMet refusalUnless graphiteAnode le ofBits
 nodes-are = refl
 
@@ -91,14 +91,14 @@ chosen = refl
 draw-kept : Kept (numbersOf start draw)
 draw-kept = rw (sheet-is, diffusivity-is, spacing-is, nodes-are) closed-kept
 
-discharge-taken : taken start discharge ≡ draw ∷ draw ∷ draw ∷ []
+pub discharge-taken : taken start discharge ≡ draw ∷ draw ∷ draw ∷ []
 discharge-taken = taken-are start discharge start-passes ∙ chosen
 
-discharge-keeps : Each (λ q. Kept (numbersOf start q)) (taken start discharge)
+pub discharge-keeps : Each (λ q. Kept (numbersOf start q)) (taken start discharge)
 discharge-keeps = rw discharge-taken (Each.more draw-kept (Each.more draw-kept (Each.more draw-kept Each.none)))
 
 -- five calls, two of them refused: K = 3
-discharge-counted : K start discharge ≡ 3
+pub discharge-counted : K start discharge ≡ 3
 discharge-counted = ap length discharge-taken
 
 -- ---- theorem 1 for them

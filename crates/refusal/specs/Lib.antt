@@ -11,3 +11,4 @@
 pub mod Numbers
 pub mod Ranges
 pub mod Answers
+pub mod Literals

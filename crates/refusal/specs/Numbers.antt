@@ -33,8 +33,8 @@ notFinite = 8
 abbrev pub singular : ℕ
 singular = 9
 
-abbrev pub length : ℕ
-length = 10
+abbrev pub badLength : ℕ
+badLength = 10
 
 -- none where the test passed, else the number
 unfoldable pub refusalUnless : Bool → ℕ → ℕ

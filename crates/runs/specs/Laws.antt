@@ -47,16 +47,16 @@ module _ {S : Type 0} (over : S → ℕ) (turned : S → S) (row : S → List Fl
       rw (add-one, eq-eqb _ _ h, eq-eqb _ _ g′)
 
   -- i turns are made and the run goes on
-  pub record Going (out₀ : List Float) (total : ℕ) (out : List Float) (now : S) (i : ℕ) : Type 0 where
+  pub record Going (out₀ : List Float) (total : ℕ) (out : List Float) (x : S) (i : ℕ) : Type 0 where
     pub within : i ≤ total
-    pub state : now ≡ after i
-    pub on : over now ≡ 0
+    pub state : x ≡ after i
+    pub on : over x ≡ 0
     pub places : out ≡ rows i out₀
     pub long : length out ≡ length out₀
 
   -- the run has stopped with this state and this slice
   abbrev pub Stopped : List Float → ℕ → S → List Float → Type 0
-  Stopped out₀ total now out = (now ≡ after total) × (out ≡ rows total out₀)
+  Stopped out₀ total x out = (x ≡ after total) × (out ≡ rows total out₀)
 
   -- a run that is over before its first turn
   pub over-at-once : (out₀ : List Float) (total : ℕ) → (over s ≡ 0 → ⊥) → Stopped out₀ total s out₀
@@ -66,19 +66,19 @@ module _ {S : Type 0} (over : S → ℕ) (turned : S → S) (row : S → List Fl
       zero-plus : 0 + total ≡ total
       zero-plus = omega arith
 
-  module _ (out₀ : List Float) (total : ℕ) (out : List Float) (now : S) (i : ℕ) (g : Going out₀ total out now i) where
+  module _ (out₀ : List Float) (total : ℕ) (out : List Float) (x : S) (i : ℕ) (g : Going out₀ total out x i) where
     on-at : over (after i) ≡ 0
     on-at = rw (g .state) at (g .on)
 
-    next : (now′ : S) → now′ ≡ turned now → now′ ≡ after (i + 1)
-    next now′ e = rw (e, run-more i on-at, g .state)
+    next : (x′ : S) → x′ ≡ turned x → x′ ≡ after (i + 1)
+    next x′ e = rw (e, run-more i on-at, g .state)
 
     -- the slice after a row
-    row-put : (now′ : S) (r out′ : List Float) → now′ ≡ turned now → (over now′ ≡ 4 → ⊥) → r ≡ row now′
+    row-put : (x′ : S) (r out′ : List Float) → x′ ≡ turned x → (over x′ ≡ 4 → ⊥) → r ≡ row x′
         → out′ ≡ placesBy (i * 8) 8 (λ j. getD r j nan) out → out′ ≡ rows (i + 1) out₀
-    row-put now′ r out′ e h q o =
-        let h′ : over (after (i + 1)) ≡ 4 → ⊥ = rw (next now′ e) at h in
-        rw (rows-more i out₀ on-at h′, o, q, next now′ e, g .places)
+    row-put x′ r out′ e h q o =
+        let h′ : over (after (i + 1)) ≡ 4 → ⊥ = rw (next x′ e) at h in
+        rw (rows-more i out₀ on-at h′, o, q, next x′ e, g .places)
 
     -- over after i + 1 turns, over after all
     settled : i < total → (over (after (i + 1)) ≡ 0 → ⊥) → (after total ≡ after (i + 1)) × (rows total out₀ ≡ rows (i + 1) out₀)
@@ -86,24 +86,24 @@ module _ {S : Type 0} (over : S → ℕ) (turned : S → S) (row : S → List Fl
         let e : i + 1 + (total - (i + 1)) ≡ total = omega arith in
         (rw e at (run-stays (i + 1) (total - (i + 1)) h), rw e at (rows-stay (i + 1) (total - (i + 1)) out₀ h))
 
-    pub going-on : (now′ : S) (r out′ : List Float) → now′ ≡ turned now → (over now′ ≡ 4 → ⊥) → r ≡ row now′
-        → out′ ≡ placesBy (i * 8) 8 (λ j. getD r j nan) out → length out′ ≡ length out → i < total → over now′ ≡ 0 → Going out₀ total out′ now′ (i + 1)
-    going-on now′ r out′ e h q o n l z =
-        record { within = omega arith; state = next now′ e; on = z; places = row-put now′ r out′ e h q o; long = n ∙ g .long }
+    pub going-on : (x′ : S) (r out′ : List Float) → x′ ≡ turned x → (over x′ ≡ 4 → ⊥) → r ≡ row x′
+        → out′ ≡ placesBy (i * 8) 8 (λ j. getD r j nan) out → length out′ ≡ length out → i < total → over x′ ≡ 0 → Going out₀ total out′ x′ (i + 1)
+    going-on x′ r out′ e h q o n l z =
+        record { within = omega arith; state = next x′ e; on = z; places = row-put x′ r out′ e h q o; long = n ∙ g .long }
 
-    pub ends-refused : (now′ : S) → now′ ≡ turned now → over now′ ≡ 4 → i < total → Stopped out₀ total now′ out
-    ends-refused now′ e z l =
-        let z′ : over (after (i + 1)) ≡ 4 = rw (next now′ e) at z in
+    pub ends-refused : (x′ : S) → x′ ≡ turned x → over x′ ≡ 4 → i < total → Stopped out₀ total x′ out
+    ends-refused x′ e z l =
+        let z′ : over (after (i + 1)) ≡ 4 = rw (next x′ e) at z in
         let q = settled l (λ y. absurd (omega (arith, y, z′))) in
-        (next now′ e ∙ sym (q .0), g .places ∙ sym (rows-refused i out₀ on-at z′) ∙ sym (q .1))
+        (next x′ e ∙ sym (q .0), g .places ∙ sym (rows-refused i out₀ on-at z′) ∙ sym (q .1))
 
-    pub ends-stopped : (now′ : S) (r out′ : List Float) → now′ ≡ turned now → (over now′ ≡ 4 → ⊥) → r ≡ row now′
-        → out′ ≡ placesBy (i * 8) 8 (λ j. getD r j nan) out → i < total → (over now′ ≡ 0 → ⊥) → Stopped out₀ total now′ out′
-    ends-stopped now′ r out′ e h q o l z =
-        let w = settled l (rw (next now′ e) at z) in
-        (next now′ e ∙ sym (w .0), row-put now′ r out′ e h q o ∙ sym (w .1))
+    pub ends-stopped : (x′ : S) (r out′ : List Float) → x′ ≡ turned x → (over x′ ≡ 4 → ⊥) → r ≡ row x′
+        → out′ ≡ placesBy (i * 8) 8 (λ j. getD r j nan) out → i < total → (over x′ ≡ 0 → ⊥) → Stopped out₀ total x′ out′
+    ends-stopped x′ r out′ e h q o l z =
+        let w = settled l (rw (next x′ e) at z) in
+        (next x′ e ∙ sym (w .0), row-put x′ r out′ e h q o ∙ sym (w .1))
 
-    pub ends-full : total ≤ i → Stopped out₀ total now out
+    pub ends-full : total ≤ i → Stopped out₀ total x out
     ends-full l =
         let e : i ≡ total = omega arith in
         (rw e at (g .state), rw e at (g .places))

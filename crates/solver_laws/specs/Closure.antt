@@ -158,6 +158,18 @@ module _ (s : SpmSolver) (i dt t : Float) where
       go a (Leads.refused k) z = absurd (omega (arith, z))
       go a (Leads.moved h g f) z = refl
 
+  -- and the clock raised once by dt
+  clock-raised : next .«time_s» ≡ s .«time_s» ⊕ dt
+  unfolding advanced
+  clock-raised = refl
+
+  pub step-clock : stepped s i dt t .refusal ≡ 0 → stepped s i dt t .solver .«time_s» ≡ s .«time_s» ⊕ dt
+  step-clock = go (stepped s i dt t) leads
+    where
+      go : (a : SpmStep) → Leads a → a .refusal ≡ 0 → a .solver .«time_s» ≡ s .«time_s» ⊕ dt
+      go a (Leads.refused k) z = absurd (omega (arith, z))
+      go a (Leads.moved h g f) z = clock-raised
+
   -- A STEP THAT IS REFUSED leaves the cell as it is, bit for bit, and reports no sub-steps
   pub step-refused : (stepped s i dt t .refusal ≡ 0 → ⊥) → (stepped s i dt t .solver ≡ s) × (stepped s i dt t .«sub_steps» ≡ 0)
   step-refused = go (stepped s i dt t) leads

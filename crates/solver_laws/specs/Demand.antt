@@ -113,6 +113,15 @@ pub record Inv (s r : SpmSolver) : Type 0 where
 pub itself : (s : SpmSolver) → cellRefusal s ≡ 0 → Inv s s
 itself s h = record { passes = h; make = record { config = refl; sheet = λ e. refl; nodes = λ e. refl } }
 
+-- and the cell after a call of it
+pub stays : (s r : SpmSolver) (q : Call) → Inv s r → Inv s (answer r q .solver)
+stays s r q v =
+    let m = step-make r (q .current) (q .dt) (q .temp) in
+    record {
+      passes = step-stays r (q .current) (q .dt) (q .temp) (v .passes);
+      make = record { config = m .config ∙ v .make .config; sheet = λ e. m .sheet e ∙ v .make .sheet e; nodes = λ e. m .nodes e ∙ v .make .nodes e };
+    }
+
 pub same-plan : (s r : SpmSolver) (q : Call) → SameMake s r → planFor r q ≡ planFor s q
 unfolding planOf currentDensity stableStep spacing
 same-plan s r q m = rw (m .config, m .sheet Electrode.anode, m .sheet Electrode.cathode, m .nodes Electrode.anode, m .nodes Electrode.cathode)
@@ -123,14 +132,6 @@ same-grid e s r m = rw (m .sheet e, m .nodes e)
 
 -- ---- what is to be shown of an electrode
 module _ (e : Electrode) (s : SpmSolver) where
-  stays : (r : SpmSolver) (q : Call) → Inv s r → Inv s (answer r q .solver)
-  stays r q v =
-      let m = step-make r (q .current) (q .dt) (q .temp) in
-      record {
-        passes = step-stays r (q .current) (q .dt) (q .temp) (v .passes);
-        make = record { config = m .config ∙ v .make .config; sheet = λ e. m .sheet e ∙ v .make .sheet e; nodes = λ e. m .nodes e ∙ v .make .nodes e };
-      }
-
   -- the profile of the advanced cell is that of a list of sub-steps
   next-profile : (f : Electrode) (r : SpmSolver) (q : Call) → particleAt f (next r (q .current) (q .dt) (q .temp)) .«c_s» ≡ run (gridAt f r) (movesBy f (planFor r q) (q .dt)) (particleAt f r .«c_s»)
   unfolding advanced profileAfter
@@ -163,7 +164,7 @@ module _ (e : Electrode) (s : SpmSolver) where
           (subst (λ (p : Plan). Each (λ m. Sound (drive (gridAt e r) m)) (movesBy e p (q .dt))) (same-plan s r q (v .make)) (copies h (subStepsOf (planFor r q)) (count-most (planFor r q) g)))
 
   pub lawful : Lawful (steps e s) (Inv s)
-  lawful = record { stays = stays; law = law; sound = sound }
+  lawful = record { stays = stays s; law = law; sound = sound }
 
   -- ---- the folds above are those of the stepper
   pub after-is : (qs : List Call) (r : SpmSolver) → after (steps e s) r qs ≡ cellAfter r qs
@@ -186,7 +187,7 @@ module _ (e : Electrode) (s : SpmSolver) where
   pub total-is : (qs : List Call) (r : SpmSolver) → Inv s r → total (steps e s) r qs ≡ K r qs
   unfolding total K
   total-is [] r v = refl
-  total-is (q ∷ qs) r v = rw (reported-count r q v, total-is qs (answer r q .solver) (stays r q v))
+  total-is (q ∷ qs) r v = rw (reported-count r q v, total-is qs (answer r q .solver) (stays s r q v))
 
   -- from a cell in the middle of the list too
   module _ (r : SpmSolver) (qs : List Call) (v : Inv s r) where

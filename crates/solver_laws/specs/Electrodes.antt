@@ -101,10 +101,15 @@ module _ (s : SpmSolver) (h : cellRefusal s ≡ 0) where
   sheet-at : (e : Electrode) → T (sheetFits (particleAt e s .params))
   sheet-at e = sheet-passed (particleAt e s) (electrode-passes e)
 
--- ---- a_s * L * F
-faraday-range : (g : SpmConfig) → T (configFits g) → Within (g .faraday) (2 ^ 17) 1 (2 ^ 16) 1
+-- ---- the config's numbers
+pub record ConfigRanges (g : SpmConfig) : Type 0 where
+  pub faraday : Within (g .faraday) (2 ^ 17) 1 (2 ^ 16) 1
+  pub gas : Within (g .«r_gas») 9 1 8 1
+  pub resistance : Sized (g .«r_electrolyte_ohm_m2») 1 1
+
+pub config-ranges : (g : SpmConfig) → T (configFits g) → ConfigRanges g
 unfolding ofBits
-faraday-range g t =
+config-ranges g t =
     let v1 = le (neg (f64 0x4024_0000_0000_0000)) (g .«v_min») in
     let v2 = le (g .«v_min») (f64 0x4024_0000_0000_0000) in
     let v3 = le (neg (f64 0x4024_0000_0000_0000)) (g .«v_max») in
@@ -116,9 +121,18 @@ faraday-range g t =
     let o1 = le (f64 0) (g .«r_electrolyte_ohm_m2») in
     let o2 = le (g .«r_electrolyte_ohm_m2») (f64 0x3ff0_0000_0000_0000) in
     let v = v1 && v2 && v3 && v4 in
-    let k = and-l (v && f1 && f2) r1 (and-l (v && f1 && f2 && r1) r2 (and-l (v && f1 && f2 && r1 && r2) o1 (and-l (v && f1 && f2 && r1 && r2 && o1) o2 t))) in
-    wider (tested-within (f64 0x40f5_f900_0000_0000) (g .faraday) (f64 0x40f8_6a00_0000_0000) tt tt (and-r v f1 (and-l (v && f1) f2 k)) (and-r (v && f1) f2 k)) (2 ^ 17) 1 (2 ^ 16) 1 tt tt tt tt
+    let f = v && f1 && f2 in
+    let t9 = and-l (f && r1 && r2 && o1) o2 t in
+    let t8 = and-l (f && r1 && r2) o1 t9 in
+    let t7 = and-l (f && r1) r2 t8 in
+    let t6 = and-l f r1 t7 in
+    record {
+      faraday = wider (tested-within (f64 0x40f5_f900_0000_0000) (g .faraday) (f64 0x40f8_6a00_0000_0000) tt tt (and-r v f1 (and-l (v && f1) f2 t6)) (and-r (v && f1) f2 t6)) (2 ^ 17) 1 (2 ^ 16) 1 tt tt tt tt;
+      gas = wider (tested-within (f64 0x4020_0000_0000_0000) (g .«r_gas») (f64 0x4022_0000_0000_0000) tt tt (and-r f r1 t7) (and-r (f && r1) r2 t8)) 9 1 8 1 tt tt tt tt;
+      resistance = most-wider (tested-sized (f64 0) (g .«r_electrolyte_ohm_m2») (f64 0x3ff0_0000_0000_0000) tt tt tt (and-r (f && r1 && r2) o1 t9) (and-r (f && r1 && r2 && o1) o2 t)) 1 1 tt tt;
+    }
 
+-- ---- a_s * L * F
 three : Within (f64 0x4008_0000_0000_0000) 3 1 3 1
 unfolding ofBits
 three = literal (f64 0x4008_0000_0000_0000) 3 1 3 1 tt tt tt tt tt
@@ -130,7 +144,7 @@ wall-range p g h k =
     let r = sheet-ranges p h in
     let solid = mul-between three (r .solid) 4 1 1 (2 ^ 6) tt tt tt tt in
     let surface = div-between solid (r .radius) (2 ^ 29) 1 (2 ^ 3) 1 tt tt tt tt tt in
-    mul-between (mul-between surface (r .thick) (2 ^ 23) 1 1 (2 ^ 21) tt tt tt tt) (faraday-range g k) (2 ^ 42) 1 1 (2 ^ 7) tt tt tt tt
+    mul-between (mul-between surface (r .thick) (2 ^ 23) 1 1 (2 ^ 21) tt tt tt tt) (config-ranges g k .faraday) (2 ^ 42) 1 1 (2 ^ 7) tt tt tt tt
 
 pub wall-above : (p : ElectrodeParams) (g : SpmConfig) → T (sheetFits p) → T (configFits g) → nat 0 <F val (wallCurrent p (g .faraday))
 wall-above p g h k = size-pos (within-scaled (wall-range p g h k) 7 42 tt tt .size)
@@ -144,7 +158,7 @@ module _ (s : SpmSolver) (h : cellRefusal s ≡ 0) where
   unfolding currentDensity
   density-range i m = sized (div-most m area-range (2 ^ 40) 1 tt tt tt)
 
-  flux-range : (i dt t : Float) → Sized i (2 ^ 20) 1 → (e : Electrode) → Sized (fluxIn e (planOf s i dt t)) (2 ^ 100) 1
+  pub flux-range : (i dt t : Float) → Sized i (2 ^ 20) 1 → (e : Electrode) → Sized (fluxIn e (planOf s i dt t)) (2 ^ 100) 1
   unfolding planOf
   flux-range i dt t m Electrode.anode = sized (div-most (neg-most (density-range i m)) (wall-range (s .anode .params) (s .config) (sheet-at s h Electrode.anode) (config-passed s h)) (2 ^ 100) 1 tt tt tt)
   flux-range i dt t m Electrode.cathode = sized (div-most (density-range i m) (wall-range (s .cathode .params) (s .config) (sheet-at s h Electrode.cathode) (config-passed s h)) (2 ^ 100) 1 tt tt tt)
@@ -170,7 +184,7 @@ module _ (s : SpmSolver) (h : cellRefusal s ≡ 0) where
         (neg-le (currentDensity s i) (currentDensity s i') density-le) (wall-above (s .anode .params) (s .config) (sheet-at s h Electrode.anode) (config-passed s h)))
 
 -- ---- what a step that nothing refuses before it is made works with
-current-range : (i : Float) → T (loadFits i (f64 0x412e_8480_0000_0000)) → Sized i (2 ^ 20) 1
+pub current-range : (i : Float) → T (loadFits i (f64 0x412e_8480_0000_0000)) → Sized i (2 ^ 20) 1
 unfolding ofBits neg
 current-range i t =
     let hi = f64 0x412e_8480_0000_0000 in
@@ -218,11 +232,11 @@ module _ (s : SpmSolver) (i dt t : Float) (h : inputRefusal s i dt t ≡ 0) wher
   unfolding inputRefusal
   current-fits = current-range i (passed (loadFits i (f64 0x412e_8480_0000_0000)) load (zero-lt-suc 2) (none-met _ _ (none-met _ _ h .1) .0))
 
-  interval-fits : T (intervalFits dt)
+  pub interval-fits : T (intervalFits dt)
   unfolding inputRefusal
   interval-fits = passed (intervalFits dt) interval (zero-lt-suc 3) (none-met _ _ (none-met _ _ (none-met _ _ h .1) .1) .0)
 
-  temperature-fits : T (temperatureFits t)
+  pub temperature-fits : T (temperatureFits t)
   unfolding inputRefusal
   temperature-fits = passed (temperatureFits t) temperature (zero-lt-suc 4) (none-met _ _ (none-met _ _ (none-met _ _ h .1) .1) .1)
 

@@ -1,60 +1,49 @@
--- A worked instance of theorems 2 and 3: the ready cell of graphite and lithium iron phosphate, 11 nodes, 3 A and 4 A for a second at 298.15 K, and refused calls. Computed. Assumes nothing.
+-- A worked instance of theorems 2 and 3: the ready cell of graphite and lithium iron phosphate, 11 nodes, 298.15 K. A call of 2 s, which has two sub-steps, and one of 1 s on the
+-- cell that it leaves, at 3 A and at 4 A, with refused calls before, between and after them; and a second cell of another clock. Computed. Assumes nothing.
 use Prim.Native.Nat.{ℕ, _+_, _^_, _<_}
-use mathlib.Core.Path.{_≡_, refl, sym, ap, _∙_, subst}
+use mathlib.Core.Path.{_≡_, refl, ap, _∙_, subst}
 use mathlib.Core.Bool.{_&&_}
-use mathlib.Core.List.{List, [], _∷_}
+use mathlib.Core.List.{List, [], _∷_, _++_}
 use native.Mathlib.Omega.{arith}
 use lib.Dec.{T}
-use lib.Ieee.{Float, nan, isNan, neg, le, lt, add, sub, mul, div, round, size, ofInt, fits, ofBits}
+use lib.Ieee.{Float, binary64, nan, neg, isNan, le, lt, add, sub, mul, div, round, size, ofInt, fits, ofBits}
 use lib.Ieee.Bits.{is-true}
-use lib.Ieee.Fits.{and-i}
+use lib.Ieee.Fits.{and-i, and-l, and-r}
+use lib.Ieee.Scale.{finite}
 use Rattle.fraction.specs.Fraction.{whole, nat, pow2, negF, _-F_, _*F_, _/F_, ∣_∣, _≤F_, _within_}
-use Rattle.fraction.specs.Field.{≈F-refl}
+use Rattle.fraction.specs.Field.{≈F-refl, ≤F-trans}
 use Rattle.fraction.specs.Order.{lit≤F}
-use Rattle.binary64.specs.Operators.{_⊖_, _⊗_, _⊘_, f64, count}
-use Rattle.binary64.specs.Range.{Within, Sized, sized, neg-most}
-use Rattle.binary64.specs.RangeTests.{literal}
-use Rattle.binary64.specs.RangeOps.{mul-between, mul-most, div-most, add-most, sub-most}
+use Rattle.fraction.specs.Within.{abs-of-within}
+use Rattle.fraction.specs.Certificate.{quote, le-by, up, num, _⊞_, _⊠_}
+use Rattle.binary64.specs.Operators.{_⊕_, _⊖_, _⊗_, _⊘_, f64, count}
+use Rattle.binary64.specs.Range.{Sized}
 use Rattle.binary64.specs.Value.{val}
-use Rattle.square_root.specs.Root.{sqrtOf, rounded, wholeRoot, rootBelow}
-use Rattle.choice.specs.Choice.{clampOf, signumOf}
-use Rattle.elementary.proofs.AsinhRange.{asinh-finite}
 use Rattle.elementary.specs.Exp.{one, expOf}
-use Rattle.choice.specs.Count.{ceilOf}
 use Rattle.elementary.proofs.ExpLaws.{exp-0}
+use Rattle.choice.specs.Count.{ceilOf}
 use Rattle.refusal.specs.Numbers.{firstMet, refusalUnless}
-use Rattle.electrode.specs.declared.ElectrodeParams.{ElectrodeParams}
+use Rattle.refusal.specs.Ranges.{loadFits, intervalFits, temperatureFits, clockFits}
 use Rattle.electrode.specs.Sheet.{graphiteAnode, lfpCathode, specificArea, diffusivityAt}
-use Rattle.refusal.specs.Ranges.{finite, loadFits, clockFits}
-use Rattle.turns.specs.Turns.{firstBy, times}
-use Rattle.diffusion.specs.SubStep.{rate, node, subStep}
-use Rattle.profile.specs.Places.{finiteProfile, filled}
-use Rattle.diffusion.specs.Exact.{Numbers}
 use Rattle.diffusion.specs.Premises.{Kept}
 use Rattle.diffusion.specs.Run.{Each, Both}
-use Rattle.particle.specs.declared.ParticleDiffusion.{ParticleDiffusion}
-use Rattle.particle.specs.declared.ParticleAnswer.{ParticleAnswer}
-use Rattle.particle.specs.Checks.{particleRefusal, fieldsFit, fields-of}
-use Rattle.particle.specs.Particle.{spacing, stableStep, surfaceTheta, surfacePotential, averageTheta}
-use Rattle.particle.specs.Calls.{newRefusal, fresh, made}
-use Rattle.particle_laws.specs.Ranges.{either}
-use Rattle.particle_laws.specs.Nodes.{number}
-use Rattle.particle_laws.specs.Finite.{average-theta-fine, surface-theta-fine}
-use Rattle.particle_laws.specs.Potential.{open-circuit-sized}
-use Rattle.particle_laws.specs.Closure as ParticleClosure
+use Rattle.particle.specs.Checks.{fieldsFit}
+use Rattle.particle.specs.Particle.{spacing, stableStep}
+use Rattle.particle.specs.Calls.{fresh}
 use Rattle.kinetics.specs.declared.SpmConfig.{SpmConfig}
-use Rattle.kinetics.specs.Kinetics.{configFits, wallCurrent, exchange, overpotential}
+use Rattle.kinetics.specs.Kinetics.{configFits, wallCurrent}
 use Rattle.solver.specs.declared.SpmSolver.{SpmSolver}
+use Rattle.solver.specs.Cell.{cellRefusal, buildRefusal, freshSolver, built, ready, cell-met}
 use Rattle.solver_plan.specs.declared.Plan.{Plan}
-use Rattle.solver.specs.Cell.{gridFits, cellFits, cellRefusal, buildRefusal, freshSolver, built, ready}
 use Rattle.solver_plan.specs.Plans.{planRefusal, subStepsOf}
-use Rattle.solver_step.specs.Moves.{profileAfter}
-use Rattle.solver.specs.Step.{inputRefusal, stepped, reported, finiteStep, advanced, voltageOf, currentDensity, planOf, quotient}
-use Rattle.solver_laws.specs.Electrodes.{Electrode, particleAt, diffusivityIn, fluxIn, nodes-are}
-use Rattle.solver_laws.specs.Closure.{electrode-next, accepted-where, step-stays, step-count}
-use Rattle.solver_laws.specs.Demand.{Call, answer, taken, K, planFor, numbersAt, KeptAt, place, exactPlace, solver-near, Accepted, at-accepted, Refused, at-refused}
-use Rattle.solver_laws.specs.Ranking.{Ranked, solver-ranking}
+use Rattle.solver.specs.Step.{inputRefusal, currentDensity, quotient, planOf, planned, stepped}
+use Rattle.solver_laws.specs.Electrodes.{Electrode, particleAt, diffusivityIn, fluxIn, nodes-are, grid-passed, current-range, cathode-flux, anode-flux}
+use Rattle.solver_laws.specs.Closure.{step-count, step-clock}
+use Rattle.solver_laws.specs.Build.{cell-passes, build-passes}
+use Rattle.solver_laws.specs.Acceptance.{step-accepted}
+use Rattle.solver_laws.specs.Demand.{Call, answer, taken, K, planFor, numbersAt, KeptAt, place, exactPlace, Inv, itself, stays, same-plan, solver-near, at-accepted, at-refused}
+use Rattle.solver_laws.specs.Ranking.{Paired, Twins, Ranked, same-numbers, solver-ranking}
 
+-- ---- two cells
 -- the config's defaults
 abbrev pub config : SpmConfig
 config = record {
@@ -66,330 +55,278 @@ config = record {
   «r_electrolyte_ohm_m2» = f64 0x3f2a_36e2_eb1c_432d;  -- 2e-4
 }
 
-abbrev pub start : SpmSolver
-start = record { config = config; anode = fresh graphiteAnode 11; cathode = fresh lfpCathode 11; «time_s» = f64 0 }
+abbrev pub cellAt : Float → SpmSolver
+cellAt clock = record { config = config; anode = fresh graphiteAnode 11; cathode = fresh lfpCathode 11; «time_s» = clock }
 
 -- what `graphite_lfp` answers
-start-is : ready config lfpCathode .solver ≡ start
-unfolding built buildRefusal freshSolver firstMet refusalUnless graphiteAnode lfpCathode le neg ofBits
-start-is = refl
+abbrev pub start : SpmSolver
+start = cellAt (f64 0)
 
-anode-made : made graphiteAnode 11 ≡ record { refusal = 0; particle = fresh graphiteAnode 11 }
-unfolding made newRefusal firstMet refusalUnless graphiteAnode le ofBits
-anode-made = refl
+-- the same at 3,600 s
+abbrev pub later : SpmSolver
+later = cellAt (f64 0x40ac_2000_0000_0000)
 
-cathode-made : made lfpCathode 11 ≡ record { refusal = 0; particle = fresh lfpCathode 11 }
-unfolding made newRefusal firstMet refusalUnless lfpCathode le ofBits
-cathode-made = refl
-
-anode-passes : particleRefusal (fresh graphiteAnode 11) ≡ 0
-unfolding graphiteAnode fits ofBits
-anode-passes = subst (λ (a : ParticleAnswer). a .refusal ≡ 0 → particleRefusal (a .particle) ≡ 0) anode-made (ParticleClosure.build-passes graphiteAnode 11 tt) refl
-
-cathode-passes : particleRefusal (fresh lfpCathode 11) ≡ 0
-unfolding lfpCathode fits ofBits
-cathode-passes = subst (λ (a : ParticleAnswer). a .refusal ≡ 0 → particleRefusal (a .particle) ≡ 0) cathode-made (ParticleClosure.build-passes lfpCathode 11 tt) refl
-
--- 298.15 K
+-- ---- the calls, all at 298.15 K
 abbrev room : Float
 room = f64 0x4072_a266_6666_6666
 
--- a draw: its current, and the numbers that the cell works out from it
-pub record Draw : Type 0 where
-  pub current : Float
-  -- fluxes
-  pub j_neg : Float
-  pub j_pos : Float
-  -- the surfaces' stoichiometries after it
-  pub theta_neg : Float
-  pub theta_pos : Float
-  -- the exchange there
-  pub i_neg : Float
-  pub i_pos : Float
+-- 2 s, and a day
+abbrev pub two : Float
+two = f64 0x4000_0000_0000_0000
 
--- for a second
-abbrev pub callOf : Float → Call
-callOf i = record { current = i; dt = one; temp = room }
+abbrev day : Float
+day = f64 0x40f5_1800_0000_0000
 
--- refused: a current that is no number
+abbrev pub three : Float
+three = f64 0x4008_0000_0000_0000
+
+abbrev pub four : Float
+four = f64 0x4010_0000_0000_0000
+
+abbrev pub draw : Float → Float → Call
+draw i dt = record { current = i; dt = dt; temp = room }
+
+-- refused with 3: a current that is no number
 abbrev pub no-current : Call
-no-current = record { current = nan; dt = one; temp = room }
+no-current = draw nan one
+
+-- refused with 7: a day at once has 61,440 sub-steps
+abbrev pub too-long : Call
+too-long = draw three day
+
+-- at 3 A, and at 4 A
+abbrev pub discharge : List Call
+discharge = no-current ∷ draw three two ∷ too-long ∷ draw three one ∷ no-current ∷ []
+
+abbrev pub stronger : List Call
+stronger = draw four two ∷ no-current ∷ too-long ∷ draw four one ∷ []
+
+-- ---- the cells pass the checks
+pub start-is : (ready config lfpCathode .refusal ≡ 0) × (ready config lfpCathode .solver ≡ start)
+unfolding built buildRefusal freshSolver firstMet refusalUnless graphiteAnode lfpCathode le neg ofBits
+start-is = (refl, refl)
+
+max-fits : T (fits binary64 (graphiteAnode .«c_s_max»)) × T (fits binary64 (lfpCathode .«c_s_max»))
+unfolding graphiteAnode lfpCathode fits ofBits
+max-fits = (tt, tt)
+
+pub start-passes : cellRefusal start ≡ 0
+start-passes = subst (λ (s : SpmSolver). cellRefusal s ≡ 0) (start-is .1) (build-passes config graphiteAnode lfpCathode (max-fits .0) (max-fits .1) (start-is .0))
+
+later-clock : T (clockFits (later .«time_s»))
+unfolding le ofBits
+later-clock = tt
+
+pub later-passes : cellRefusal later ≡ 0
+later-passes =
+    let a = configFits config && fieldsFit (fresh graphiteAnode 11) && fieldsFit (fresh lfpCathode 11) in
+    cell-passes later (grid-passed start start-passes) (and-i a (clockFits (later .«time_s»)) (and-l a (clockFits (f64 0)) (cell-met start start-passes)) later-clock)
+
+same-particle : (e : Electrode) → particleAt e later ≡ particleAt e start
+same-particle Electrode.anode = refl
+same-particle Electrode.cathode = refl
+
+later-made : Inv start later
+later-made = record { passes = later-passes; make = record { config = refl; sheet = λ e. rw (same-particle e); nodes = λ e. rw (same-particle e) } }
+
+-- the same but for the clock
+pub twins : Twins start later
+twins = record { config = refl; sheet = λ e. later-made .make .sheet e; nodes = λ e i l. rw (same-particle e) ≈F-refl }
 
 -- ---- the diffusivities: at the reference temperature the exponent is 0, and E(0) = 1
-anode-exponent : f64 0x40e1_1700_0000_0000 ⊘ f64 0x4020_a0c4_9ba5_e354 ⊗ (one ⊘ room ⊖ one ⊘ room) ≡ f64 0
-unfolding sub mul div ofBits
-anode-exponent = refl
+abbrev dNeg : Float
+dNeg = f64 0x3d25_f47e_09a9_f0ea
 
-cathode-exponent : f64 0x40d3_8800_0000_0000 ⊘ f64 0x4020_a0c4_9ba5_e354 ⊗ (one ⊘ room ⊖ one ⊘ room) ≡ f64 0
-unfolding sub mul div ofBits
-cathode-exponent = refl
+abbrev dPos : Float
+dPos = f64 0x3d06_849b_86a1_2b9b
 
-times-one : (f64 0x3d25_f47e_09a9_f0ea ⊗ one ≡ f64 0x3d25_f47e_09a9_f0ea) × (f64 0x3d06_849b_86a1_2b9b ⊗ one ≡ f64 0x3d06_849b_86a1_2b9b)
+abbrev exponent : Float → Float
+exponent activation = activation ⊘ f64 0x4020_a0c4_9ba5_e354 ⊗ (one ⊘ room ⊖ one ⊘ room)
+
+exponents : (exponent (f64 0x40e1_1700_0000_0000) ≡ f64 0) × (exponent (f64 0x40d3_8800_0000_0000) ≡ f64 0)
+unfolding sub mul div ofBits
+exponents = (refl, refl)
+
+times-one : (dNeg ⊗ one ≡ dNeg) × (dPos ⊗ one ≡ dPos)
 unfolding mul ofBits
 times-one = (refl, refl)
 
--- 3.9e-14 and 1e-14
-anode-diffusivity : diffusivityAt graphiteAnode room ≡ f64 0x3d25_f47e_09a9_f0ea
+anode-diffusivity : diffusivityAt graphiteAnode room ≡ dNeg
 unfolding diffusivityAt graphiteAnode
-anode-diffusivity = ap (λ (x : Float). f64 0x3d25_f47e_09a9_f0ea ⊗ expOf x) anode-exponent ∙ ap (λ (x : Float). f64 0x3d25_f47e_09a9_f0ea ⊗ x) exp-0 ∙ times-one .0
+anode-diffusivity = ap (λ (x : Float). dNeg ⊗ expOf x) (exponents .0) ∙ ap (λ (x : Float). dNeg ⊗ x) exp-0 ∙ times-one .0
 
-cathode-diffusivity : diffusivityAt lfpCathode room ≡ f64 0x3d06_849b_86a1_2b9b
+cathode-diffusivity : diffusivityAt lfpCathode room ≡ dPos
 unfolding diffusivityAt lfpCathode
-cathode-diffusivity = ap (λ (x : Float). f64 0x3d06_849b_86a1_2b9b ⊗ expOf x) cathode-exponent ∙ ap (λ (x : Float). f64 0x3d06_849b_86a1_2b9b ⊗ x) exp-0 ∙ times-one .1
+cathode-diffusivity = ap (λ (x : Float). dPos ⊗ expOf x) (exponents .1) ∙ ap (λ (x : Float). dPos ⊗ x) exp-0 ∙ times-one .1
 
--- ---- the plan: one sub-step
-abbrev thePlan : Draw → Plan
-thePlan w = record { «d_neg» = f64 0x3d25_f47e_09a9_f0ea; «d_pos» = f64 0x3d06_849b_86a1_2b9b; «j_neg» = w .j_neg; «j_pos» = w .j_pos; q = one }
-
+-- ---- the plan of any current and interval
 abbrev planBy : Float → Float → Float → Plan
-planBy i dNeg dPos = record {
+planBy i dt q = record {
   «d_neg» = dNeg;
   «d_pos» = dPos;
   «j_neg» = neg (currentDensity start i) ⊘ wallCurrent graphiteAnode (config .faraday);
   «j_pos» = currentDensity start i ⊘ wallCurrent lfpCathode (config .faraday);
-  q = quotient start one dNeg dPos;
+  q = q;
 }
 
-plan-by : (i : Float) → planFor start (callOf i) ≡ planBy i (diffusivityAt graphiteAnode room) (diffusivityAt lfpCathode room)
+plan-is : (i dt q : Float) → quotient start dt dNeg dPos ≡ q → planFor start (draw i dt) ≡ planBy i dt q
 unfolding planOf fresh
-plan-by i = refl
+plan-is i dt q e = rw (anode-diffusivity, cathode-diffusivity, e)
 
-abbrev drawn : Draw → SpmSolver
-drawn w = advanced start (thePlan w) one
+-- an interval of k sub-steps of 1 s
+record Split (dt : Float) (k : ℕ) : Type 0 where
+  q : Float
+  quotient-is : quotient start dt dNeg dPos ≡ q
+  passes : (i : Float) → planRefusal (planBy i dt q) ≡ 0
+  count-is : ceilOf q ≡ k
+  part : dt ⊘ count k ≡ one
+  fits : T (intervalFits dt)
 
--- ---- the cell passes the checks
-start-grid : T (gridFits start)
-unfolding fresh
-start-grid = tt
+one-split : Split one 1
+unfolding fresh spacing stableStep planRefusal firstMet refusalUnless graphiteAnode lfpCathode ceilOf isNan le lt mul div round size ofInt ofBits
+one-split = record { q = one; quotient-is = refl; passes = λ i. refl; count-is = refl; part = refl; fits = tt }
 
-start-config : T (configFits config)
+two-split : Split two 2
+unfolding fresh spacing stableStep planRefusal firstMet refusalUnless graphiteAnode lfpCathode ceilOf isNan le lt mul div round size ofInt ofBits
+two-split = record { q = f64 0x3ff6_c16c_16c1_6c14; quotient-is = refl; passes = λ i. refl; count-is = refl; part = refl; fits = tt }
+
+-- the day's
+abbrev dayQuotient : Float
+dayQuotient = f64 0x40ed_ffff_ffff_fffc
+
+day-split : (quotient start day dNeg dPos ≡ dayQuotient) × (((i : Float) → planRefusal (planBy i day dayQuotient) ≡ 7) × T (intervalFits day))
+unfolding fresh spacing stableStep planRefusal firstMet refusalUnless graphiteAnode lfpCathode isNan le lt mul div round size ofInt ofBits
+day-split = (refl, (λ i. refl, tt))
+
+-- ---- a current of at most 4 A keeps the two conditions: the fluxes are least and greatest at -4 A and 4 A
+abbrev fluxMost : Electrode → Float
+fluxMost Electrode.anode = f64 0x3f08_1cac_346c_4365
+fluxMost Electrode.cathode = f64 0x3eec_ef35_0bb5_1da9
+
+record FluxEnds (dt : Float) : Type 0 where
+  anode-low : fluxIn Electrode.anode (planOf start four dt room) ≡ neg (fluxMost Electrode.anode)
+  anode-high : fluxIn Electrode.anode (planOf start (neg four) dt room) ≡ fluxMost Electrode.anode
+  cathode-low : fluxIn Electrode.cathode (planOf start (neg four) dt room) ≡ neg (fluxMost Electrode.cathode)
+  cathode-high : fluxIn Electrode.cathode (planOf start four dt room) ≡ fluxMost Electrode.cathode
+
+flux-ends : (dt : Float) → FluxEnds dt
+unfolding planOf currentDensity fresh wallCurrent specificArea graphiteAnode lfpCathode neg mul div ofBits
+flux-ends dt = record { anode-low = refl; anode-high = refl; cathode-low = refl; cathode-high = refl }
+
+neg-most : (e : Electrode) → negF (val (fluxMost e)) ≤F val (neg (fluxMost e))
+unfolding val negF whole neg ofBits
+neg-most Electrode.anode = lit≤F tt
+neg-most Electrode.cathode = lit≤F tt
+
+four-sized : Sized four (2 ^ 20) 1 × Sized (neg four) (2 ^ 20) 1
 unfolding le neg ofBits
-start-config = tt
+four-sized = (current-range four tt, current-range (neg four) tt)
 
-start-clock : T (clockFits (f64 0))
+flux-within : (e : Electrode) (i dt : Float) → Sized i (2 ^ 20) 1 → T (loadFits i four) → val (fluxIn e (planFor start (draw i dt))) within val (fluxMost e)
+flux-within Electrode.anode i dt m h =
+    let f = flux-ends dt in
+    let a = anode-flux start start-passes i four dt dt room room m (four-sized .0) (and-r (le (neg four) i) (le i four) h) in
+    let b = anode-flux start start-passes (neg four) i dt dt room room (four-sized .1) m (and-l (le (neg four) i) (le i four) h) in
+    record { lo = ≤F-trans (neg-most Electrode.anode) (rw (f .anode-low) at a); hi = rw (f .anode-high) at b }
+flux-within Electrode.cathode i dt m h =
+    let f = flux-ends dt in
+    let a = cathode-flux start start-passes i four dt dt room room m (four-sized .0) (and-r (le (neg four) i) (le i four) h) in
+    let b = cathode-flux start start-passes (neg four) i dt dt room room (four-sized .1) m (and-l (le (neg four) i) (le i four) h) in
+    record { lo = ≤F-trans (neg-most Electrode.cathode) (rw (f .cathode-low) at b); hi = rw (f .cathode-high) at a }
+
+-- at the anode 6·D·t is 2.3e-13, h² 1.6e-12, 2·h·∣flux∣ at most 1.2e-10, D·M 1.2e-9; at the cathode 6e-14, 6.25e-14, 6.9e-12 and 2.3e-10
+abbrev diffusivityOf : Electrode → Float
+diffusivityOf Electrode.anode = dNeg
+diffusivityOf Electrode.cathode = dPos
+
+record Conditions (e : Electrode) : Type 0 where
+  spaced : nat 0 ≤F val (spacing (particleAt e start))
+  stable : nat 6 *F val (diffusivityOf e) *F val one ≤F val (spacing (particleAt e start)) *F val (spacing (particleAt e start))
+  flux : nat 2 *F val (spacing (particleAt e start)) *F val (fluxMost e) ≤F val (diffusivityOf e) *F val (particleAt e start .params .«c_s_max»)
+
+conditions : (e : Electrode) → Conditions e
+unfolding fresh spacing graphiteAnode lfpCathode val whole _*F_ div round size ofInt ofBits
+conditions Electrode.anode = record { spaced = lit≤F tt; stable = lit≤F tt; flux = lit≤F tt }
+conditions Electrode.cathode = record { spaced = lit≤F tt; stable = lit≤F tt; flux = lit≤F tt }
+
+diffusivity-is : (e : Electrode) (i dt q : Float) → diffusivityIn e (planBy i dt q) ≡ diffusivityOf e
+diffusivity-is Electrode.anode i dt q = refl
+diffusivity-is Electrode.cathode i dt q = refl
+
+draw-kept : (e : Electrode) (i dt : Float) (k : ℕ) → Split dt k → Sized i (2 ^ 20) 1 → T (loadFits i four) → Kept (numbersAt e start (draw i dt))
+draw-kept e i dt k c m h =
+    let plan = plan-is i dt (c .q) (c .quotient-is) in
+    let D : diffusivityIn e (planFor start (draw i dt)) ≡ diffusivityOf e = ap (diffusivityIn e) plan ∙ diffusivity-is e i dt (c .q) in
+    let t : dt ⊘ count (subStepsOf (planFor start (draw i dt))) ≡ one = ap (λ (p : Plan). dt ⊘ count (subStepsOf p)) plan ∙ ap (λ (n : ℕ). dt ⊘ count n) (c .count-is) ∙ c .part in
+    let f = abs-of-within (flux-within e i dt m h) in
+    let s = conditions e in
+    let w = val (spacing (particleAt e start)) in
+    let j = ∣ val (fluxIn e (planFor start (draw i dt))) ∣ in
+    let d = val (diffusivityOf e) in
+    let M = val (particleAt e start .params .«c_s_max») in
+    let g : nat 2 *F w *F j ≤F d *F M = le-by (w ∷ j ∷ d ∷ M ∷ val (fluxMost e) ∷ []) 0 (num 2 ⊠ s .spaced ⊠ up f ⊞ up (s .flux)) (search quote depth 24) tt in
+    record { stable = rw (D, t) (s .stable); gentle = rw D g }
+
+-- ---- a cell of that make, in the middle of a list
+room-fits : T (temperatureFits room)
 unfolding le ofBits
-start-clock = tt
+room-fits = tt
 
-fits-cell : (s : SpmSolver) → T (gridFits s) → T (cellFits s) → cellRefusal s ≡ 0
-unfolding cellRefusal firstMet refusalUnless
-fits-cell s g c = rw (is-true (gridFits s) g, is-true (cellFits s) c)
+module _ (r : SpmSolver) (v : Inv start r) where
+  draw-input : (i dt : Float) → T (loadFits i (f64 0x412e_8480_0000_0000)) → T (intervalFits dt) → inputRefusal r i dt room ≡ 0
+  unfolding inputRefusal firstMet refusalUnless
+  draw-input i dt h k = rw (v .passes, is-true (loadFits i (f64 0x412e_8480_0000_0000)) h, is-true (intervalFits dt) k, is-true (temperatureFits room) room-fits)
 
-start-passes : cellRefusal start ≡ 0
-start-passes =
-    let c = configFits config in
-    let a = fieldsFit (fresh graphiteAnode 11) in
-    let b = fieldsFit (fresh lfpCathode 11) in
-    fits-cell start start-grid (and-i (c && a && b) (clockFits (f64 0)) (and-i (c && a) b (and-i c a start-config (fields-of (fresh graphiteAnode 11) anode-passes)) (fields-of (fresh lfpCathode 11) cathode-passes)) start-clock)
+  draw-plan : (i dt q : Float) → quotient start dt dNeg dPos ≡ q → planFor r (draw i dt) ≡ planBy i dt q
+  draw-plan i dt q e = same-plan start r (draw i dt) (v .make) ∙ plan-is i dt q e
 
--- ---- the two conditions, at 3 A: at the anode 6·D·t is 2.3e-13, h² 1.6e-12, 2·h·∣flux∣ 8.6e-11, D·M 1.2e-9; at the cathode 6e-14, 6.25e-14, 5.2e-12 and 2.3e-10
-abbrev numbersBy : Electrode → Plan → Numbers
-numbersBy e p = record {
-  n = particleAt e start .«n_nodes»;
-  h = val (spacing (particleAt e start));
-  D = val (diffusivityIn e p);
-  M = val (particleAt e start .params .«c_s_max»);
-  flux = val (fluxIn e p);
-  t = val (one ⊘ count (subStepsOf p));
-}
+  -- A DRAW is accepted, whatever the profiles, and reports its sub-steps
+  module _ (i dt : Float) (k : ℕ) (c : Split dt k) (h : T (loadFits i (f64 0x412e_8480_0000_0000))) (f : T (finite (r .«time_s» ⊕ dt))) where
+    draw-accepted : answer r (draw i dt) .refusal ≡ 0
+    draw-accepted = step-accepted r i dt room (draw-input i dt h (c .fits)) (rw (draw-plan i dt (c .q) (c .quotient-is)) (c .passes i)) f
 
--- the exchange by a surface's stoichiometry
-abbrev exchangeBy : ElectrodeParams → Float → Float
-exchangeBy s x =
-    let c_ss = clampOf x (f64 0x3f84_7ae1_47ae_147b) (f64 0x3fef_ae14_7ae1_47ae) ⊗ s .«c_s_max» in
-    s .«k_bv» ⊗ sqrtOf (c_ss ⊗ (s .«c_s_max» ⊖ c_ss) ⊗ f64 0x408f_4000_0000_0000)
+    draw-count : answer r (draw i dt) .«sub_steps» ≡ k
+    draw-count = step-count r i dt room draw-accepted ∙ ap subStepsOf (draw-plan i dt (c .q) (c .quotient-is)) ∙ c .count-is
 
--- what is computed of a draw
-record Works (w : Draw) : Type 0 where
-  fits : T (loadFits (w .current) (f64 0x412e_8480_0000_0000))
-  plan : planBy (w .current) (f64 0x3d25_f47e_09a9_f0ea) (f64 0x3d06_849b_86a1_2b9b) ≡ thePlan w
-  passes : planRefusal (thePlan w) ≡ 0
-  kept : (e : Electrode) → Kept (numbersBy e (thePlan w))
-  anode-surface : surfaceTheta (drawn w .anode) ≡ w .theta_neg
-  cathode-surface : surfaceTheta (drawn w .cathode) ≡ w .theta_pos
-  anode-exchange : exchangeBy graphiteAnode (w .theta_neg) ≡ w .i_neg
-  cathode-exchange : exchangeBy lfpCathode (w .theta_pos) ≡ w .i_pos
-  anode-range : Within (w .i_neg) 1 1 1 (2 ^ 20)
-  cathode-range : Within (w .i_pos) 1 1 1 (2 ^ 20)
-  anode-flux : Sized (w .j_neg) 1 1
-  cathode-flux : Sized (w .j_pos) 1 1
-  ohm : Sized (currentDensity (drawn w) (w .current) ⊗ config .«r_electrolyte_ohm_m2» ⊗ signumOf (w .current)) 1 1
+  -- the refused calls
+  no-current-input : inputRefusal r nan one room ≡ 3
+  unfolding inputRefusal firstMet refusalUnless le neg ofBits
+  no-current-input = rw (v .passes)
 
--- ---- the refused call: whatever the cell that passes, number 3
-current-refused : (s : SpmSolver) → cellRefusal s ≡ 0 → inputRefusal s nan one room ≡ 3
-unfolding inputRefusal firstMet refusalUnless le neg ofBits
-current-refused s h = rw h
+  no-current-refused : answer r no-current .refusal ≡ 3
+  unfolding stepped
+  no-current-refused = rw no-current-input
 
-no-current-number : (s : SpmSolver) → cellRefusal s ≡ 0 → answer s no-current .refusal ≡ 3
-unfolding stepped
-no-current-number s h = rw (current-refused s h)
+  too-long-refused : T (loadFits three (f64 0x412e_8480_0000_0000)) → answer r too-long .refusal ≡ 7
+  unfolding stepped planned
+  too-long-refused h = rw (draw-input three day h (day-split .1 .1), draw-plan three day dayQuotient (day-split .0), day-split .1 .0 three)
 
-no-current-refused : (s : SpmSolver) → cellRefusal s ≡ 0 → answer s no-current .refusal ≡ 0 → ⊥
-no-current-refused s h z = let a = no-current-number s h in absurd (omega (arith, a, z))
+currents-fit : T (loadFits three (f64 0x412e_8480_0000_0000)) × T (loadFits four (f64 0x412e_8480_0000_0000))
+unfolding le neg ofBits
+currents-fit = (tt, tt)
 
--- ---- such a draw is accepted
--- the overpotentials are finite
-overpotential-sized : (p : ParticleDiffusion) (j : Float) → Sized j 1 1 → Within (exchange p) 1 1 1 (2 ^ 20) → Sized (overpotential config j p room) (2 ^ 10) 1
-unfolding overpotential ofBits
-overpotential-sized p j m w =
-    let two = literal (f64 0x4000_0000_0000_0000) 2 1 2 1 tt tt tt tt tt in
-    let gas = literal (f64 0x4020_a0c4_9ba5_e354) 9 1 8 1 tt tt tt tt tt in
-    let warm = literal room 299 1 298 1 tt tt tt tt tt in
-    let charge = literal (f64 0x40f7_8e50_0000_0000) (2 ^ 17) 1 (2 ^ 16) 1 tt tt tt tt tt in
-    let ratio = sized (div-most m (mul-between two w 2 1 1 (2 ^ 19) tt tt tt tt) (2 ^ 499) 1 tt tt tt) in
-    let scale = div-most (mul-most (mul-most (two .0) (gas .0) 18 1 tt tt) (warm .0) (2 ^ 13) 1 tt tt) charge 1 1 tt tt tt in
-    either (lt (exchange p) (f64 0x39b4_484b_feeb_c2a0)) (literal (f64 0) (2 ^ 10) 1 0 1 tt tt tt tt tt .0) (sized (mul-most scale (asinh-finite ratio) (2 ^ 10) 1 tt tt))
+small : T (loadFits three four) × T (loadFits four four)
+unfolding le neg ofBits
+small = (tt, tt)
 
-potential-sized : (p : ParticleDiffusion) → particleRefusal p ≡ 0 → Sized (surfacePotential p) (2 ^ 150) 1
-unfolding surfacePotential
-potential-sized p h = open-circuit-sized (p .params) (surfaceTheta p) (number (surfaceTheta p) (surface-theta-fine p h))
+-- refused by every cell of the make
+abbrev Refuses : Call → Type 0
+Refuses q = (r : SpmSolver) → Inv start r → answer r q .refusal ≡ 0 → ⊥
 
-clock-fine : (w : Draw) → T (finite (drawn w .«time_s»))
-unfolding advanced add ofBits
-clock-fine w = tt
+refuses-no-current : Refuses no-current
+refuses-no-current r v z = let a = no-current-refused r v in absurd (omega (arith, a, z))
 
-all-fine : (s : SpmSolver) (p : Plan) (i t : Float) → ((e : Electrode) → particleRefusal (particleAt e s) ≡ 0) → T (finite (voltageOf s p i t)) → T (finite (s .«time_s»)) → T (finiteStep s (reported s p i t))
-unfolding finiteStep reported
-all-fine s p i t h v k =
-    let a = finiteProfile (s .anode .«c_s») in
-    let b = finiteProfile (s .cathode .«c_s») in
-    let c = finite (voltageOf s p i t) in
-    let d = finite (surfaceTheta (s .anode)) in
-    let e = finite (surfaceTheta (s .cathode)) in
-    let f = finite (averageTheta (s .anode)) in
-    let g = finite (averageTheta (s .cathode)) in
-    and-i (a && b && c && d && e && f && g) (finite (s .«time_s»))
-    (and-i (a && b && c && d && e && f) g
-    (and-i (a && b && c && d && e) f
-    (and-i (a && b && c && d) e
-    (and-i (a && b && c) d
-    (and-i (a && b) c
-    (and-i a b (ParticleClosure.places-finite (s .anode) (h Electrode.anode)) (ParticleClosure.places-finite (s .cathode) (h Electrode.cathode))) v)
-    (surface-theta-fine (s .anode) (h Electrode.anode))) (surface-theta-fine (s .cathode) (h Electrode.cathode)))
-    (average-theta-fine (s .anode) (h Electrode.anode))) (average-theta-fine (s .cathode) (h Electrode.cathode))) k
+refuses-too-long : Refuses too-long
+refuses-too-long r v z = let a = too-long-refused r v (currents-fit .0) in absurd (omega (arith, a, z))
 
-exchange-by : (w : Draw) → (exchange (drawn w .anode) ≡ exchangeBy graphiteAnode (surfaceTheta (drawn w .anode))) × (exchange (drawn w .cathode) ≡ exchangeBy lfpCathode (surfaceTheta (drawn w .cathode)))
-unfolding exchange advanced fresh
-exchange-by w = (refl, refl)
+-- ---- refused calls in front of a list
+skip-taken : {ps : List Call} → Each Refuses ps → (r : SpmSolver) → Inv start r → (qs : List Call) → taken r (ps ++ qs) ≡ taken r qs
+skip-taken Each.none r v qs = refl
+skip-taken (Each.more {x = p} {xs = ps} h hs) r v qs = at-refused Electrode.anode start r p (ps ++ qs) [] (h r v) .calls ∙ skip-taken hs r v qs
 
-input-passes : (i : Float) → T (loadFits i (f64 0x412e_8480_0000_0000)) → inputRefusal start i one room ≡ 0
-unfolding inputRefusal firstMet refusalUnless le lt ofBits
-input-passes i h = rw (start-passes, is-true (loadFits i (f64 0x412e_8480_0000_0000)) h)
-
-module _ (w : Draw) (k : Works w) where
-  plan-is : planFor start (callOf (w .current)) ≡ thePlan w
-  plan-is =
-      plan-by (w .current) ∙ ap (λ (d : Float). planBy (w .current) d (diffusivityAt lfpCathode room)) anode-diffusivity
-      ∙ ap (λ (d : Float). planBy (w .current) (f64 0x3d25_f47e_09a9_f0ea) d) cathode-diffusivity ∙ k .plan
-
-  draw-kept : (e : Electrode) → Kept (numbersAt e start (callOf (w .current)))
-  draw-kept e = subst (λ (p : Plan). Kept (numbersBy e p)) (sym plan-is) (k .kept e)
-
-  draw-input : inputRefusal start (w .current) one room ≡ 0
-  draw-input = input-passes (w .current) (k .fits)
-
-  draw-plan : planRefusal (planFor start (callOf (w .current))) ≡ 0
-  draw-plan = rw plan-is (k .passes)
-
-  drawn-passes : (e : Electrode) → particleRefusal (particleAt e (drawn w)) ≡ 0
-  unfolding advanced
-  drawn-passes Electrode.anode = subst (λ (p : Plan). particleRefusal (advanced start p one .anode) ≡ 0) plan-is (electrode-next start (w .current) one room draw-input draw-plan Electrode.anode)
-  drawn-passes Electrode.cathode = subst (λ (p : Plan). particleRefusal (advanced start p one .cathode) ≡ 0) plan-is (electrode-next start (w .current) one room draw-input draw-plan Electrode.cathode)
-
-  anode-range : Within (exchange (drawn w .anode)) 1 1 1 (2 ^ 20)
-  anode-range = rw (exchange-by w .0 ∙ ap (exchangeBy graphiteAnode) (k .anode-surface) ∙ k .anode-exchange) (k .anode-range)
-
-  cathode-range : Within (exchange (drawn w .cathode)) 1 1 1 (2 ^ 20)
-  cathode-range = rw (exchange-by w .1 ∙ ap (exchangeBy lfpCathode) (k .cathode-surface) ∙ k .cathode-exchange) (k .cathode-range)
-
-  voltage-fine : T (finite (voltageOf (drawn w) (thePlan w) (w .current) room))
-  unfolding voltageOf advanced ofBits
-  voltage-fine =
-      let a = potential-sized (drawn w .anode) (drawn-passes Electrode.anode) in
-      let c = potential-sized (drawn w .cathode) (drawn-passes Electrode.cathode) in
-      let x = sized (neg-most (overpotential-sized (drawn w .anode) (w .j_neg) (k .anode-flux) anode-range)) in
-      let y = sized (neg-most (overpotential-sized (drawn w .cathode) (w .j_pos) (k .cathode-flux) cathode-range)) in
-      sub-most (sub-most (add-most c y (2 ^ 151) 1 tt tt) (add-most a x (2 ^ 151) 1 tt tt) (2 ^ 152) 1 tt tt) (k .ohm) (2 ^ 153) 1 tt tt .fine
-
-  draw-accepted : answer start (callOf (w .current)) .refusal ≡ 0
-  draw-accepted =
-      accepted-where start (w .current) one room draw-input draw-plan
-      (subst (λ (p : Plan). T (finiteStep (advanced start p one) (reported (advanced start p one) p (w .current) room))) (sym plan-is) (all-fine (drawn w) (thePlan w) (w .current) room drawn-passes voltage-fine (clock-fine w)))
-
--- ---- 3 A and 4 A
-abbrev three : Draw
-three = record { current = f64 0x4008_0000_0000_0000; j_neg = neg (f64 0x3f02_1581_2751_328c); j_pos = f64 0x3ee5_b367_c8c7_d63f; theta_neg = f64 0x3fe9_89fa_3f79_6b7c; theta_pos = f64 0x3fca_1c6f_c764_a15f; i_neg = f64 0x3ee0_f2e7_167a_e4d2; i_pos = f64 0x3ed8_60dd_e9c3_71ef }
-
-abbrev four : Draw
-four = record { current = f64 0x4010_0000_0000_0000; j_neg = neg (f64 0x3f08_1cac_346c_4365); j_pos = f64 0x3eec_ef35_0bb5_1da9; theta_neg = f64 0x3fe9_84c5_216e_b172; theta_pos = f64 0x3fca_480c_8152_f94b; i_neg = f64 0x3ee0_f7ff_1dae_4c44; i_pos = f64 0x3ed8_6ff4_cb30_6c00 }
-
-three-works : Works three
-unfolding surfaceTheta advanced profileAfter times subStep node rate firstBy filled fresh spacing stableStep currentDensity wallCurrent specificArea planRefusal firstMet refusalUnless graphiteAnode lfpCathode sqrtOf rounded wholeRoot rootBelow ceilOf val negF whole _*F_ ∣_∣ isNan le lt neg add sub mul div round size ofInt ofBits
-three-works = record {
-  fits = tt;
-  plan = refl;
-  passes = refl;
-  kept = λ e. both e;
-  anode-surface = refl;
-  cathode-surface = refl;
-  anode-exchange = refl;
-  cathode-exchange = refl;
-  anode-range = literal (three .i_neg) 1 1 1 (2 ^ 20) tt tt tt tt tt;
-  cathode-range = literal (three .i_pos) 1 1 1 (2 ^ 20) tt tt tt tt tt;
-  anode-flux = literal (three .j_neg) 1 1 0 1 tt tt tt tt tt .0;
-  cathode-flux = literal (three .j_pos) 1 1 0 1 tt tt tt tt tt .0;
-  ohm = literal (three .current ⊘ f64 0x3fb0_068d_b8ba_c711 ⊗ f64 0x3f2a_36e2_eb1c_432d ⊗ one) 1 1 0 1 tt tt tt tt tt .0;
-}
-  where
-    both : (e : Electrode) → Kept (numbersBy e (thePlan three))
-    both Electrode.anode = record { stable = lit≤F tt; gentle = lit≤F tt }
-    both Electrode.cathode = record { stable = lit≤F tt; gentle = lit≤F tt }
-
-four-works : Works four
-unfolding surfaceTheta advanced profileAfter times subStep node rate firstBy filled fresh spacing stableStep currentDensity wallCurrent specificArea planRefusal firstMet refusalUnless graphiteAnode lfpCathode sqrtOf rounded wholeRoot rootBelow ceilOf val negF whole _*F_ ∣_∣ isNan le lt neg add sub mul div round size ofInt ofBits
-four-works = record {
-  fits = tt;
-  plan = refl;
-  passes = refl;
-  kept = λ e. both e;
-  anode-surface = refl;
-  cathode-surface = refl;
-  anode-exchange = refl;
-  cathode-exchange = refl;
-  anode-range = literal (four .i_neg) 1 1 1 (2 ^ 20) tt tt tt tt tt;
-  cathode-range = literal (four .i_pos) 1 1 1 (2 ^ 20) tt tt tt tt tt;
-  anode-flux = literal (four .j_neg) 1 1 0 1 tt tt tt tt tt .0;
-  cathode-flux = literal (four .j_pos) 1 1 0 1 tt tt tt tt tt .0;
-  ohm = literal (four .current ⊘ f64 0x3fb0_068d_b8ba_c711 ⊗ f64 0x3f2a_36e2_eb1c_432d ⊗ one) 1 1 0 1 tt tt tt tt tt .0;
-}
-  where
-    both : (e : Electrode) → Kept (numbersBy e (thePlan four))
-    both Electrode.anode = record { stable = lit≤F tt; gentle = lit≤F tt }
-    both Electrode.cathode = record { stable = lit≤F tt; gentle = lit≤F tt }
-
-abbrev pub draw : Call
-draw = callOf (three .current)
-
-abbrev pub stronger : Call
-stronger = callOf (four .current)
-
--- ---- three calls, two of them refused
-abbrev pub discharge : List Call
-discharge = no-current ∷ draw ∷ no-current ∷ []
-
-abbrev then : SpmSolver
-then = answer start draw .solver
-
-then-passes : cellRefusal then ≡ 0
-then-passes = step-stays start (draw .current) (draw .dt) (draw .temp) start-passes
-
-first-refused : Refused Electrode.anode start start no-current (draw ∷ no-current ∷ []) []
-first-refused = at-refused Electrode.anode start start no-current (draw ∷ no-current ∷ []) [] (no-current-refused start start-passes)
-
-second-accepted : Accepted Electrode.anode start start draw (no-current ∷ []) []
-second-accepted = at-accepted Electrode.anode start start draw (no-current ∷ []) [] (draw-accepted three three-works)
-
-third-refused : Refused Electrode.anode start then no-current [] []
-third-refused = at-refused Electrode.anode start then no-current [] [] (no-current-refused then then-passes)
+skip-count : {ps : List Call} → Each Refuses ps → (r : SpmSolver) → Inv start r → (qs : List Call) → K r (ps ++ qs) ≡ K r qs
+skip-count Each.none r v qs = refl
+skip-count (Each.more {x = p} {xs = ps} h hs) r v qs = at-refused Electrode.anode start r p (ps ++ qs) [] (h r v) .count ∙ skip-count hs r v qs
 
 nothing-taken : (s : SpmSolver) → taken s [] ≡ []
 unfolding taken
@@ -399,39 +336,109 @@ nothing-counted : (s : SpmSolver) → K s [] ≡ 0
 unfolding K
 nothing-counted s = refl
 
-discharge-taken : taken start discharge ≡ draw ∷ []
-discharge-taken = first-refused .calls ∙ second-accepted .calls ∙ ap (λ (l : List Call). draw ∷ l) (third-refused .calls ∙ nothing-taken then)
+-- ---- 2 s and then 1 s from a cell r: both accepted, three sub-steps
+record Drawn (i : Float) (r : SpmSolver) (qs : List Call) : Type 0 where
+  calls : taken r qs ≡ draw i two ∷ draw i one ∷ []
+  count : K r qs ≡ 3
 
-one-sub-step : subStepsOf (thePlan three) ≡ 1
-unfolding ceilOf ofBits
-one-sub-step = refl
+-- with refused calls anywhere
+module _ (i : Float) (h : T (loadFits i (f64 0x412e_8480_0000_0000))) (r : SpmSolver) (v : Inv start r) (f : T (finite (r .«time_s» ⊕ two))) (g : T (finite (r .«time_s» ⊕ two ⊕ one)))
+    {before between after : List Call} (a : Each Refuses before) (b : Each Refuses between) (c : Each Refuses after) where
+  abbrev last : List Call
+  last = after ++ []
 
--- K = 1
-discharge-counted : K start discharge ≡ 1
-discharge-counted =
-    first-refused .count ∙ second-accepted .count
-    ∙ ap (λ (k : ℕ). k + K then (no-current ∷ [])) (step-count start (draw .current) (draw .dt) (draw .temp) (draw-accepted three three-works) ∙ ap subStepsOf (plan-is three three-works) ∙ one-sub-step)
-    ∙ ap (λ (k : ℕ). 1 + k) (third-refused .count ∙ nothing-counted then)
+  abbrev rest : List Call
+  rest = between ++ draw i one ∷ last
 
-discharge-keeps : (e : Electrode) → KeptAt e start discharge
-discharge-keeps e = rw discharge-taken (Each.more (draw-kept three three-works e) Each.none)
+  abbrev then : SpmSolver
+  then = answer r (draw i two) .solver
 
--- THEOREM 2 for them
-pub discharge-near : (e : Electrode) (i : ℕ) → i < 11 → place e start discharge i -F exactPlace e start discharge i within nat 1 *F val (particleAt e start .params .«c_s_max») /F pow2 49
-discharge-near e i l = rw (← discharge-counted) (solver-near e start discharge start-passes (discharge-keeps e) i (rw (nodes-are start start-passes e) l))
+  abbrev final : SpmSolver
+  final = answer then (draw i one) .solver
 
--- ---- THEOREM 3: these calls, and 4 A in the place of 3; the refused calls stand in one list only
-stronger-taken : taken start (stronger ∷ []) ≡ stronger ∷ []
-stronger-taken = at-accepted Electrode.anode start start stronger [] [] (draw-accepted four four-works) .calls ∙ ap (λ (l : List Call). stronger ∷ l) (nothing-taken (answer start stronger .solver))
+  first-accepted : answer r (draw i two) .refusal ≡ 0
+  first-accepted = draw-accepted r v i two 2 two-split h f
 
-stronger-keeps : (e : Electrode) → KeptAt e start (stronger ∷ [])
-stronger-keeps e = rw stronger-taken (Each.more (draw-kept four four-works e) Each.none)
+  then-made : Inv start then
+  then-made = stays start r (draw i two) v
 
-more-current : T (le (draw .current) (stronger .current))
+  then-clock : T (finite (then .«time_s» ⊕ one))
+  then-clock = rw (step-clock r i two room first-accepted) g
+
+  second-accepted : answer then (draw i one) .refusal ≡ 0
+  second-accepted = draw-accepted then then-made i one 1 one-split h then-clock
+
+  final-made : Inv start final
+  final-made = stays start then (draw i one) then-made
+
+  drawn : Drawn i r (before ++ draw i two ∷ rest)
+  drawn =
+      let x = at-accepted Electrode.anode start r (draw i two) rest [] first-accepted in
+      let y = at-accepted Electrode.anode start then (draw i one) last [] second-accepted in
+      record {
+        calls =
+            skip-taken a r v (draw i two ∷ rest) ∙ x .calls
+            ∙ ap (λ (l : List Call). draw i two ∷ l) (skip-taken b then then-made (draw i one ∷ last) ∙ y .calls
+            ∙ ap (λ (l : List Call). draw i one ∷ l) (skip-taken c final final-made [] ∙ nothing-taken final));
+        count =
+            skip-count a r v (draw i two ∷ rest) ∙ x .count ∙ ap (λ (k : ℕ). k + K then rest) (draw-count r v i two 2 two-split h f)
+            ∙ ap (λ (k : ℕ). 2 + k) (skip-count b then then-made (draw i one ∷ last) ∙ y .count
+            ∙ ap (λ (k : ℕ). k + K final last) (draw-count then then-made i one 1 one-split h then-clock)
+            ∙ ap (λ (k : ℕ). 1 + k) (skip-count c final final-made [] ∙ nothing-counted final));
+      }
+
+-- at most 4 A: the conditions hold
+drawn-kept : (e : Electrode) (i : Float) (r : SpmSolver) (qs : List Call) → Sized i (2 ^ 20) 1 → T (loadFits i four) → Inv start r → Drawn i r qs → KeptAt e r qs
+drawn-kept e i r qs m s v d =
+    let k : (dt : Float) (n : ℕ) → Split dt n → Kept (numbersAt e r (draw i dt)) = λ dt n c. rw (same-numbers e start r (draw i dt) (v .make)) (draw-kept e i dt n c m s) in
+    rw (d .calls) (Each.more (k two 2 two-split) (Each.more (k one 1 one-split) Each.none))
+
+-- ---- the two lists
+clocks : (T (finite (start .«time_s» ⊕ two)) × T (finite (start .«time_s» ⊕ two ⊕ one))) × (T (finite (later .«time_s» ⊕ two)) × T (finite (later .«time_s» ⊕ two ⊕ one)))
+unfolding add ofBits
+clocks = ((tt, tt), (tt, tt))
+
+start-made : Inv start start
+start-made = itself start start-passes
+
+discharge-drawn : Drawn three start discharge
+discharge-drawn =
+    let n = Each.more refuses-no-current Each.none in
+    drawn three (currents-fit .0) start start-made (clocks .0 .0) (clocks .0 .1) n (Each.more refuses-too-long Each.none) n
+
+stronger-drawn : Drawn four later stronger
+stronger-drawn = drawn four (currents-fit .1) later later-made (clocks .1 .0) (clocks .1 .1) Each.none (Each.more refuses-no-current (Each.more refuses-too-long Each.none)) Each.none
+
+-- which calls are accepted, and how many sub-steps they have
+pub discharge-taken : taken start discharge ≡ draw three two ∷ draw three one ∷ []
+discharge-taken = discharge-drawn .calls
+
+pub discharge-counted : K start discharge ≡ 3
+discharge-counted = discharge-drawn .count
+
+pub stronger-taken : taken later stronger ≡ draw four two ∷ draw four one ∷ []
+stronger-taken = stronger-drawn .calls
+
+pub discharge-kept : (e : Electrode) → KeptAt e start discharge
+discharge-kept e = drawn-kept e three start discharge (current-range three (currents-fit .0)) (small .0) start-made discharge-drawn
+
+pub stronger-kept : (e : Electrode) → KeptAt e later stronger
+stronger-kept e = drawn-kept e four later stronger (current-range four (currents-fit .1)) (small .1) later-made stronger-drawn
+
+-- THEOREM 2: five calls, three refused
+pub discharge-near : (e : Electrode) (i : ℕ) → i < 11
+    → place e start discharge i -F exactPlace e start discharge i within nat 3 *F val (particleAt e start .params .«c_s_max») /F pow2 49
+discharge-near e i l = rw (← discharge-counted) (solver-near e start discharge start-passes (discharge-kept e) i (rw (nodes-are start start-passes e) l))
+
+-- THEOREM 3: two clocks, refused calls at other places of the two lists
+more-current : T (le three four)
 unfolding le ofBits
 more-current = tt
 
-pub draw-ranked : Ranked start start discharge (stronger ∷ [])
-draw-ranked =
-    solver-ranking start start discharge (stronger ∷ []) start-passes start-passes (record { config = refl; sheet = λ e. refl; nodes = λ e i l. ≈F-refl }) discharge-keeps stronger-keeps
-    (rw (discharge-taken, stronger-taken) (Both.more (record { dt = refl; temp = refl; current = more-current }) Both.none))
+pub stronger-paired : (dt : Float) → Paired (draw three dt) (draw four dt)
+stronger-paired dt = record { dt = refl; temp = refl; current = more-current }
+
+pub discharge-ranked : Ranked start later discharge stronger
+discharge-ranked =
+    solver-ranking start later discharge stronger start-passes later-passes twins discharge-kept stronger-kept
+    (rw (discharge-taken, stronger-taken) (Both.more (stronger-paired two) (Both.more (stronger-paired one) Both.none)))

@@ -1,4 +1,4 @@
--- The single-particle cell beyond its contracts: theorems 2 and 3 of the third demand, and what a step leads to.
+-- The single-particle cell beyond its contracts: theorems 2 and 3 of the third demand, and what its calls lead to.
 --
 -- WHERE TO START
 --   Demand      THEOREM 2, `solver-near`: a cell that passes the checks, a list of calls of any length, each any three floats, and one of the electrodes; where every accepted call keeps
@@ -7,20 +7,29 @@
 --               `after-passes`: after any list of calls the cell passes the checks, so its nodes are finite
 --   Ranking     THEOREM 3, `solver-ranking`: two cells of one make with equal profiles (`Twins`), two lists that keep the conditions at both electrodes, their accepted calls paired
 --               (`Paired`): then (`Ranked`) at no place is the second cathode more than 2·K·M / 2 ^ 49 below the first, or the second anode more than that above
---   Instance    the ready cell of graphite and lithium iron phosphate, 11 nodes: `discharge-near`, theorem 2 for 3 A between two refused calls, and `draw-ranked`, theorem 3 for
---               that list and 4 A; every premise computed, that the cell accepts them too
+--   RunLists    `run-is-list`: the cell that a run leaves is the cell after one call of `step` for each of its rows, all of them accepted (`run-accepted`);  `run-near`: theorem 2 for it
+--   Instance    the ready cell of graphite and lithium iron phosphate, 11 nodes: `discharge-near`, theorem 2 for a call of two sub-steps and one on what it leaves, refused calls before,
+--               between and after them, K = 3;  `discharge-ranked`, theorem 3 for that list and one at 4 A with its refused calls elsewhere, from a cell of another clock.
+--               Every premise is computed or proved, that the cells accept the calls too
 --
 -- WHAT ELSE IS PROVED
+--   Build       `build-passes`: an accepted build gives a cell that passes the checks;  `build-refused`: a refused one the record of zeros
 --   Closure     `step-passes`: an accepted step leads to a cell that passes the checks again;  `step-refused`: a refused one leaves the cell as it is and reports no sub-steps;
---               `accepted-where`: what acceptance takes;  `step-make`: config, sheets and counts of nodes stay;  `Leads`: what a step answers, in two cases
+--               `step-count`, `step-clock`, `step-make`: what it reports, the clock, and that config, sheets and counts of nodes stay;  `Leads`: what a step answers, in two cases
+--   Acceptance  `step-accepted`: a step that neither its input nor its plan refuses is accepted, whatever the profiles, where the clock stays finite
+--   Clock       `step-number`: 8 never comes from a step of the cell;  `step-again`: a step that is accepted is accepted again by the cell that it leaves
+--   RunEnds     `run-ends`: a run is refused before its first row or not at all
 --   Electrodes  an electrode's particle and its numbers in a plan;  `sub-step-ranged`: each sub-step of an accepted call is in its ranges;  `count-most`: at most 4,096 of them;
 --               `cathode-flux`, `anode-flux`: with the current the flux grows at the cathode and falls at the anode
---   RunLists    `run-is-list`: the cell after a run is the cell after that many calls of `step`, so theorems 2 and 3 hold of the steps that a run makes
 --   Ordered     the exact scheme keeps the order of two profiles over two lists of calls
 pub mod Electrodes
 pub mod Closure
+pub mod Build
+pub mod Acceptance
 pub mod Demand
+pub mod Clock
 pub mod Ordered
 pub mod Ranking
 pub mod RunLists
+pub mod RunEnds
 pub mod Instance

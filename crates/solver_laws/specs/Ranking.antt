@@ -123,7 +123,7 @@ pub record Twins (s s' : SpmSolver) : Type 0 where
 twins-make : (s s' : SpmSolver) → cellRefusal s ≡ 0 → cellRefusal s' ≡ 0 → Twins s s' → Inv s s'
 twins-make s s' h h' w = record { passes = h'; make = record { config = w .config; sheet = w .sheet; nodes = λ e. nodes-are s' h' e ∙ ap (λ c. c .«n_nodes») (w .config) ∙ sym (nodes-are s h e) } }
 
-same-numbers : (e : Electrode) (s r : SpmSolver) (q : Call) → SameMake s r → numbersAt e r q ≡ numbersAt e s q
+pub same-numbers : (e : Electrode) (s r : SpmSolver) (q : Call) → SameMake s r → numbersAt e r q ≡ numbersAt e s q
 same-numbers e s r q m =
     ap (λ (p : Plan). numbers (drive (gridAt e r) (moveBy e p (q .dt)))) (same-plan s r q m) ∙ ap (λ (b : Grid). numbers (drive b (moveBy e (planFor s q) (q .dt)))) (same-grid e s r m)
 
@@ -153,6 +153,7 @@ solver-ranking s s' qs qs' h h' w ks ks' ps =
           let y = place Electrode.cathode s' qs' i in
           let M = val (s .cathode .params .«c_s_max») in
           let z : x ≤F y +F nat 2 *F nat (K s qs) *F M /F pow2 49 = ranked-at Electrode.cathode s s s' qs qs' v v' (ks Electrode.cathode) (kept Electrode.cathode) more (λ k o. ≤F-of-≈F (≈F-sym (w .nodes Electrode.cathode k (subst (λ (n : ℕ). k < n) (nodes-are s h Electrode.cathode) o)))) i (rw (nodes-are s h Electrode.cathode) l) in
-          le-by (x ∷ y ∷ nat (K s qs) ∷ M ∷ share ∷ []) 0 (up z) (search quote depth 24) tt;
+          let d : x -F nat 2 *F nat (K s qs) *F M /F pow2 49 ≤F y = le-by (x ∷ y ∷ nat (K s qs) ∷ M ∷ share ∷ []) 0 (up z) (search quote depth 24) tt in
+          d;
       anode = λ i l. rw (← same) (ranked-at Electrode.anode s s' s qs' qs v' v (kept Electrode.anode) (ks Electrode.anode) less (λ k o. ≤F-of-≈F (w .nodes Electrode.anode k (subst (λ (n : ℕ). k < n) (nodes-are s h Electrode.anode) o))) i (rw (nodes-are s h Electrode.anode) l));
     }

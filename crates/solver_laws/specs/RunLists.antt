@@ -1,56 +1,153 @@
--- The steps that a run makes are a list of the solver's calls, one for each turn: so theorems 2 and 3 hold of them. Assumes nothing.
-use Prim.Native.Nat.{ℕ, zero, suc}
+-- The rows of a run are a list of the solver's calls, so theorem 2 holds of the cell that the run leaves. Assumes nothing.
+use Prim.Native.Nat.{ℕ, zero, suc, _*_, _/_, _<_}
 use mathlib.Core.Path.{_≡_, refl, sym, ap, _∙_}
 use mathlib.Core.Bool.{Bool, true, false, cond}
 use mathlib.Core.List.{List, [], _∷_}
+use borrow.Author.Tests.{eqb-true, eqb-false, eq-eqb}
+use native.Mathlib.Nat.{zero-mul, suc-mul, add-comm}
+use native.Mathlib.Numerals.{add-one}
 use lib.Dec.{eqb}
 use lib.ListN.{replicate}
+use Rattle.fraction.specs.Fraction.{nat, pow2, _-F_, _*F_, _/F_, _within_}
+use Rattle.binary64.specs.Value.{val}
+use Rattle.refusal.specs.Numbers.{firstMet, refusalUnless, grid, sheet, none-met}
+use Rattle.diffusion.specs.Premises.{Kept}
+use Rattle.diffusion.specs.Copies.{each-copies}
+use Rattle.particle.specs.Particle.{placeOf}
 use Rattle.runs.specs.Rows.{runAfter}
 use Rattle.solver.specs.declared.SpmSolver.{SpmSolver}
-use Rattle.solver.specs.declared.SpmStep.{SpmStep}
-use Rattle.solver.specs.Step.{stepped}
+use Rattle.solver.specs.Cell.{gridFits, cellFits, cellRefusal}
+use Rattle.solver_plan.specs.Plans.{subStepsOf}
 use Rattle.discharge_run.specs.declared.Feed.{Feed}
 use Rattle.discharge_run.specs.declared.Run.{Run}
-use Rattle.discharge_run.specs.Discharge.{overOf, lastRow, followed, turned}
-use Rattle.solver_laws.specs.Demand.{Call, answer, cellAfter}
+use Rattle.discharge_run.specs.Discharge.{RunSaid, overOf, lastRow, started, followed, turned, finishedRun, allTurns, runRefusal, refusedRun, discharged}
+use Rattle.solver_laws.specs.Electrodes.{Electrode, particleAt}
+use Rattle.solver_laws.specs.Closure.{step-refused, step-count}
+use Rattle.solver_laws.specs.Demand.{Call, answer, cellAfter, taken, K, planFor, numbersAt, exactPlace, Inv, itself, stays, same-plan, solver-near}
 
--- what a run feeds each step
+-- ---- what a run feeds each step, and its list of calls: one for each row. A step that is refused ends the run without a row: it leaves the cell as it was, and adds no call.
 abbrev pub callOf : Feed → Call
 callOf w = record { current = w .«current_a»; dt = w .dt; temp = w .«temp_k» }
 
-module _ (w : Feed) where
-  abbrev after : ℕ → Run → Run
-  after k r = runAfter overOf (turned w) lastRow k r
+abbrev pub callsOf : Feed → SpmSolver → ℕ → List Call
+callsOf w s places = replicate (discharged w s places .rows) (callOf w)
 
-  -- how many turns a run has made of k that it may make: none once it is over
-  unfoldable pub turnsMade : ℕ → Run → ℕ
-  turnsMade zero r = 0
-  turnsMade (suc k) r = cond (eqb (after k r .over) 0) (suc (turnsMade k r)) (turnsMade k r)
+-- every call of a list is accepted
+data AllAccepted : SpmSolver → List Call → Type 0 where
+  none : {s : SpmSolver} → AllAccepted s []
+  more : {s : SpmSolver} {q : Call} {qs : List Call} → answer s q .refusal ≡ 0 → AllAccepted (answer s q .solver) qs → AllAccepted s (q ∷ qs)
 
-  -- a turn hands on the cell of its step, refused or not
-  followed-cell : (r : Run) (t : SpmStep) (b : Bool) → eqb (t .refusal) 0 ≡ b → followed w r t .solver ≡ t .solver
+all-taken : {s : SpmSolver} {qs : List Call} → AllAccepted s qs → taken s qs ≡ qs
+unfolding taken
+all-taken AllAccepted.none = refl
+all-taken (AllAccepted.more {s = s} {q = q} h hs) = rw (eq-eqb (answer s q .refusal) 0 h) (ap (λ (l : List Call). q ∷ l) (all-taken hs))
+
+-- ---- one call more, at the end of a list of equal ones
+one-more : (n : ℕ) (s : SpmSolver) (q : Call) → cellAfter s (replicate (suc n) q) ≡ answer (cellAfter s (replicate n q)) q .solver
+unfolding cellAfter
+one-more zero s q = refl
+one-more (suc n) s q = one-more n (answer s q .solver) q
+
+accepted-more : (n : ℕ) (s : SpmSolver) (q : Call) → AllAccepted s (replicate n q) → answer (cellAfter s (replicate n q)) q .refusal ≡ 0 → AllAccepted s (replicate (suc n) q)
+unfolding cellAfter
+accepted-more zero s q a h = AllAccepted.more h AllAccepted.none
+accepted-more (suc n) s q (AllAccepted.more k a) h = AllAccepted.more k (accepted-more n (answer s q .solver) q a h)
+
+-- ---- the turns of a run
+module _ (w : Feed) (s : SpmSolver) where
+  -- its cell is that after a call for each row, all of them accepted
+  record Listed (r : Run) : Type 0 where
+    cell : r .solver ≡ cellAfter s (replicate (r .rows) (callOf w))
+    accepted : AllAccepted s (replicate (r .rows) (callOf w))
+
+  followed-listed : (r : Run) (b : Bool) → eqb (answer (r .solver) (callOf w) .refusal) 0 ≡ b → Listed r → Listed (followed w r (answer (r .solver) (callOf w)))
   unfolding followed
-  followed-cell r t true e = rw e
-  followed-cell r t false e = rw e
+  followed-listed r true e l =
+      let h = eqb-true (answer (r .solver) (callOf w) .refusal) 0 e in
+      let c = l .cell in
+      rw (e, add-one (r .rows)) (record {
+        cell = ap (λ (x : SpmSolver). answer x (callOf w) .solver) c ∙ sym (one-more (r .rows) s (callOf w));
+        accepted = accepted-more (r .rows) s (callOf w) (l .accepted) (ap (λ (x : SpmSolver). answer x (callOf w) .refusal) (sym c) ∙ h);
+      })
+  followed-listed r false e l =
+      let n = eqb-false (answer (r .solver) (callOf w) .refusal) 0 e in
+      rw e (record { cell = step-refused (r .solver) (w .«current_a») (w .dt) (w .«temp_k») n .0 ∙ l .cell; accepted = l .accepted })
 
-  turned-cell : (r : Run) → turned w r .solver ≡ answer (r .solver) (callOf w) .solver
+  turned-listed : (r : Run) → Listed r → Listed (turned w r)
   unfolding turned
-  turned-cell r = followed-cell r _ _ refl
+  turned-listed r l = followed-listed r (eqb (answer (r .solver) (callOf w) .refusal) 0) refl l
 
-  -- one call more, at the end of a list of equal ones
-  one-more : (n : ℕ) (s : SpmSolver) (q : Call) → cellAfter s (replicate (suc n) q) ≡ answer (cellAfter s (replicate n q)) q .solver
+  either : (b : Bool) (r r' : Run) → Listed r → Listed r' → Listed (cond b r r')
+  either true r r' l l' = l
+  either false r r' l l' = l'
+
+  after-listed : (k : ℕ) (r : Run) → Listed r → Listed (runAfter overOf (turned w) lastRow k r)
+  unfolding runAfter
+  after-listed zero r l = l
+  after-listed (suc k) r l =
+      let a = runAfter overOf (turned w) lastRow k r in
+      let m = after-listed k r l in
+      either (eqb (a .over) 0) (turned w a) a (turned-listed a m) m
+
+  start-listed : Listed (started w s)
+  unfolding started cellAfter
+  start-listed = record { cell = refl; accepted = AllAccepted.none }
+
+  -- ---- the whole run
+  record RunListed (r : RunSaid) : Type 0 where
+    cell : r .solver ≡ cellAfter s (replicate (r .rows) (callOf w))
+    accepted : AllAccepted s (replicate (r .rows) (callOf w))
+
+  turns-listed : (total : ℕ) → RunListed (allTurns w (started w s) total)
+  unfolding allTurns finishedRun
+  turns-listed total = let l = after-listed total (started w s) start-listed in record { cell = l .cell; accepted = l .accepted }
+
+  refused-listed : (k : ℕ) → RunListed (refusedRun k s)
   unfolding cellAfter
-  one-more zero s q = refl
-  one-more (suc n) s q = one-more n (answer s q .solver) q
+  refused-listed k = record { cell = refl; accepted = AllAccepted.none }
 
-  next-turn : (k : ℕ) (r : Run) (b : Bool) → eqb (after k r .over) 0 ≡ b → after k r .solver ≡ cellAfter (r .solver) (replicate (turnsMade k r) (callOf w))
-      → cond b (turned w (after k r)) (after k r) .solver ≡ cellAfter (r .solver) (replicate (cond b (suc (turnsMade k r)) (turnsMade k r)) (callOf w))
-  next-turn k r true e h =
-      turned-cell (after k r) ∙ ap (λ (s : SpmSolver). answer s (callOf w) .solver) h ∙ sym (one-more (turnsMade k r) (r .solver) (callOf w))
-  next-turn k r false e h = h
+  discharged-listed : (places : ℕ) → RunListed (discharged w s places)
+  unfolding discharged
+  discharged-listed places = go (eqb (runRefusal w s places) 0)
+    where
+      go : (b : Bool) → RunListed (cond b (allTurns w (started w s) (places / 8)) (refusedRun (runRefusal w s places) s))
+      go true = turns-listed (places / 8)
+      go false = refused-listed (runRefusal w s places)
 
-  -- THE CELL AFTER k TURNS is the cell after as many calls of `step` as turns were made
-  pub run-is-list : (k : ℕ) (r : Run) → after k r .solver ≡ cellAfter (r .solver) (replicate (turnsMade k r) (callOf w))
-  unfolding runAfter turnsMade cellAfter
-  run-is-list zero r = refl
-  run-is-list (suc k) r = next-turn k r (eqb (after k r .over) 0) refl (run-is-list k r)
+-- THE CELL THAT A RUN LEAVES is the cell after one call of `step` for each row; a run that is refused as a whole has no rows
+pub run-is-list : (w : Feed) (s : SpmSolver) (places : ℕ) → discharged w s places .solver ≡ cellAfter s (callsOf w s places)
+run-is-list w s places = discharged-listed w s places .cell
+
+-- and each of them is accepted
+pub run-accepted : (w : Feed) (s : SpmSolver) (places : ℕ) → taken s (callsOf w s places) ≡ callsOf w s places
+run-accepted w s places = all-taken (discharged-listed w s places .accepted)
+
+-- ---- THEOREM 2 for a run
+-- the count of sub-steps is the same at each call
+all-counted : (s : SpmSolver) (q : Call) (n : ℕ) (r : SpmSolver) → Inv s r → AllAccepted r (replicate n q) → K r (replicate n q) ≡ n * subStepsOf (planFor s q)
+unfolding K
+all-counted s q zero r v a = sym (zero-mul (subStepsOf (planFor s q)))
+all-counted s q (suc n) r v (AllAccepted.more h a) =
+    let k = subStepsOf (planFor s q) in
+    let c = step-count r (q .current) (q .dt) (q .temp) h ∙ ap subStepsOf (same-plan s r q (v .make)) in
+    rw (c, all-counted s q n (answer r q .solver) (stays s r q v) a, suc-mul n k) (add-comm k (n * k))
+
+run-tests : (w : Feed) (s : SpmSolver) (places : ℕ) → runRefusal w s places ≡ 0 → (refusalUnless (gridFits s) grid ≡ 0) × (refusalUnless (cellFits s) sheet ≡ 0)
+unfolding runRefusal
+run-tests w s places h = let a = none-met _ _ h in (a .0, none-met _ _ (none-met _ _ (a .1) .1) .0)
+
+run-cell : (w : Feed) (s : SpmSolver) (places : ℕ) → runRefusal w s places ≡ 0 → cellRefusal s ≡ 0
+unfolding cellRefusal firstMet
+run-cell w s places h = let a = run-tests w s places h in rw (a .0, a .1)
+
+-- Nothing refuses the whole run; at the electrode e its step keeps the two conditions. Then every node of e in the cell that the run leaves is within K·M / 2 ^ 49 of the exact
+-- scheme from the same start over the run's calls, where K = rows · sub-steps of one step.
+pub run-near : (e : Electrode) (w : Feed) (s : SpmSolver) (places : ℕ) → runRefusal w s places ≡ 0 → Kept (numbersAt e s (callOf w)) → (i : ℕ) → i < particleAt e s .«n_nodes»
+    → val (placeOf (particleAt e (discharged w s places .solver)) i) -F exactPlace e s (callsOf w s places) i
+    within nat (discharged w s places .rows * subStepsOf (planFor s (callOf w))) *F val (particleAt e s .params .«c_s_max») /F pow2 49
+run-near e w s places h k i l =
+    let c = run-cell w s places h in
+    let n = discharged w s places .rows in
+    let k' = each-copies (λ q. Kept (numbersAt e s q)) (callOf w) n k in
+    let near = solver-near e s (callsOf w s places) c (rw (run-accepted w s places) k') i l in
+    rw (run-is-list w s places) (rw (all-counted s (callOf w) n s (itself s c) (discharged-listed w s places .accepted)) at near)

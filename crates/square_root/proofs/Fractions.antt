@@ -8,6 +8,7 @@ use lib.Ieee.{Float, nan, inf, fin}
 use lib.Ieee.Positive.{num, den, den-pos, positive}
 use lib.Ieee.Exact.{HasValue}
 use lib.Ieee.Scale.{finite}
+use Rattle.fraction.specs.Integer.{≤-pos, pos-<, <-pos}
 use Rattle.fraction.specs.Fraction.{whole, nat, _+F_, _*F_, _≤F_, _<F_}
 use Rattle.binary64.specs.Operators.{negative}
 use Rattle.binary64.specs.Value.{ratio, ratio-le, signed, val, val-is}
@@ -35,19 +36,19 @@ natural-val : (x : Float) → T (natural x) → val x ≡ ratio (num x) (den x) 
 natural-val x n = let f = natural-finite x n in val-is x (f .0) ∙ ap (λ (s : Bool). signed s (ratio (num x) (den x) (den-pos x))) (f .1)
 
 pub less : (y r : Float) → T (natural y) → T (natural r) → val y <F val r → num y * den r < num r * den y
-less y r n k h = (rw (natural-val y n, natural-val r k) at h) .cross
+less y r n k h = <-pos ((rw (natural-val y n, natural-val r k) at h) .cross)
 
 pub val-most : (x y : Float) → T (natural x) → T (natural y) → num x * den y ≤ num y * den x → val x ≤F val y
 val-most x y n k h = rw (natural-val x n, natural-val y k) (ratio-le h)
 
 pub most-val : (x y : Float) → T (natural x) → T (natural y) → val x ≤F val y → num x * den y ≤ num y * den x
-most-val x y n k h = (rw (natural-val x n, natural-val y k) at h) .cross
+most-val x y n k h = ≤-pos ((rw (natural-val x n, natural-val y k) at h) .cross)
 
 module _ (x r y : Float) (nx : T (natural x)) (nr : T (natural r)) (ny : T (natural y)) where
   pub middle-below : (num r * den y + num y * den r) * (num r * den y + num y * den r) * den x < 4 * num x * (den r * den y * (den r * den y)) → square (val r +F val y) <F nat 4 *F val x
   unfolding whole _+F_ _*F_
-  middle-below h = rw (natural-val x nx, natural-val r nr, natural-val y ny) (record { cross = rw (one-mul (den x)) h })
+  middle-below h = rw (natural-val x nx, natural-val r nr, natural-val y ny) (record { cross = rw (one-mul (den x)) (pos-< h) })
 
   pub middle-above : 4 * num x * (den r * den y * (den r * den y)) < (num r * den y + num y * den r) * (num r * den y + num y * den r) * den x → nat 4 *F val x <F square (val r +F val y)
   unfolding whole _+F_ _*F_
-  middle-above h = rw (natural-val x nx, natural-val r nr, natural-val y ny) (record { cross = rw (one-mul (den x)) h })
+  middle-above h = rw (natural-val x nx, natural-val r nr, natural-val y ny) (record { cross = rw (one-mul (den x)) (pos-< h) })

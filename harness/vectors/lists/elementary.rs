@@ -44,6 +44,8 @@ pub fn function_cases(draw: &mut Draw) -> Vec<Vec<Slot>> {
     all.extend((0..6000).map(|_| any(draw)));
     all.extend((0..6000).map(|_| moderate(draw)));
     all.extend((0..2000).map(|_| f64::from_bits(draw.bits() >> (12 + draw.below(40)))));
+    // where L's last terms matter most
+    all.extend((0..3000).map(|_| draw.uniform(1.48, 1.5)));
     all.iter().map(|x| vec![float(*x)]).collect()
 }
 
@@ -53,6 +55,27 @@ pub fn functions(arguments: &[Slot]) -> Vec<Slot> {
     let x = reader.float();
     reader.end();
     [standins::exp(x), standins::ln(x), x.sqrt(), standins::asinh(x)].map(float).to_vec()
+}
+
+/// Arguments that tell how many terms E's series has: 17 and 18 differ at the first two, 18 and 19 at the others.
+const TERMS: [u64; 4] = [0x4086_17DA_14B8_3F81, 0xC084_F2D8_D089_2694, 0x4085_A4E9_5055_7529, 0xC084_E645_9E55_4398];
+
+/// Where E has its largest and least values: 17 terms for 18 differ at about one in 2,000 of these.
+pub fn exp_cases(draw: &mut Draw) -> Vec<Vec<Slot>> {
+    let mut all: Vec<f64> = TERMS.iter().map(|n| f64::from_bits(*n)).collect();
+    for limit in [709.0f64, -708.0] {
+        all.extend([limit.next_down(), limit, limit.next_up()]);
+    }
+    all.extend((0..20_000).map(|_| draw.pick(&[1.0, -1.0]) * draw.uniform(650.0, 709.0)));
+    all.iter().map(|t| vec![float(*t)]).collect()
+}
+
+/// E.
+pub fn exp(arguments: &[Slot]) -> Vec<Slot> {
+    let mut reader = Reader::new(arguments);
+    let t = reader.float();
+    reader.end();
+    vec![float(standins::exp(t))]
 }
 
 pub fn powf_cases(draw: &mut Draw) -> Vec<Vec<Slot>> {

@@ -21,7 +21,7 @@ const fn list(name: &'static str, cases: fn(&mut Draw) -> Vec<Vec<Slot>>, answer
 }
 
 /// A new list goes to the end: a list's place is its seed.
-pub const ALL: [List; 29] = [
+pub const ALL: [List; 30] = [
     list("ranges", elementary::range_cases, elementary::ranges),
     list("elementary", elementary::function_cases, elementary::functions),
     list("powf", elementary::powf_cases, elementary::power),
@@ -51,6 +51,7 @@ pub const ALL: [List; 29] = [
     list("dfn_step", dfn::step_cases, dfn::step),
     list("run_galvanostatic", dfn::run_cases, dfn::run),
     list("solve_dense", dense::cases, dense::solve),
+    list("exp", elementary::exp_cases, elementary::exp),
 ];
 
 /// The answer of a call that gives a number.

@@ -89,6 +89,19 @@ fn one_sub_step(cell: &Cell, temp_k: f64) -> f64 {
     stable(&cell.anode).min(stable(&cell.cathode))
 }
 
+/// Cells whose three counts of nodes are alike, at the limits and outside: neither particle's count differs from the config's.
+fn alike_counts() -> Vec<Cell> {
+    let made = Cell::new(config(3), pairs_of_sheets()[0].0, pairs_of_sheets()[0].1).expect("ready sheets");
+    let cell = |n: u64| {
+        let mut cell = made.clone();
+        (cell.config.n_nodes, cell.anode.n, cell.cathode.n) = (n, n, n);
+        cell.anode.c_s[..n.min(64) as usize].fill(made.anode.c_s[0]);
+        cell.cathode.c_s[..n.min(64) as usize].fill(made.cathode.c_s[0]);
+        cell
+    };
+    [0, 1, 2, 64, 65, 1 << 32, u64::MAX].map(cell).to_vec()
+}
+
 /// A ready cell whose diffusivity leaves its range at one electrode, at the temperature beside it.
 fn diffusivity_out(draw: &mut Draw, at_anode: bool, high: bool) -> (Cell, f64) {
     let (mut anode, mut cathode) = pairs_of_sheets()[0];
@@ -96,6 +109,30 @@ fn diffusivity_out(draw: &mut Draw, at_anode: bool, high: bool) -> (Cell, f64) {
     sheet.numbers[1] = if high { 1e-8 } else { 1e-20 };
     sheet.numbers[7] = 5e4;
     (random_cell(draw, config(3), (anode, cathode)), if high { 350.0 } else { 250.0 })
+}
+
+/// Ready cells of which one electrode's corrected diffusivity is a limit or next to one, each with its temperature.
+fn diffusivity_at_limits() -> Vec<(Cell, f64)> {
+    let mut all = Vec::new();
+    for (limit, temp_k) in [(DIFFUSIVITY.low, 290.0), (DIFFUSIVITY.high, 310.0)] {
+        for wanted in [limit.next_down(), limit, limit.next_up()] {
+            for at_anode in [true, false] {
+                let mut cell = Cell::new(config(3), pairs_of_sheets()[0].0, pairs_of_sheets()[0].1).expect("ready sheets");
+                let sheet = if at_anode { &mut cell.anode.sheet } else { &mut cell.cathode.sheet };
+                sheet.numbers[1] = 1e-14;
+                let factor = sheet.d_s(temp_k).expect("a sheet in range") / 1e-14;
+                let near = (wanted / factor).to_bits();
+                for bits in near - 8..near + 8 {
+                    sheet.numbers[1] = f64::from_bits(bits);
+                    if sheet.d_s(temp_k) == Ok(wanted) {
+                        break;
+                    }
+                }
+                all.push((cell, temp_k));
+            }
+        }
+    }
+    all
 }
 
 pub fn step_cases(draw: &mut Draw) -> Vec<Vec<Slot>> {
@@ -151,6 +188,8 @@ pub fn step_cases(draw: &mut Draw) -> Vec<Vec<Slot>> {
             cell = cell.step(current, dt, 298.15).expect("a step in range").0;
         }
     }
+    all.extend(alike_counts().iter().map(|cell| stepping(cell, 3.0, 1.0, 298.15)));
+    all.extend(diffusivity_at_limits().iter().map(|(cell, temp_k)| stepping(cell, 3.0, 0.01, *temp_k)));
     all
 }
 
@@ -176,6 +215,7 @@ pub fn number_cases(draw: &mut Draw) -> Vec<Vec<Slot>> {
         let (sheets, config) = ((random_sheet(draw), random_sheet(draw)), random_config(draw, n));
         all.push(random_cell(draw, config, sheets).slots());
     }
+    all.extend(alike_counts().iter().map(Cell::slots));
     all
 }
 
@@ -237,6 +277,7 @@ pub fn run_cases(draw: &mut Draw) -> Vec<Vec<Slot>> {
         let numbers = [draw.uniform(-10.0, 10.0), draw.uniform(0.5, 5.0), draw.uniform(270.0, 330.0), draw.uniform(0.0, 60.0)];
         all.push(running(&cell, numbers, draw.count(8, 120)));
     }
+    all.extend(alike_counts().iter().map(|cell| running(cell, [3.0, 1.0, 298.15, 2.0], 24)));
     all
 }
 

@@ -5,10 +5,10 @@ use Rattle.bench.proofs.replay_all.Statement.{statement}
 use Rattle.bench.proofs.replay_all.Tie as tie
 
 abbrev Inv-loop : tie.InvT-loop
-Inv-loop answers₀ which₀ answers which = which ≤ 29
+Inv-loop answers₀ which₀ answers which = which ≤ 30
 
 abbrev μ-loop : tie.MeasureT-loop
-μ-loop answers₀ which₀ answers which = 29 - which
+μ-loop answers₀ which₀ answers which = 30 - which
 
 loop-holds : tie.Need-loop-holds Inv-loop μ-loop
 loop-holds c = search needs

@@ -1,0 +1,158 @@
+-- Builds of C, `pj_build` 7 to 12: an accepted one replaces the record. Assumes nothing.
+use Prim.Native.Nat.{ℕ, _≤_}
+use mathlib.Core.Path.{_≡_, refl, sym, ap, _∙_}
+use mathlib.Core.Bool.{Bool, true, false, cond}
+use mathlib.Core.List.{List}
+use native.Mathlib.Omega.{arith}
+use borrow.Author.Tests.{eq-eqb, ne-eqb}
+use lib.Dec.{eqb}
+use lib.ListN.{length}
+use Rattle.refusal.specs.Numbers as N
+use Rattle.cell_images.specs.Images.{cellAt}
+use Rattle.electrolyte_images.specs.Images.{electrolyteAt}
+use Rattle.porous_images.specs.Images as I
+use Rattle.image_builds.specs.Builds.{buildLength, builtLength, newNumber, particleMade, cellBuilt, electrolyteBuilt, dfnMade}
+use Rattle.boundary.specs.Calls as B
+use Rattle.image_laws.specs.CellBuilds.{cell-build-number, cell-number}
+use Rattle.image_laws.specs.AnswerLengths.{particle-build-length, cell-build-length, electrolyte-build-length, dfn-build-length}
+use Rattle.image_laws.specs.ReadBack.{particle-build-read-back, cell-build-read-back, electrolyte-build-read-back, dfn-build-read-back}
+use Rattle.boundary_laws.specs.CallLists.{Calls, Implements, plain-implements}
+use Rattle.boundary_laws.specs.StepLists.{particleIn, whole}
+
+-- ---- builds
+-- 7, 11 and 12 of `pj_build`: the image that is handed in
+pub record Build : Type 0 where
+  pub image : List ℕ
+
+-- 8, 9 and 10: graphite_lfp, graphite_nmc, and a cell of two sheets
+pub record CellBuild : Type 0 where
+  pub call : ℕ
+  pub least : 8 ≤ call
+  pub most : call ≤ 10
+  pub image : List ℕ
+
+-- the new record where the build is accepted, and else the old one
+abbrev replaced : {C : Type 0} → ℕ → C → C → C
+replaced n new old = cond (eqb n 0) new old
+
+abbrev pub particleBuilds : Calls 600 particleIn Build
+particleBuilds = record {
+  formed = λ q a. B.lengths (length (q .image)) 88 (length a) 600;
+  returned = λ s q a. B.buildNumber 7 (q .image) (length a);
+  left = λ s q a. B.buildAfter 7 (q .image) a;
+  handed = λ s q a. eqb (B.buildNumber 7 (q .image) (length a)) 0;
+  number = λ p q. particleMade (q .image) .refusal;
+  next = λ p q. replaced (particleMade (q .image) .refusal) (particleMade (q .image) .particle) p;
+}
+
+abbrev pub cellBuilds : Calls 1256 cellAt CellBuild
+cellBuilds = record {
+  formed = λ q a. B.lengths (length (q .image)) (buildLength (q .call)) (length a) 1256;
+  returned = λ s q a. B.buildNumber (q .call) (q .image) (length a);
+  left = λ s q a. B.buildAfter (q .call) (q .image) a;
+  handed = λ s q a. eqb (B.buildNumber (q .call) (q .image) (length a)) 0;
+  number = λ c q. cellBuilt (q .call) (q .image) .refusal;
+  next = λ c q. replaced (cellBuilt (q .call) (q .image) .refusal) (cellBuilt (q .call) (q .image) .solver) c;
+}
+
+abbrev pub electrolyteBuilds : Calls 896 electrolyteAt Build
+electrolyteBuilds = record {
+  formed = λ q a. B.lengths (length (q .image)) 128 (length a) 896;
+  returned = λ s q a. B.buildNumber 11 (q .image) (length a);
+  left = λ s q a. B.buildAfter 11 (q .image) a;
+  handed = λ s q a. eqb (B.buildNumber 11 (q .image) (length a)) 0;
+  number = λ e q. electrolyteBuilt (q .image) .refusal;
+  next = λ e q. replaced (electrolyteBuilt (q .image) .refusal) (electrolyteBuilt (q .image) .state) e;
+}
+
+abbrev pub dfnBuilds : Calls 9008 I.cellAt Build
+dfnBuilds = record {
+  formed = λ q a. B.lengths (length (q .image)) 512 (length a) 9008;
+  returned = λ s q a. B.buildNumber 12 (q .image) (length a);
+  left = λ s q a. B.buildAfter 12 (q .image) a;
+  handed = λ s q a. eqb (B.buildNumber 12 (q .image) (length a)) 0;
+  number = λ d q. dfnMade (q .image) .refusal;
+  next = λ d q. replaced (dfnMade (q .image) .refusal) (dfnMade (q .image) .cell) d;
+}
+
+-- ---- each build implements its definition
+module _ {C : Type 0} (n : ℕ) (new old : C) where
+  built : n ≡ 0 → replaced n new old ≡ new
+  built h = rw (eq-eqb n 0 h)
+
+  unbuilt : (n ≡ 0 → ⊥) → replaced n new old ≡ old
+  unbuilt h = rw (ne-eqb n 0 h)
+
+-- the number that a build returns where it is accepted
+met-number : (b : Bool) (n : ℕ) → B.met b n ≡ 0 → n ≡ 0
+unfolding B.met
+met-number true n h = h
+met-number false n h = let z : N.badLength ≡ 0 = h in absurd (omega (arith, z))
+
+particle-build-returned : (s : List ℕ) (q : Build) (a : List ℕ) → particleBuilds .returned s q a ≡ B.met (particleBuilds .formed q a) (particleMade (q .image) .refusal)
+unfolding B.buildNumber buildLength builtLength newNumber
+particle-build-returned s q a = refl
+
+pub particle-builds-implement : Implements particleBuilds
+particle-builds-implement =
+    plain-implements particleBuilds
+    (record {
+      returned-is = λ s q a l. particle-build-returned s q a;
+      handed-is = λ s q a. refl;
+      accepted-reads = λ s q a h.
+          ap particleIn (whole 600 (particleBuilds .left s q a) (particle-build-length (q .image) a h)) ∙ particle-build-read-back (q .image) a h
+          ∙ sym (built _ _ (particleIn s) (met-number _ _ (sym (particle-build-returned s q a) ∙ h)));
+      accepted-fills = λ s q a h. let l = particle-build-length (q .image) a h in ap length (whole 600 (particleBuilds .left s q a) l) ∙ l;
+      refused-keeps = λ p q n. unbuilt _ _ p n;
+    })
+
+cell-build-returned : (s : List ℕ) (q : CellBuild) (a : List ℕ) → cellBuilds .returned s q a ≡ B.met (cellBuilds .formed q a) (cellBuilt (q .call) (q .image) .refusal)
+cell-build-returned s q a =
+    cell-build-number (q .call) (q .image) a (q .least) (q .most) ∙ ap (B.met (cellBuilds .formed q a)) (cell-number (q .call) (q .image) a (q .least) (q .most))
+
+pub cell-builds-implement : Implements cellBuilds
+cell-builds-implement =
+    plain-implements cellBuilds
+    (record {
+      returned-is = λ s q a l. cell-build-returned s q a;
+      handed-is = λ s q a. refl;
+      accepted-reads = λ s q a h.
+          ap cellAt (whole 1256 (cellBuilds .left s q a) (cell-build-length (q .call) (q .image) a (q .least) (q .most) h)) ∙ cell-build-read-back (q .call) (q .image) a (q .least) (q .most) h
+          ∙ sym (built _ _ (cellAt s) (met-number _ _ (sym (cell-build-returned s q a) ∙ h)));
+      accepted-fills = λ s q a h. let l = cell-build-length (q .call) (q .image) a (q .least) (q .most) h in ap length (whole 1256 (cellBuilds .left s q a) l) ∙ l;
+      refused-keeps = λ c q n. unbuilt _ _ c n;
+    })
+
+electrolyte-build-returned : (s : List ℕ) (q : Build) (a : List ℕ) → electrolyteBuilds .returned s q a ≡ B.met (electrolyteBuilds .formed q a) (electrolyteBuilt (q .image) .refusal)
+unfolding B.buildNumber buildLength builtLength newNumber
+electrolyte-build-returned s q a = refl
+
+pub electrolyte-builds-implement : Implements electrolyteBuilds
+electrolyte-builds-implement =
+    plain-implements electrolyteBuilds
+    (record {
+      returned-is = λ s q a l. electrolyte-build-returned s q a;
+      handed-is = λ s q a. refl;
+      accepted-reads = λ s q a h.
+          ap electrolyteAt (whole 896 (electrolyteBuilds .left s q a) (electrolyte-build-length (q .image) a h)) ∙ electrolyte-build-read-back (q .image) a h
+          ∙ sym (built _ _ (electrolyteAt s) (met-number _ _ (sym (electrolyte-build-returned s q a) ∙ h)));
+      accepted-fills = λ s q a h. let l = electrolyte-build-length (q .image) a h in ap length (whole 896 (electrolyteBuilds .left s q a) l) ∙ l;
+      refused-keeps = λ e q n. unbuilt _ _ e n;
+    })
+
+dfn-build-returned : (s : List ℕ) (q : Build) (a : List ℕ) → dfnBuilds .returned s q a ≡ B.met (dfnBuilds .formed q a) (dfnMade (q .image) .refusal)
+unfolding B.buildNumber buildLength builtLength newNumber
+dfn-build-returned s q a = refl
+
+pub dfn-builds-implement : Implements dfnBuilds
+dfn-builds-implement =
+    plain-implements dfnBuilds
+    (record {
+      returned-is = λ s q a l. dfn-build-returned s q a;
+      handed-is = λ s q a. refl;
+      accepted-reads = λ s q a h.
+          ap I.cellAt (whole 9008 (dfnBuilds .left s q a) (dfn-build-length (q .image) a h)) ∙ dfn-build-read-back (q .image) a h
+          ∙ sym (built _ _ (I.cellAt s) (met-number _ _ (sym (dfn-build-returned s q a) ∙ h)));
+      accepted-fills = λ s q a h. let l = dfn-build-length (q .image) a h in ap length (whole 9008 (dfnBuilds .left s q a) l) ∙ l;
+      refused-keeps = λ d q n. unbuilt _ _ d n;
+    })

@@ -1,0 +1,12 @@
+pub mod CallLists
+pub mod StepLists
+pub mod BuildLists
+pub mod RunLists
+pub mod MixedLists
+pub mod Nodes
+pub mod Demand
+pub mod BuiltCells
+pub mod MixedDemand
+pub mod Instance
+pub mod ParticleInstance
+pub mod MixedInstance

@@ -1,0 +1,119 @@
+-- THEOREM 2 OF LISTS THAT MIX BUILDS, STEPS AND RUNS: the cell of the last image is the cell of the last accepted build (or of the first image) after a list of steps, those of the runs among
+-- them, and every node is within K·M / 2 ^ 49 of the exact one. Assumes nothing.
+use Prim.Native.Nat.{ℕ, _/_, _<_}
+use mathlib.Core.Path.{_≡_, refl, sym, ap, _∙_}
+use mathlib.Core.Bool.{Bool, true, false, cond}
+use mathlib.Core.Logic.{_⊎_, inl, inr}
+use mathlib.Core.List.{List, [], _∷_, _++_}
+use borrow.Author.Tests.{eqb-true}
+use lib.Dec.{eqb}
+use lib.ListN.{length, replicate}
+use Rattle.fraction.specs.Fraction.{nat, pow2, _-F_, _*F_, _/F_, _within_}
+use Rattle.discharge_run.specs.declared.Feed.{Feed}
+use Rattle.discharge_run.specs.Discharge as DR
+use Rattle.solver.specs.declared.SpmSolver.{SpmSolver}
+use Rattle.solver.specs.Cell.{cellRefusal}
+use Rattle.solver_laws.specs.Electrodes.{Electrode, nodes-are}
+use Rattle.solver_laws.specs.Demand as SD
+use Rattle.solver_laws.specs.RunLists.{callOf, turnsMade, run-is-list}
+use Rattle.cell_images.specs.Images.{cellAt}
+use Rattle.image_builds.specs.Builds.{cellBuilt}
+use Rattle.boundary_laws.specs.CallLists.{CCall, imageAfter, wellFormed, recordAfter}
+use Rattle.boundary_laws.specs.StepLists.{current}
+use Rattle.boundary_laws.specs.BuildLists.{CellBuild}
+use Rattle.boundary_laws.specs.RunLists.{CellRun, discharge}
+use Rattle.boundary_laws.specs.MixedLists.{cellCalls, cell-calls-simulate}
+use Rattle.boundary_laws.specs.Nodes.{nodeAt, mostAt, cell-nodes, node-below}
+use Rattle.boundary_laws.specs.BuiltCells.{cell-build-passes}
+
+-- ---- a run as a list of steps: one for each turn, none where the run is refused as a whole
+abbrev feedOf : CellRun → Feed
+feedOf q = DR.feedOf (q .current) (q .dt) (q .temp) (q .limit)
+
+unfoldable pub turnsOf : SpmSolver → CellRun → List SD.Call
+turnsOf c q = cond (eqb (DR.runRefusal (feedOf q) c (q .places)) 0) (replicate (turnsMade (feedOf q) (q .places / 8) (DR.started (feedOf q) c)) (callOf (feedOf q))) []
+
+-- ---- the cell of the last accepted build, and the steps since then
+pub record SinceBuild : Type 0 where
+  pub start : SpmSolver
+  pub steps : List SD.Call
+
+abbrev pub cellOf : SinceBuild → SpmSolver
+cellOf z = SD.cellAfter (z .start) (z .steps)
+
+unfoldable pub sinceBuild : SinceBuild → List (CellBuild ⊎ (SD.Call ⊎ CellRun)) → SinceBuild
+sinceBuild z [] = z
+sinceBuild z (inl b ∷ qs) =
+    cond (eqb (cellBuilt (b .call) (b .image) .refusal) 0) (sinceBuild (record { start = cellBuilt (b .call) (b .image) .solver; steps = [] }) qs) (sinceBuild z qs)
+sinceBuild z (inr (inl q) ∷ qs) = sinceBuild (record { start = z .start; steps = z .steps ++ q ∷ [] }) qs
+sinceBuild z (inr (inr r) ∷ qs) = sinceBuild (record { start = z .start; steps = z .steps ++ turnsOf (cellOf z) r }) qs
+
+-- of calls from C on the image s
+abbrev pub sinceBuildIn : List ℕ → List (CCall (CellBuild ⊎ (SD.Call ⊎ CellRun))) → SinceBuild
+sinceBuildIn s qs = sinceBuild (record { start = cellAt s; steps = [] }) (wellFormed cellCalls qs)
+
+-- ---- a list of calls is that list of steps
+after-append : (xs ys : List SD.Call) (c : SpmSolver) → SD.cellAfter c (xs ++ ys) ≡ SD.cellAfter (SD.cellAfter c xs) ys
+unfolding SD.cellAfter
+after-append [] ys c = refl
+after-append (x ∷ xs) ys c = after-append xs ys (SD.answer c x .solver)
+
+run-turns : (c : SpmSolver) (q : CellRun) → discharge c q .solver ≡ SD.cellAfter c (turnsOf c q)
+unfolding turnsOf DR.discharged DR.allTurns DR.finishedRun DR.started SD.cellAfter
+run-turns c q = go (eqb (DR.runRefusal (feedOf q) c (q .places)) 0)
+  where
+    go : (b : Bool) → cond b (DR.allTurns (feedOf q) (DR.started (feedOf q) c) (q .places / 8)) (DR.refusedRun (DR.runRefusal (feedOf q) c (q .places)) c) .solver
+        ≡ SD.cellAfter c (cond b (replicate (turnsMade (feedOf q) (q .places / 8) (DR.started (feedOf q) c)) (callOf (feedOf q))) [])
+    go true = run-is-list (feedOf q) (q .places / 8) (DR.started (feedOf q) c)
+    go false = refl
+
+one-build : (t : Bool) (qs : List (CellBuild ⊎ (SD.Call ⊎ CellRun))) (a b : SpmSolver) (x y : SinceBuild) → recordAfter cellCalls a qs ≡ cellOf x → recordAfter cellCalls b qs ≡ cellOf y
+    → recordAfter cellCalls (cond t a b) qs ≡ cellOf (cond t x y)
+one-build true qs a b x y p q = p
+one-build false qs a b x y p q = q
+
+since-is : (qs : List (CellBuild ⊎ (SD.Call ⊎ CellRun))) (z : SinceBuild) → recordAfter cellCalls (cellOf z) qs ≡ cellOf (sinceBuild z qs)
+unfolding recordAfter sinceBuild SD.cellAfter
+since-is [] z = refl
+since-is (inl b ∷ qs) z =
+    let new : SinceBuild = record { start = cellBuilt (b .call) (b .image) .solver; steps = [] } in
+    one-build (eqb (cellBuilt (b .call) (b .image) .refusal) 0) qs (cellBuilt (b .call) (b .image) .solver) (cellOf z) (sinceBuild new qs) (sinceBuild z qs) (since-is qs new) (since-is qs z)
+since-is (inr (inl q) ∷ qs) z =
+    ap (λ (c : SpmSolver). recordAfter cellCalls c qs) (sym (after-append (z .steps) (q ∷ []) (z .start))) ∙ since-is qs (record { start = z .start; steps = z .steps ++ q ∷ [] })
+since-is (inr (inr r) ∷ qs) z =
+    ap (λ (c : SpmSolver). recordAfter cellCalls c qs) (run-turns (cellOf z) r ∙ sym (after-append (z .steps) (turnsOf (cellOf z) r) (z .start)))
+    ∙ since-is qs (record { start = z .start; steps = z .steps ++ turnsOf (cellOf z) r })
+
+-- THE CELL OF THE LAST IMAGE is the cell of the last accepted build after the steps since then
+pub mixed-images-are : (s : List ℕ) (qs : List (CCall (CellBuild ⊎ (SD.Call ⊎ CellRun)))) → length s ≡ 1256 → cellAt (imageAfter cellCalls s qs) ≡ cellOf (sinceBuildIn s qs)
+unfolding SD.cellAfter
+mixed-images-are s qs l = cell-calls-simulate qs s l .reads ∙ since-is (wellFormed cellCalls qs) (record { start = cellAt s; steps = [] })
+
+-- the cell that the steps start from passes the checks where that of the first image does
+start-passes : (qs : List (CellBuild ⊎ (SD.Call ⊎ CellRun))) (z : SinceBuild) → cellRefusal (z .start) ≡ 0 → cellRefusal (sinceBuild z qs .start) ≡ 0
+unfolding sinceBuild
+start-passes [] z h = h
+start-passes (inl b ∷ qs) z h = go (eqb (cellBuilt (b .call) (b .image) .refusal) 0) refl (start-passes qs (new b)) (start-passes qs z h)
+  where
+    new : CellBuild → SinceBuild
+    new b = record { start = cellBuilt (b .call) (b .image) .solver; steps = [] }
+
+    go : (t : Bool) → eqb (cellBuilt (b .call) (b .image) .refusal) 0 ≡ t → (cellRefusal (new b .start) ≡ 0 → cellRefusal (sinceBuild (new b) qs .start) ≡ 0)
+        → cellRefusal (sinceBuild z qs .start) ≡ 0 → cellRefusal (cond t (sinceBuild (new b) qs) (sinceBuild z qs) .start) ≡ 0
+    go true e f g = f (cell-build-passes (b .call) (b .image) (eqb-true (cellBuilt (b .call) (b .image) .refusal) 0 e))
+    go false e f g = g
+start-passes (inr (inl q) ∷ qs) z h = start-passes qs (record { start = z .start; steps = z .steps ++ q ∷ [] }) h
+start-passes (inr (inr r) ∷ qs) z h = start-passes qs (record { start = z .start; steps = z .steps ++ turnsOf (cellOf z) r }) h
+
+pub mixed-start-passes : (s : List ℕ) (qs : List (CCall (CellBuild ⊎ (SD.Call ⊎ CellRun)))) → cellRefusal (cellAt s) ≡ 0 → cellRefusal (sinceBuildIn s qs .start) ≡ 0
+mixed-start-passes s qs h = start-passes (wellFormed cellCalls qs) (record { start = cellAt s; steps = [] }) h
+
+-- THEOREM 2. Where the accepted steps since the last build keep the two conditions at e, every node of e in the last image is within K·M / 2 ^ 49 of the exact one, K their sub-steps.
+pub mixed-images-near : (e : Electrode) (s : List ℕ) (qs : List (CCall (CellBuild ⊎ (SD.Call ⊎ CellRun)))) → length s ≡ 1256 → cellRefusal (sinceBuildIn s qs .start) ≡ 0
+    → SD.KeptAt e (sinceBuildIn s qs .start) (sinceBuildIn s qs .steps) → (i : ℕ) → i < sinceBuildIn s qs .start .config .«n_nodes»
+    → nodeAt e (imageAfter cellCalls s qs) i -F SD.exactPlace e (sinceBuildIn s qs .start) (sinceBuildIn s qs .steps) i
+    within nat (SD.K (sinceBuildIn s qs .start) (sinceBuildIn s qs .steps)) *F mostAt e (sinceBuildIn s qs .start) /F pow2 49
+mixed-images-near e s qs l h ks i m =
+    let z = sinceBuildIn s qs in
+    rw (← cell-nodes e (imageAfter cellCalls s qs) (cellOf z) (mixed-images-are s qs l) i (node-below (z .start) h i m))
+    (SD.solver-near e (z .start) (z .steps) h ks i (rw (nodes-are (z .start) h e) m))

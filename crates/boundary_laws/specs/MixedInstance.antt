@@ -1,0 +1,83 @@
+-- A worked instance of theorem 2 of a list that mixes builds, steps and runs, every premise met: from an image of zeros, a build with an answer a byte short, a build of graphite_lfp, the steps
+-- of `Instance`, and among them a run without room for a row. Assumes nothing.
+use Prim.Native.Nat.{ℕ, _<_}
+use mathlib.Core.Path.{_≡_, ap, _∙_}
+use mathlib.Core.Bool.{false}
+use mathlib.Core.List.{List, [], _∷_}
+use mathlib.Core.Logic.{_⊎_, inl, inr}
+use native.Mathlib.Omega.{arith}
+use borrow.Author.Tests.{ne-eqb}
+use lib.Dec.{lit≤}
+use lib.ListN.{length}
+use Rattle.fraction.specs.Fraction.{nat, pow2, _-F_, _*F_, _/F_, _within_}
+use Rattle.elementary.specs.Exp.{one}
+use Rattle.refusal.specs.Numbers as N
+use Rattle.refusal.specs.Numbers.{refusalUnless, none-met}
+use Rattle.solver.specs.declared.SpmSolver.{SpmSolver}
+use Rattle.solver_laws.specs.Electrodes.{Electrode}
+use Rattle.solver_laws.specs.Demand as SD
+use Rattle.solver_laws.specs.Instance.{start, start-passes, two, three, draw, no-current, too-long, discharge, discharge-counted, discharge-kept}
+use Rattle.discharge_run.specs.declared.Feed.{Feed}
+use Rattle.discharge_run.specs.Discharge.{runRefusal}
+use Rattle.cell_images.specs.Images.{cellAt}
+use Rattle.image_builds.specs.Builds.{cellBuilt, buildLength}
+use Rattle.boundary_laws.specs.CallLists.{CCall, imageAfter, wellFormed}
+use Rattle.boundary_laws.specs.StepLists.{current}
+use Rattle.boundary_laws.specs.BuildLists.{CellBuild}
+use Rattle.boundary_laws.specs.RunLists.{CellRun}
+use Rattle.boundary_laws.specs.MixedLists.{cellCalls}
+use Rattle.boundary_laws.specs.Nodes.{nodeAt, mostAt}
+use Rattle.boundary_laws.specs.MixedDemand.{turnsOf, sinceBuild, sinceBuildIn, mixed-images-near}
+use Rattle.boundary_laws.specs.Instance.{zeros, zeros-length, configImage, image, config-length, build-accepted, build-is}
+
+-- ---- the calls
+abbrev graphiteLfp : CellBuild
+graphiteLfp = record { call = 8; least = lit≤ tt; most = lit≤ tt; image = configImage }
+
+-- no place for a row
+abbrev noRoom : CellRun
+noRoom = record { current = draw three one .current; dt = draw three one .dt; temp = draw three one .temp; limit = one; places = 0 }
+
+abbrev step : SD.Call → CCall (CellBuild ⊎ (SD.Call ⊎ CellRun))
+step q = record { call = inr (inl q); answer = zeros 1328 }
+
+abbrev pub mixedCalls : List (CCall (CellBuild ⊎ (SD.Call ⊎ CellRun)))
+mixedCalls =
+    record { call = inl graphiteLfp; answer = zeros 1255 } ∷ record { call = inl graphiteLfp; answer = zeros 1256 } ∷ step no-current ∷ step (draw three two)
+    ∷ record { call = inr (inr noRoom); answer = zeros 1272 } ∷ step too-long ∷ step (draw three one) ∷ step no-current ∷ []
+
+abbrev mixedFormed : List (CellBuild ⊎ (SD.Call ⊎ CellRun))
+mixedFormed =
+    inl graphiteLfp ∷ inr (inl no-current) ∷ inr (inl (draw three two)) ∷ inr (inr noRoom) ∷ inr (inl too-long) ∷ inr (inl (draw three one)) ∷ inr (inl no-current) ∷ []
+
+-- ---- the premises
+formed-calls : wellFormed cellCalls mixedCalls ≡ mixedFormed
+unfolding wellFormed buildLength
+formed-calls = rw config-length
+
+-- a run without room is refused, and makes no step
+length-refused : refusalUnless false N.badLength ≡ 0 → ⊥
+unfolding refusalUnless
+length-refused h = let z : N.badLength ≡ 0 = h in omega (arith, z)
+
+no-room-refused : (w : Feed) (c : SpmSolver) → runRefusal w c 0 ≡ 0 → ⊥
+unfolding runRefusal
+no-room-refused w c h = length-refused (none-met _ _ (none-met _ _ h .1) .0)
+
+no-turns : (c : SpmSolver) → turnsOf c noRoom ≡ []
+unfolding turnsOf
+no-turns c = rw (ne-eqb (runRefusal _ c 0) 0 (no-room-refused _ c))
+
+since-build : (c : SpmSolver) → sinceBuild (record { start = c; steps = [] }) mixedFormed ≡ record { start = cellBuilt 8 configImage .solver; steps = discharge }
+unfolding sinceBuild
+since-build c = rw (build-accepted, no-turns)
+
+pub mixed-since : sinceBuildIn (zeros 1256) mixedCalls ≡ record { start = start; steps = discharge }
+mixed-since = ap (sinceBuild (record { start = cellAt (zeros 1256); steps = [] })) formed-calls ∙ since-build (cellAt (zeros 1256)) ∙ ap (λ (c : SpmSolver). record { start = c; steps = discharge }) build-is
+
+-- ---- THEOREM 2 for the words of the last image, K = 3
+pub mixed-image-near : (e : Electrode) (i : ℕ) → i < 11
+    → nodeAt e (imageAfter cellCalls (zeros 1256) mixedCalls) i -F SD.exactPlace e start discharge i within nat 3 *F mostAt e start /F pow2 49
+mixed-image-near e i l =
+    rw (mixed-since, discharge-counted) at
+    (mixed-images-near e (zeros 1256) mixedCalls (zeros-length 1256) (rw mixed-since start-passes) (rw mixed-since (discharge-kept e)) i (rw mixed-since l))

@@ -1,0 +1,43 @@
+-- LISTS THAT MIX BUILDS, STEPS AND RUNS of C. A build replaces the record; a run hands on the cell after its finished rows, also where it is refused after a row; a refused call changes
+-- nothing. The record of the last image is the record after the same calls. Assumes nothing.
+use Prim.Native.Nat.{ℕ}
+use mathlib.Core.Path.{_≡_}
+use mathlib.Core.Logic.{_⊎_}
+use mathlib.Core.List.{List}
+use lib.ListN.{length}
+use Rattle.particle_laws.specs.Demand as PD
+use Rattle.solver_laws.specs.Demand as SD
+use Rattle.cell_images.specs.Images.{cellAt}
+use Rattle.electrolyte_images.specs.Images.{electrolyteAt}
+use Rattle.porous_images.specs.Images as I
+use Rattle.boundary_laws.specs.CallLists.{Calls, CCall, Simulates, simulates, orElse, both-implement}
+use Rattle.boundary_laws.specs.StepLists.{ElectrolyteCall, DfnCall, particleIn, particleSteps, cellSteps, electrolyteSteps, dfnSteps, particle-steps-implement, cell-steps-implement, electrolyte-steps-implement, dfn-steps-implement}
+use Rattle.boundary_laws.specs.BuildLists.{Build, CellBuild, particleBuilds, cellBuilds, electrolyteBuilds, dfnBuilds, particle-builds-implement, cell-builds-implement, electrolyte-builds-implement, dfn-builds-implement}
+use Rattle.boundary_laws.specs.RunLists.{CellRun, DfnRun, cellRuns, dfnRuns, cell-runs-implement, dfn-runs-implement}
+
+-- ---- lists of all of them
+abbrev pub particleCalls : Calls 600 particleIn (Build ⊎ PD.Call)
+particleCalls = orElse particleBuilds particleSteps
+
+abbrev pub cellCalls : Calls 1256 cellAt (CellBuild ⊎ (SD.Call ⊎ CellRun))
+cellCalls = orElse cellBuilds (orElse cellSteps cellRuns)
+
+abbrev pub electrolyteCalls : Calls 896 electrolyteAt (Build ⊎ ElectrolyteCall)
+electrolyteCalls = orElse electrolyteBuilds electrolyteSteps
+
+abbrev pub dfnCalls : Calls 9008 I.cellAt (Build ⊎ (DfnCall ⊎ DfnRun))
+dfnCalls = orElse dfnBuilds (orElse dfnSteps dfnRuns)
+
+-- ---- THE RECORD OF THE LAST IMAGE is the record after the same calls
+pub particle-calls-simulate : (qs : List (CCall (Build ⊎ PD.Call))) (s : List ℕ) → length s ≡ 600 → Simulates particleCalls s qs
+particle-calls-simulate = simulates particleCalls (both-implement particleBuilds particleSteps particle-builds-implement particle-steps-implement)
+
+pub cell-calls-simulate : (qs : List (CCall (CellBuild ⊎ (SD.Call ⊎ CellRun)))) (s : List ℕ) → length s ≡ 1256 → Simulates cellCalls s qs
+cell-calls-simulate =
+    simulates cellCalls (both-implement cellBuilds (orElse cellSteps cellRuns) cell-builds-implement (both-implement cellSteps cellRuns cell-steps-implement cell-runs-implement))
+
+pub electrolyte-calls-simulate : (qs : List (CCall (Build ⊎ ElectrolyteCall))) (s : List ℕ) → length s ≡ 896 → Simulates electrolyteCalls s qs
+electrolyte-calls-simulate = simulates electrolyteCalls (both-implement electrolyteBuilds electrolyteSteps electrolyte-builds-implement electrolyte-steps-implement)
+
+pub dfn-calls-simulate : (qs : List (CCall (Build ⊎ (DfnCall ⊎ DfnRun)))) (s : List ℕ) → length s ≡ 9008 → Simulates dfnCalls s qs
+dfn-calls-simulate = simulates dfnCalls (both-implement dfnBuilds (orElse dfnSteps dfnRuns) dfn-builds-implement (both-implement dfnSteps dfnRuns dfn-steps-implement dfn-runs-implement))

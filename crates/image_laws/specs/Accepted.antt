@@ -1,0 +1,54 @@
+-- What it means that a call returns 0: its lengths are right, its inputs pass, and its answer is what it writes. Assumes nothing.
+use Prim.Native.Nat.{ℕ, zero, suc}
+use mathlib.Core.Path.{_≡_, refl, sym, _∙_}
+use mathlib.Core.Bool.{Bool, true, false, cond, _&&_}
+use mathlib.Core.List.{List}
+use native.Mathlib.Omega.{arith}
+use borrow.Author.Tests.{eqb-true, eq-eqb}
+use lib.Dec.{T, eqb, eqb·suc-zero}
+use lib.ListN.{length}
+use Rattle.refusal.specs.Numbers as N
+use Rattle.runs.specs.Told.{told}
+use Rattle.boundary.specs.Calls.{lengths, met}
+
+-- an answer that is x where the inputs' number k is 0 and else y, which has the number k
+module _ {A : Type 0} (number : A → ℕ) (k : ℕ) (x y : A) (e : number y ≡ k) (h : number (cond (eqb k 0) x y) ≡ 0) where
+  refused-number : (j : ℕ) → k ≡ suc j → k ≡ 0
+  refused-number j d = let z : number y ≡ 0 = rw (d, eqb·suc-zero j) at h in sym e ∙ z
+
+  -- it is accepted: its inputs pass
+  pub inputs-pass : k ≡ 0
+  inputs-pass = go k refl
+    where
+      go : (j : ℕ) → k ≡ j → k ≡ 0
+      go zero d = d
+      go (suc j) d = refused-number j d
+
+  -- and it is x
+  pub accepted-is : cond (eqb k 0) x y ≡ x
+  accepted-is = rw (eq-eqb k 0 inputs-pass)
+
+-- a call of the boundary that returns 0: image s of m bytes, answer a of n bytes, the number k, and `new` in the answer
+pub record Accepted (s a : List ℕ) (m n k : ℕ) (new : List ℕ) : Type 0 where
+  pub image : length s ≡ m
+  pub answer : length a ≡ n
+  pub number : k ≡ 0
+  pub writes : cond (lengths (length s) m (length a) n) new a ≡ new
+
+pub accepted : (s a : List ℕ) (m n k : ℕ) (new : List ℕ) → met (lengths (length s) m (length a) n) k ≡ 0 → Accepted s a m n k new
+unfolding met
+accepted s a m n k new = go (eqb (length s) m) (eqb (length a) n) refl refl
+  where
+    go : (x y : Bool) → eqb (length s) m ≡ x → eqb (length a) n ≡ y → met (lengths (length s) m (length a) n) k ≡ 0 → Accepted s a m n k new
+    go true true d e h = record { image = eqb-true _ _ d; answer = eqb-true _ _ e; number = rw (d, e) at h; writes = rw (d, e) }
+    go true false d e h = let z : N.badLength ≡ 0 = rw (d, e) at h in absurd (omega (arith, z))
+    go false y d e h = let z : N.badLength ≡ 0 = rw d at h in absurd (omega (arith, z))
+
+-- a run that returns 0 has written its answer
+pub no-refusal : (refusal rows : ℕ) → refusal ≡ 0 → T (told refusal rows)
+no-refusal refusal rows h = rw (eq-eqb refusal 0 h) tt
+
+pub second-true : (x y : Bool) → x && y ≡ true → y ≡ true
+second-true true y e = e
+second-true false true e = refl
+second-true false false e = e

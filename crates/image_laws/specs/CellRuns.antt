@@ -1,0 +1,144 @@
+-- The answer of a run of a single-particle cell, where it is written, is read back as the cell after the run, its ending and its count of rows. Assumes nothing.
+use Prim.Native.Nat.{ℕ, zero, suc, _≤_, _<_, _+_, _/_, _^_}
+use mathlib.Core.Path.{_≡_, refl, sym, ap, _∙_}
+use mathlib.Core.List.{List}
+use native.Mathlib.Omega.{arith}
+use native.Mathlib.Nat.{zero-lt-suc, le-refl}
+use lib.Dec.{T, lit≤, eqb, eqb·suc-zero}
+use lib.ListN.{length, take}
+use lib.Seq.{length-take-le}
+use lib.Ieee.{Float}
+use lib.Ieee.Bits.{is-true}
+use Rattle.matrix_rows.specs.Loops.{either}
+use Rattle.refusal.specs.Numbers.{firstMet, refusalUnless, grid, sheet, none-met, passed}
+use Rattle.runs.specs.Told.{told}
+use Rattle.runs.specs.Rows.{runAfter}
+use Rattle.solver.specs.declared.SpmSolver.{SpmSolver}
+use Rattle.solver.specs.Cell.{gridFits, cellFits, cellRefusal}
+use Rattle.solver.specs.Step.{stepped}
+use Rattle.solver_laws.specs.Closure.{step-refused}
+use Rattle.discharge_run.specs.declared.Feed.{Feed}
+use Rattle.discharge_run.specs.declared.Run.{Run}
+use Rattle.discharge_run.specs.Discharge.{RunSaid, feedOf, started, followed, turned, overOf, lastRow, finishedRun, allTurns, runRefusal, refusedRun, discharged}
+use Rattle.codec.specs.Words.{wordAt}
+use Rattle.image_rows.specs.Written.{putEnding}
+use Rattle.cell_images.specs.Images.{cellAt, putCell}
+use Rattle.cell_calls.specs.Runs.{dischargeAfter}
+use Rattle.image_laws.specs.Rows.{same-below}
+use Rattle.image_laws.specs.CellImages.{EncodableCell, cell-same, writes-cell, cell-read-back}
+use Rattle.image_laws.specs.Reports.{writes-ending, ending-read-back, rows-read-back}
+use Rattle.image_laws.specs.CellEncodable.{cellAt-encodable, step-encodable}
+use Rattle.image_laws.specs.CellSteps.{first-cell}
+use Rattle.image_laws.specs.Turns.{run-keeps, run-rows, ending-most}
+
+-- ---- what a run makes of its cell
+module _ (w : Feed) where
+  turned-encodable : (r : Run) → EncodableCell (r .solver) → EncodableCell (turned w r .solver)
+  unfolding turned followed
+  turned-encodable r h =
+      let a = stepped (r .solver) (w .«current_a») (w .dt) (w .«temp_k») in
+      let k = step-encodable (r .solver) (w .«current_a») (w .dt) (w .«temp_k») h in
+      either (λ (x : Run). EncodableCell (x .solver)) (eqb (a .refusal) 0) _ _ k k
+
+  turned-rows : (r : Run) → turned w r .rows ≤ r .rows + 1
+  unfolding turned followed
+  turned-rows r = either (λ (x : Run). x .rows ≤ r .rows + 1) (eqb (stepped (r .solver) (w .«current_a») (w .dt) (w .«temp_k») .refusal) 0) _ _ (le-refl (r .rows + 1)) (omega arith)
+
+  -- a run without a row leaves the cell
+  turned-idle : (s : SpmSolver) (r : Run) → (r .rows ≡ 0 → r .solver ≡ s) → turned w r .rows ≡ 0 → turned w r .solver ≡ s
+  unfolding turned followed
+  turned-idle s r f = go (stepped (r .solver) (w .«current_a») (w .dt) (w .«temp_k») .refusal) refl
+    where
+      go : (k : ℕ) → stepped (r .solver) (w .«current_a») (w .dt) (w .«temp_k») .refusal ≡ k → turned w r .rows ≡ 0 → turned w r .solver ≡ s
+      go zero e z = let y : r .rows + 1 ≡ 0 = rw e at z in absurd (omega (arith, y))
+      go (suc k) e z =
+          let y : r .rows ≡ 0 = rw (e, eqb·suc-zero k) at z in
+          rw (e, eqb·suc-zero k)
+          (step-refused (r .solver) (w .«current_a») (w .dt) (w .«temp_k») (λ (x : stepped (r .solver) (w .«current_a») (w .dt) (w .«temp_k») .refusal ≡ 0). let v : suc k ≡ 0 = sym e ∙ x in omega (arith, v)) .0 ∙ f y)
+
+  pub run-encodable : (s : SpmSolver) (places : ℕ) → EncodableCell s → EncodableCell (discharged w s places .solver)
+  unfolding discharged allTurns finishedRun started
+  run-encodable s places h =
+      either (λ (x : RunSaid). EncodableCell (x .solver)) (eqb (runRefusal w s places) 0) (allTurns w (started w s) (places / 8)) (refusedRun (runRefusal w s places) s)
+      (run-keeps overOf (turned w) lastRow (λ (r : Run). EncodableCell (r .solver)) turned-encodable (places / 8) (started w s) h) h
+
+  pub run-idle : (s : SpmSolver) (places : ℕ) → discharged w s places .rows ≡ 0 → discharged w s places .solver ≡ s
+  unfolding discharged allTurns finishedRun started
+  run-idle s places =
+      either (λ (x : RunSaid). x .rows ≡ 0 → x .solver ≡ s) (eqb (runRefusal w s places) 0) (allTurns w (started w s) (places / 8)) (refusedRun (runRefusal w s places) s)
+      (run-keeps overOf (turned w) lastRow (λ (r : Run). r .rows ≡ 0 → r .solver ≡ s) (turned-idle s) (places / 8) (started w s) (λ z. refl)) (λ z. refl)
+
+  pub rows-most : (s : SpmSolver) (places : ℕ) → discharged w s places .rows ≤ places
+  unfolding discharged allTurns finishedRun started
+  rows-most s places =
+      let n : runAfter overOf (turned w) lastRow (places / 8) (started w s) .rows ≤ 0 + places / 8 = run-rows overOf (turned w) lastRow (λ (r : Run). r .rows) turned-rows (places / 8) (started w s) in
+      either (λ (x : RunSaid). x .rows ≤ places) (eqb (runRefusal w s places) 0) (allTurns w (started w s) (places / 8)) (refusedRun (runRefusal w s places) s) (omega (arith, n)) (omega arith)
+
+  pub run-ending : (s : SpmSolver) (places : ℕ) → discharged w s places .ended .ending ≤ 4
+  unfolding discharged allTurns finishedRun
+  run-ending s places =
+      either (λ (x : RunSaid). x .ended .ending ≤ 4) (eqb (runRefusal w s places) 0) (allTurns w (started w s) (places / 8)) (refusedRun (runRefusal w s places) s) (ending-most _ _) (le-refl 4)
+
+  -- an answer that is written comes from a cell that passes the checks
+  written-run : (s : SpmSolver) (places : ℕ) → T (told (discharged w s places .ended .refusal) (discharged w s places .rows)) → runRefusal w s places ≡ 0
+  unfolding discharged
+  written-run s places = go (runRefusal w s places) refl
+    where
+      go : (k : ℕ) → runRefusal w s places ≡ k → T (told (discharged w s places .ended .refusal) (discharged w s places .rows)) → runRefusal w s places ≡ 0
+      go zero e t = e
+      go (suc k) e t = absurd (rw (e, eqb·suc-zero k, eqb·suc-zero k) at t)
+
+  run-tests : (s : SpmSolver) (places : ℕ) → runRefusal w s places ≡ 0 → T (gridFits s) × T (cellFits s)
+  unfolding runRefusal
+  run-tests s places h =
+      let a = none-met _ _ h in
+      let c = none-met _ _ (none-met _ _ (a .1) .1) in
+      (passed (gridFits s) grid (zero-lt-suc 0) (a .0), passed (cellFits s) sheet (zero-lt-suc 1) (c .0))
+
+  run-passes : (s : SpmSolver) (places : ℕ) → runRefusal w s places ≡ 0 → cellRefusal s ≡ 0
+  unfolding cellRefusal firstMet refusalUnless
+  run-passes s places h = let m = run-tests s places h in rw (is-true (gridFits s) (m .0), is-true (cellFits s) (m .1))
+
+-- ---- the answer
+module _ (s : List ℕ) (i dt t limit : Float) (places : ℕ) (a : List ℕ)
+    (h : T (told (discharged (feedOf i dt t limit) (cellAt s) places .ended .refusal) (discharged (feedOf i dt t limit) (cellAt s) places .rows))) where
+  abbrev run : RunSaid
+  run = discharged (feedOf i dt t limit) (cellAt s) places
+
+  abbrev new : List ℕ
+  new = putCell a (run .solver)
+
+  run-cell : EncodableCell (run .solver)
+  run-cell =
+      run-encodable (feedOf i dt t limit) (cellAt s) places
+      (cellAt-encodable s (run-passes (feedOf i dt t limit) (cellAt s) places (written-run (feedOf i dt t limit) (cellAt s) places h)))
+
+  answer-is : dischargeAfter s i dt t limit places a ≡ putEnding new 157 (run .ended .ending) (run .rows)
+  unfolding dischargeAfter
+  answer-is = rw (is-true (told (run .ended .refusal) (run .rows)) h)
+
+  new-length : length new ≡ length a
+  new-length = writes-cell a (run .solver) run-cell .size
+
+  pub run-answer-length : length (dischargeAfter s i dt t limit places a) ≡ length a
+  run-answer-length = ap length answer-is ∙ writes-ending new 157 (run .ended .ending) (run .rows) .size ∙ new-length
+
+  module _ (l : length a ≡ 1272) where
+    pub run-answer-first : cellAt (take 1256 (dischargeAfter s i dt t limit places a)) ≡ discharged (feedOf i dt t limit) (cellAt s) places .solver
+    run-answer-first =
+        first-cell (dischargeAfter s i dt t limit places a) (rw (run-answer-length ∙ l) (lit≤ tt)) ∙ ap cellAt answer-is
+        ∙ cell-same new (putEnding new 157 (run .ended .ending) (run .rows)) (same-below (lit≤ tt) (writes-ending new 157 (run .ended .ending) (run .rows)))
+        ∙ cell-read-back a (run .solver) run-cell (rw l (lit≤ tt))
+
+    pub run-first-length : length (take 1256 (dischargeAfter s i dt t limit places a)) ≡ 1256
+    run-first-length = length-take-le 1256 (dischargeAfter s i dt t limit places a) (rw (run-answer-length ∙ l) (lit≤ tt))
+
+    pub run-ending-answer : wordAt (dischargeAfter s i dt t limit places a) 157 ≡ discharged (feedOf i dt t limit) (cellAt s) places .ended .ending
+    run-ending-answer =
+        let m = run-ending (feedOf i dt t limit) (cellAt s) places in
+        ap (λ (b : List ℕ). wordAt b 157) answer-is ∙ ending-read-back new 157 (run .ended .ending) (run .rows) (rw (new-length ∙ l) (lit≤ tt)) (omega (arith, m))
+
+    pub run-rows-answer : places < 2 ^ 64 → wordAt (dischargeAfter s i dt t limit places a) 158 ≡ discharged (feedOf i dt t limit) (cellAt s) places .rows
+    run-rows-answer n =
+        let m = rows-most (feedOf i dt t limit) (cellAt s) places in
+        ap (λ (b : List ℕ). wordAt b 158) answer-is ∙ rows-read-back new 157 (run .ended .ending) (run .rows) (rw (new-length ∙ l) (lit≤ tt)) (omega (arith, m, n))

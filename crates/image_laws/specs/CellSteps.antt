@@ -1,0 +1,125 @@
+-- The answer of an accepted step of a particle or a single-particle cell is read back as what `stepped` gives. Assumes nothing.
+use Prim.Native.Nat.{ℕ, _≤_}
+use mathlib.Core.Path.{_≡_, refl, ap, _∙_}
+use mathlib.Core.List.{List}
+use native.Mathlib.Omega.{arith}
+use lib.Dec.{T, lit≤}
+use lib.ListN.{length, take}
+use lib.Seq.{length-take-le}
+use lib.Ieee.{Float, binary64, fits}
+use lib.Ieee.Fits.{add-fits, sub-fits, div-fits}
+use borrow.Author.Tests.{eq-eqb}
+use Rattle.particle.specs.Particle.{surfaceTheta, averageTheta}
+use Rattle.particle.specs.Checks.{particleRefusal}
+use Rattle.particle.specs.declared.ParticleAnswer.{ParticleAnswer}
+use Rattle.particle.specs.Calls as P
+use Rattle.solver.specs.declared.SpmSolver.{SpmSolver}
+use Rattle.solver.specs.declared.SpmStep.{SpmStep}
+use Rattle.solver.specs.Cell.{cellRefusal}
+use Rattle.solver.specs.Step as S
+use Rattle.solver_laws.specs.Electrodes.{count-most}
+use Rattle.solver_laws.specs.Closure.{Leads, leads, report}
+use Rattle.codec.specs.Words.{wordAt}
+use Rattle.image_rows.specs.Written.{written}
+use Rattle.sheet_images.specs.Images.{particleAt}
+use Rattle.cell_images.specs.Images.{cellAt, putCell, stateNumbers, putReport}
+use Rattle.cell_calls.specs.Steps.{particleNumber, particleAfter, cellNumber, cellAfter}
+use Rattle.image_laws.specs.Accepted.{inputs-pass}
+use Rattle.image_laws.specs.Words.{word-take}
+use Rattle.image_laws.specs.Encodable.{EncodableRow, []ᵉ, _∷ᵉ_}
+use Rattle.image_laws.specs.Rows.{same-below}
+use Rattle.image_laws.specs.CellImages.{EncodableParticle, EncodableCell, writes-particle, particle-read-back, cell-same, writes-cell, cell-read-back}
+use Rattle.image_laws.specs.Reports.{cellReportAt, writes-cell-report, report-row-read-back, sub-steps-word-read-back}
+use Rattle.image_laws.specs.CellEncodable.{particleAt-encodable, cellAt-encodable, step-encodable, particle-step-encodable}
+
+-- ---- a particle
+module _ (s : List ℕ) (j dt t : Float) (a : List ℕ) (h : particleNumber s j dt t ≡ 0) where
+  particle-passes : particleRefusal (particleAt s 0) ≡ 0
+  unfolding particleNumber P.stepped
+  particle-passes =
+      P.step-particle (particleAt s 0) j dt t (inputs-pass (λ (x : ParticleAnswer). x .refusal) (P.stepRefusal (particleAt s 0) j dt t) _ _ refl h)
+
+  stepped-particle : EncodableParticle (P.stepped (particleAt s 0) j dt t .particle)
+  stepped-particle = particle-step-encodable (particleAt s 0) j dt t (particleAt-encodable s 0 particle-passes)
+
+  pub particle-answer : 600 ≤ length a → particleAt (particleAfter s j dt t a) 0 ≡ P.stepped (particleAt s 0) j dt t .particle
+  unfolding particleAfter written
+  particle-answer l = rw (eq-eqb (particleNumber s j dt t) 0 h) (particle-read-back a 0 (P.stepped (particleAt s 0) j dt t .particle) l stepped-particle)
+
+  pub particle-answer-length : length (particleAfter s j dt t a) ≡ length a
+  unfolding particleAfter written
+  particle-answer-length = rw (eq-eqb (particleNumber s j dt t) 0 h) (writes-particle a 0 (P.stepped (particleAt s 0) j dt t .particle) (stepped-particle .long) .size)
+
+-- ---- a cell
+-- what an accepted step tells: the cell passes the checks, the sub-steps are few, the numbers of the report are binary64's
+pub record Stepped (c : SpmSolver) (i : Float) (r : SpmStep) : Type 0 where
+  pub passes : cellRefusal c ≡ 0
+  pub few : r .«sub_steps» ≤ 4096
+  pub report : T (fits binary64 i) → EncodableRow (stateNumbers (r .state))
+
+voltage-fits : (c : SpmSolver) (i dt t : Float) → T (fits binary64 (report c i dt t .voltage))
+unfolding S.reported S.voltageOf
+voltage-fits c i dt t = sub-fits binary64 _ _
+
+report-encodable : (c : SpmSolver) (i dt t : Float) → T (fits binary64 i) → EncodableRow (stateNumbers (report c i dt t))
+unfolding S.reported S.advanced surfaceTheta averageTheta
+report-encodable c i dt t f =
+    voltage-fits c i dt t ∷ᵉ f ∷ᵉ div-fits binary64 _ _ ∷ᵉ div-fits binary64 _ _ ∷ᵉ div-fits binary64 _ _ ∷ᵉ div-fits binary64 _ _ ∷ᵉ add-fits binary64 _ _ ∷ᵉ []ᵉ
+
+step-tells : (c : SpmSolver) (i dt t : Float) → S.stepped c i dt t .refusal ≡ 0 → Stepped c i (S.stepped c i dt t)
+step-tells c i dt t = go (S.stepped c i dt t) (leads c i dt t)
+  where
+    go : (r : SpmStep) → Leads c i dt t r → r .refusal ≡ 0 → Stepped c i r
+    go r (Leads.refused k) z = absurd (omega (arith, z))
+    go r (Leads.moved h g f) z = record { passes = S.input-cell c i dt t h; few = count-most _ g; report = report-encodable c i dt t }
+
+-- the first 1,256 bytes are the cell's
+pub first-cell : (a : List ℕ) → 1256 ≤ length a → cellAt (take 1256 a) ≡ cellAt a
+first-cell a h = cell-same a (take 1256 a) (record { words = λ k l m. word-take 1256 a k (omega (arith, m)) h })
+
+module _ (s : List ℕ) (i dt t : Float) (a : List ℕ) (h : cellNumber s i dt t ≡ 0) where
+  abbrev after : SpmStep
+  after = S.stepped (cellAt s) i dt t
+
+  abbrev new : List ℕ
+  new = putCell a (after .solver)
+
+  tells : Stepped (cellAt s) i after
+  unfolding cellNumber
+  tells = step-tells (cellAt s) i dt t h
+
+  stepped-cell : EncodableCell (after .solver)
+  stepped-cell = step-encodable (cellAt s) i dt t (cellAt-encodable s (tells .passes))
+
+  answer-is : cellAfter s i dt t a ≡ putReport new (after .state) (after .«sub_steps»)
+  unfolding cellAfter written
+  answer-is = rw (eq-eqb (cellNumber s i dt t) 0 h)
+
+  new-length : length new ≡ length a
+  new-length = writes-cell a (after .solver) stepped-cell .size
+
+  pub cell-answer-length : length (cellAfter s i dt t a) ≡ length a
+  cell-answer-length = ap length answer-is ∙ writes-cell-report new (after .state) (after .«sub_steps») .size ∙ new-length
+
+  module _ (l : length a ≡ 1328) where
+    room : 1328 ≤ length new
+    room = rw (new-length ∙ l) (lit≤ tt)
+
+    pub cell-answer : cellAt (cellAfter s i dt t a) ≡ S.stepped (cellAt s) i dt t .solver
+    cell-answer =
+        ap cellAt answer-is ∙ cell-same new (putReport new (after .state) (after .«sub_steps»)) (same-below (lit≤ tt) (writes-cell-report new (after .state) (after .«sub_steps»)))
+        ∙ cell-read-back a (after .solver) stepped-cell (rw l (lit≤ tt))
+
+    pub cell-answer-first : cellAt (take 1256 (cellAfter s i dt t a)) ≡ S.stepped (cellAt s) i dt t .solver
+    cell-answer-first = first-cell (cellAfter s i dt t a) (rw (cell-answer-length ∙ l) (lit≤ tt)) ∙ cell-answer
+
+    pub cell-first-length : length (take 1256 (cellAfter s i dt t a)) ≡ 1256
+    cell-first-length = length-take-le 1256 (cellAfter s i dt t a) (rw (cell-answer-length ∙ l) (lit≤ tt))
+
+    pub sub-steps-answer : wordAt (cellAfter s i dt t a) 165 ≡ S.stepped (cellAt s) i dt t .«sub_steps»
+    sub-steps-answer =
+        let m = tells .few in
+        ap (λ (b : List ℕ). wordAt b 165) answer-is ∙ sub-steps-word-read-back new (after .state) (after .«sub_steps») room (omega (arith, m))
+
+    pub report-answer : T (fits binary64 i) → cellReportAt (cellAfter s i dt t a) ≡ S.stepped (cellAt s) i dt t .state
+    report-answer f = ap cellReportAt answer-is ∙ report-row-read-back new (after .state) (after .«sub_steps») room (tells .report f)

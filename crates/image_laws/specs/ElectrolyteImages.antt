@@ -1,0 +1,125 @@
+-- An electrolyte's parameters and an electrolyte that are written into an image are read back. Assumes nothing.
+use Prim.Native.Nat.{ℕ, _≤_, _<_, _+_, _^_}
+use mathlib.Core.Path.{_≡_, refl, _∙_}
+use mathlib.Core.Logic.{inl}
+use mathlib.Core.List.{List, [], _∷_}
+use native.Mathlib.Omega.{arith}
+use lib.Dec.{lit≤}
+use lib.ListN.{length, getD}
+use lib.Ieee.{Float, nan}
+use Rattle.codec.specs.Words.{wordAt, putWord, floatAt, putRow}
+use Rattle.electrolyte_parameters.specs.declared.ElectrolyteParams.{ElectrolyteParams}
+use Rattle.electrolyte.specs.declared.ElectrolyteState.{ElectrolyteState}
+use Rattle.electrolyte_images.specs.Images.{saltAt, putSalt, electrolyteAt, regionNumbers, putRegions, putElectrolyte}
+use Rattle.image_laws.specs.Words.{word-read-back}
+use Rattle.image_laws.specs.Encodable.{EncodableRow}
+use Rattle.image_laws.specs.Rows.{Writes, SameWords, same-below, same-float, writes-then, writes-word, writes-places, place-read-back, row-read-back}
+
+-- ---- the salt: seven numbers
+abbrev pub saltNumbers : ElectrolyteParams → List Float
+saltNumbers p = p .«d_e_ref» ∷ p .«kappa_ref» ∷ p .«t_plus» ∷ p .bruggeman ∷ p .«c_e_init» ∷ p .«e_a_de» ∷ p .«e_a_kappa» ∷ []
+
+pub writes-salt : (s : List ℕ) (p : ElectrolyteParams) → Writes 0 7 s (putSalt s p)
+unfolding putSalt
+writes-salt s p = writes-places 7 s 0 (saltNumbers p)
+
+pub salt-same : (s s' : List ℕ) → SameWords 0 7 s s' → saltAt s' ≡ saltAt s
+unfolding saltAt
+salt-same s s' p =
+    rw (
+      same-float p 0 (lit≤ tt) (lit≤ tt),
+      same-float p 1 (lit≤ tt) (lit≤ tt),
+      same-float p 2 (lit≤ tt) (lit≤ tt),
+      same-float p 3 (lit≤ tt) (lit≤ tt),
+      same-float p 4 (lit≤ tt) (lit≤ tt),
+      same-float p 5 (lit≤ tt) (lit≤ tt),
+      same-float p 6 (lit≤ tt) (lit≤ tt),
+    )
+
+pub salt-read-back : (s : List ℕ) (p : ElectrolyteParams) → 56 ≤ length s → EncodableRow (saltNumbers p) → saltAt (putSalt s p) ≡ p
+unfolding saltAt putSalt
+salt-read-back s p h k =
+    let at : (i : ℕ) → i < 7 → floatAt (putRow s 0 (saltNumbers p)) i ≡ getD (saltNumbers p) i nan = λ i l. place-read-back s 0 (saltNumbers p) h k i i l (omega arith) in
+    rw (at 0 (lit≤ tt), at 1 (lit≤ tt), at 2 (lit≤ tt), at 3 (lit≤ tt), at 4 (lit≤ tt), at 5 (lit≤ tt), at 6 (lit≤ tt))
+
+-- ---- an electrolyte: the salt, six numbers, three counts, 96 places
+pub record EncodableElectrolyte (e : ElectrolyteState) : Type 0 where
+  pub salt : EncodableRow (saltNumbers (e .params))
+  pub regions : EncodableRow (regionNumbers e)
+  pub neg : e .«n_neg» < 2 ^ 64
+  pub sep : e .«n_sep» < 2 ^ 64
+  pub pos : e .«n_pos» < 2 ^ 64
+  pub long : length (e .«c_e») ≡ 96
+  pub places : EncodableRow (e .«c_e»)
+
+module _ (s : List ℕ) (e : ElectrolyteState) (k : EncodableElectrolyte e) where
+  abbrev e1 : List ℕ
+  e1 = putSalt s (e .params)
+
+  abbrev e2 : List ℕ
+  e2 = putRow e1 7 (regionNumbers e)
+
+  abbrev e3 : List ℕ
+  e3 = putWord e2 13 (e .«n_neg»)
+
+  abbrev e4 : List ℕ
+  e4 = putWord e3 14 (e .«n_sep»)
+
+  abbrev e5 : List ℕ
+  e5 = putWord e4 15 (e .«n_pos»)
+
+  abbrev e6 : List ℕ
+  e6 = putRow e5 16 (e .«c_e»)
+
+  v1 : Writes 0 7 s e1
+  v1 = writes-salt s (e .params)
+
+  v2 : Writes 7 13 e1 e2
+  v2 = writes-places 6 e1 7 (regionNumbers e)
+
+  v3 : Writes 13 14 e2 e3
+  v3 = writes-word e2 13 (e .«n_neg»)
+
+  v4 : Writes 14 15 e3 e4
+  v4 = writes-word e3 14 (e .«n_sep»)
+
+  v5 : Writes 15 16 e4 e5
+  v5 = writes-word e4 15 (e .«n_pos»)
+
+  v6 : Writes 16 112 e5 e6
+  v6 = let n : 112 ≡ 16 + length (e .«c_e») = rw (k .long) in rw n (writes-places (length (e .«c_e»)) e5 16 (e .«c_e»))
+
+  v36 : Writes 13 112 e2 e6
+  v36 = writes-then (lit≤ tt) (lit≤ tt) (writes-then (lit≤ tt) (lit≤ tt) (writes-then (lit≤ tt) (lit≤ tt) v3 v4) v5) v6
+
+  pub writes-electrolyte : Writes 0 112 s (putElectrolyte s e)
+  unfolding putElectrolyte putRegions
+  writes-electrolyte = writes-then (lit≤ tt) (lit≤ tt) (writes-then (lit≤ tt) (lit≤ tt) v1 v2) v36
+
+  pub electrolyte-read-back : 896 ≤ length s → electrolyteAt (putElectrolyte s e) ≡ e
+  unfolding electrolyteAt putElectrolyte putRegions
+  electrolyte-read-back h =
+      let l2 : length e2 ≡ length s = v2 .size ∙ v1 .size in
+      let l3 : length e3 ≡ length s = v3 .size ∙ l2 in
+      let l4 : length e4 ≡ length s = v4 .size ∙ l3 in
+      let l5 : length e5 ≡ length s = v5 .size ∙ l4 in
+      let salt : saltAt e6 ≡ e .params = salt-same e2 e6 (same-below (lit≤ tt) v36) ∙ salt-same e1 e2 (same-below (lit≤ tt) v2) ∙ salt-read-back s (e .params) (omega (arith, h)) (k .salt) in
+      let at : (i j : ℕ) → i < 6 → j ≡ 7 + i → floatAt e6 j ≡ getD (regionNumbers e) i nan =
+      λ i j l m. same-float (same-below {a = 0} {b = 13} (lit≤ tt) v36) j (omega arith) (omega (arith, l, m)) ∙ place-read-back e1 7 (regionNumbers e) (rw (v1 .size) (omega (arith, h))) (k .regions) i j l m in
+      let neg : wordAt e6 13 ≡ e .«n_neg» =
+      v6 .outside 13 (inl (lit≤ tt)) ∙ v5 .outside 13 (inl (lit≤ tt)) ∙ v4 .outside 13 (inl (lit≤ tt)) ∙ word-read-back e2 13 (e .«n_neg») (rw l2 (omega (arith, h))) (k .neg) in
+      let sep : wordAt e6 14 ≡ e .«n_sep» = v6 .outside 14 (inl (lit≤ tt)) ∙ v5 .outside 14 (inl (lit≤ tt)) ∙ word-read-back e3 14 (e .«n_sep») (rw l3 (omega (arith, h))) (k .sep) in
+      let pos : wordAt e6 15 ≡ e .«n_pos» = v6 .outside 15 (inl (lit≤ tt)) ∙ word-read-back e4 15 (e .«n_pos») (rw l4 (omega (arith, h))) (k .pos) in
+      rw (
+        salt,
+        at 0 7 (lit≤ tt) refl,
+        at 1 8 (lit≤ tt) refl,
+        at 2 9 (lit≤ tt) refl,
+        at 3 10 (lit≤ tt) refl,
+        at 4 11 (lit≤ tt) refl,
+        at 5 12 (lit≤ tt) refl,
+        neg,
+        sep,
+        pos,
+        row-read-back 96 e5 16 (e .«c_e») (k .long) (rw l5 (omega (arith, h))) (k .places),
+      )

@@ -1,0 +1,659 @@
+/* Holds persimmonjib.h to the archive. At compile time: every size, and every field's offset against a struct of the same fields.
+ * At run time: every prototype and every call number, what a built record holds at each offset, every refusal by the input that
+ * docs/REFERENCE.md names, and every ending. It is compiled as C99 and as C++11, and prints one line. */
+#include "persimmonjib.h"
+
+#include <stdio.h>
+
+#define JOINED(a, b) a##b
+#define NAMED(line) JOINED(assert_at_line_, line)
+#define ASSERT(claim) typedef char NAMED(__LINE__)[(claim) ? 1 : -1]
+#define OFFSET(record, field, at) ASSERT(offsetof(struct record, field) == (at))
+#define SIZE(record, bytes) ASSERT(sizeof(struct record) == (bytes))
+
+/* ---- records, as structs of eight-byte fields ---- */
+struct sheet {
+    uint64_t chemistry;
+    double r_particle, d_s_ref, c_s_max, theta_init, thickness, epsilon_s, area, e_a_ds, k_bv;
+};
+struct particle {
+    struct sheet sheet;
+    uint64_t n_nodes;
+    double c_s[PJ_PARTICLE_PLACES];
+};
+struct config {
+    uint64_t n_nodes;
+    double v_min, v_max, faraday, r_gas, r_electrolyte_ohm_m2;
+};
+struct cell {
+    struct config config;
+    struct particle anode, cathode;
+    double time_s;
+};
+struct report {
+    double voltage, current, theta_neg, theta_pos, theta_neg_avg, theta_pos_avg, time_s;
+    uint64_t cutoff, sub_steps;
+};
+struct salt {
+    double d_e_ref, kappa_ref, t_plus, bruggeman, c_e_init, e_a_de, e_a_kappa;
+};
+struct regions {
+    struct salt salt;
+    double l_neg, l_sep, l_pos, eps_neg, eps_sep, eps_pos;
+    uint64_t n_neg, n_sep, n_pos;
+};
+struct electrolyte {
+    struct regions regions;
+    double c_e[PJ_ELECTROLYTE_PLACES];
+};
+struct dfn_params {
+    double l_neg, l_sep, l_pos, area;
+    double r_neg, d_s_neg_ref, c_s_neg_max, eps_neg, theta_neg_0, k_neg;
+    double r_pos, d_s_pos_ref, c_s_pos_max, eps_pos, theta_pos_0, k_pos;
+    double c_e0, d_e0, gamma_e, t_plus, kappa0, eps_e_elec, eps_e_sep, brugg, temperature_k;
+    uint64_t ocv_neg_count;
+    double ocv_neg_coeffs[PJ_COEFFICIENT_PLACES];
+    uint64_t ocv_pos_count;
+    double ocv_pos_coeffs[PJ_COEFFICIENT_PLACES];
+};
+struct dfn_config {
+    uint64_t n_x_neg, n_x_pos, n_r;
+    double v_min, v_max;
+};
+struct dfn_cell {
+    struct dfn_params params;
+    struct dfn_config config;
+    double c_s_neg[PJ_DFN_SOLID_PLACES], c_s_pos[PJ_DFN_SOLID_PLACES], c_e[PJ_DFN_ELECTROLYTE_PLACES];
+    double time_s, voltage, current, theta_neg_surf, theta_pos_surf;
+};
+struct dfn_report {
+    double voltage, current, time_s, theta_neg, theta_pos, delta_c_e_max;
+    uint64_t cutoff, newton_iter;
+};
+struct solution {
+    double x[PJ_SOLUTION_PLACES];
+};
+struct ending {
+    uint64_t how, rows;
+};
+struct new_particle {
+    struct sheet sheet;
+    uint64_t n_nodes;
+};
+struct new_cell {
+    struct config config;
+    struct sheet anode, cathode;
+};
+struct new_dfn {
+    struct dfn_params params;
+    struct dfn_config config;
+};
+struct cell_step {
+    struct cell cell;
+    struct report report;
+};
+struct cell_run {
+    struct cell cell;
+    struct ending ending;
+};
+struct dfn_step {
+    struct dfn_cell cell;
+    struct dfn_report report;
+};
+struct dfn_run {
+    struct dfn_cell cell;
+    struct ending ending;
+};
+
+SIZE(sheet, PJ_SHEET_BYTES);
+SIZE(particle, PJ_PARTICLE_BYTES);
+SIZE(config, PJ_CONFIG_BYTES);
+SIZE(cell, PJ_CELL_BYTES);
+SIZE(report, PJ_REPORT_BYTES);
+SIZE(salt, PJ_SALT_BYTES);
+SIZE(regions, PJ_REGIONS_BYTES);
+SIZE(electrolyte, PJ_ELECTROLYTE_BYTES);
+SIZE(dfn_params, PJ_DFN_PARAMS_BYTES);
+SIZE(dfn_config, PJ_DFN_CONFIG_BYTES);
+SIZE(dfn_cell, PJ_DFN_CELL_BYTES);
+SIZE(dfn_report, PJ_DFN_REPORT_BYTES);
+SIZE(solution, PJ_SOLUTION_BYTES);
+SIZE(ending, PJ_ENDING_BYTES);
+SIZE(new_particle, PJ_NEW_PARTICLE_BYTES);
+SIZE(new_cell, PJ_NEW_CELL_BYTES);
+SIZE(new_dfn, PJ_NEW_DFN_BYTES);
+SIZE(cell_step, PJ_CELL_STEP_BYTES);
+SIZE(cell_run, PJ_CELL_RUN_BYTES);
+SIZE(dfn_step, PJ_DFN_STEP_BYTES);
+SIZE(dfn_run, PJ_DFN_RUN_BYTES);
+ASSERT(sizeof(double) == PJ_NUMBER_BYTES);
+
+OFFSET(sheet, chemistry, PJ_AT_SHEET_CHEMISTRY);
+OFFSET(sheet, r_particle, PJ_AT_SHEET_R_PARTICLE);
+OFFSET(sheet, d_s_ref, PJ_AT_SHEET_D_S_REF);
+OFFSET(sheet, c_s_max, PJ_AT_SHEET_C_S_MAX);
+OFFSET(sheet, theta_init, PJ_AT_SHEET_THETA_INIT);
+OFFSET(sheet, thickness, PJ_AT_SHEET_THICKNESS);
+OFFSET(sheet, epsilon_s, PJ_AT_SHEET_EPSILON_S);
+OFFSET(sheet, area, PJ_AT_SHEET_AREA);
+OFFSET(sheet, e_a_ds, PJ_AT_SHEET_E_A_DS);
+OFFSET(sheet, k_bv, PJ_AT_SHEET_K_BV);
+OFFSET(particle, sheet, PJ_AT_PARTICLE_SHEET);
+OFFSET(particle, n_nodes, PJ_AT_PARTICLE_N_NODES);
+OFFSET(particle, c_s, PJ_AT_PARTICLE_C_S);
+OFFSET(config, n_nodes, PJ_AT_CONFIG_N_NODES);
+OFFSET(config, v_min, PJ_AT_CONFIG_V_MIN);
+OFFSET(config, v_max, PJ_AT_CONFIG_V_MAX);
+OFFSET(config, faraday, PJ_AT_CONFIG_FARADAY);
+OFFSET(config, r_gas, PJ_AT_CONFIG_R_GAS);
+OFFSET(config, r_electrolyte_ohm_m2, PJ_AT_CONFIG_R_ELECTROLYTE_OHM_M2);
+OFFSET(cell, config, PJ_AT_CELL_CONFIG);
+OFFSET(cell, anode, PJ_AT_CELL_ANODE);
+OFFSET(cell, cathode, PJ_AT_CELL_CATHODE);
+OFFSET(cell, time_s, PJ_AT_CELL_TIME_S);
+OFFSET(cell_step, report, PJ_AT_CELL_REPORT);
+OFFSET(cell_run, ending, PJ_AT_CELL_ENDING);
+OFFSET(report, voltage, PJ_AT_REPORT_VOLTAGE);
+OFFSET(report, current, PJ_AT_REPORT_CURRENT);
+OFFSET(report, theta_neg, PJ_AT_REPORT_THETA_NEG);
+OFFSET(report, theta_pos, PJ_AT_REPORT_THETA_POS);
+OFFSET(report, theta_neg_avg, PJ_AT_REPORT_THETA_NEG_AVG);
+OFFSET(report, theta_pos_avg, PJ_AT_REPORT_THETA_POS_AVG);
+OFFSET(report, time_s, PJ_AT_REPORT_TIME_S);
+OFFSET(report, cutoff, PJ_AT_REPORT_CUTOFF);
+OFFSET(report, sub_steps, PJ_AT_REPORT_SUB_STEPS);
+OFFSET(salt, d_e_ref, PJ_AT_SALT_D_E_REF);
+OFFSET(salt, kappa_ref, PJ_AT_SALT_KAPPA_REF);
+OFFSET(salt, t_plus, PJ_AT_SALT_T_PLUS);
+OFFSET(salt, bruggeman, PJ_AT_SALT_BRUGGEMAN);
+OFFSET(salt, c_e_init, PJ_AT_SALT_C_E_INIT);
+OFFSET(salt, e_a_de, PJ_AT_SALT_E_A_DE);
+OFFSET(salt, e_a_kappa, PJ_AT_SALT_E_A_KAPPA);
+OFFSET(regions, salt, PJ_AT_REGIONS_SALT);
+OFFSET(regions, l_neg, PJ_AT_REGIONS_L_NEG);
+OFFSET(regions, l_sep, PJ_AT_REGIONS_L_SEP);
+OFFSET(regions, l_pos, PJ_AT_REGIONS_L_POS);
+OFFSET(regions, eps_neg, PJ_AT_REGIONS_EPS_NEG);
+OFFSET(regions, eps_sep, PJ_AT_REGIONS_EPS_SEP);
+OFFSET(regions, eps_pos, PJ_AT_REGIONS_EPS_POS);
+OFFSET(regions, n_neg, PJ_AT_REGIONS_N_NEG);
+OFFSET(regions, n_sep, PJ_AT_REGIONS_N_SEP);
+OFFSET(regions, n_pos, PJ_AT_REGIONS_N_POS);
+OFFSET(electrolyte, regions, PJ_AT_ELECTROLYTE_REGIONS);
+OFFSET(electrolyte, c_e, PJ_AT_ELECTROLYTE_C_E);
+OFFSET(dfn_params, l_neg, PJ_AT_DFN_PARAMS_L_NEG);
+OFFSET(dfn_params, l_sep, PJ_AT_DFN_PARAMS_L_SEP);
+OFFSET(dfn_params, l_pos, PJ_AT_DFN_PARAMS_L_POS);
+OFFSET(dfn_params, area, PJ_AT_DFN_PARAMS_AREA);
+OFFSET(dfn_params, r_neg, PJ_AT_DFN_PARAMS_R_NEG);
+OFFSET(dfn_params, d_s_neg_ref, PJ_AT_DFN_PARAMS_D_S_NEG_REF);
+OFFSET(dfn_params, c_s_neg_max, PJ_AT_DFN_PARAMS_C_S_NEG_MAX);
+OFFSET(dfn_params, eps_neg, PJ_AT_DFN_PARAMS_EPS_NEG);
+OFFSET(dfn_params, theta_neg_0, PJ_AT_DFN_PARAMS_THETA_NEG_0);
+OFFSET(dfn_params, k_neg, PJ_AT_DFN_PARAMS_K_NEG);
+OFFSET(dfn_params, r_pos, PJ_AT_DFN_PARAMS_R_POS);
+OFFSET(dfn_params, d_s_pos_ref, PJ_AT_DFN_PARAMS_D_S_POS_REF);
+OFFSET(dfn_params, c_s_pos_max, PJ_AT_DFN_PARAMS_C_S_POS_MAX);
+OFFSET(dfn_params, eps_pos, PJ_AT_DFN_PARAMS_EPS_POS);
+OFFSET(dfn_params, theta_pos_0, PJ_AT_DFN_PARAMS_THETA_POS_0);
+OFFSET(dfn_params, k_pos, PJ_AT_DFN_PARAMS_K_POS);
+OFFSET(dfn_params, c_e0, PJ_AT_DFN_PARAMS_C_E0);
+OFFSET(dfn_params, d_e0, PJ_AT_DFN_PARAMS_D_E0);
+OFFSET(dfn_params, gamma_e, PJ_AT_DFN_PARAMS_GAMMA_E);
+OFFSET(dfn_params, t_plus, PJ_AT_DFN_PARAMS_T_PLUS);
+OFFSET(dfn_params, kappa0, PJ_AT_DFN_PARAMS_KAPPA0);
+OFFSET(dfn_params, eps_e_elec, PJ_AT_DFN_PARAMS_EPS_E_ELEC);
+OFFSET(dfn_params, eps_e_sep, PJ_AT_DFN_PARAMS_EPS_E_SEP);
+OFFSET(dfn_params, brugg, PJ_AT_DFN_PARAMS_BRUGG);
+OFFSET(dfn_params, temperature_k, PJ_AT_DFN_PARAMS_TEMPERATURE_K);
+OFFSET(dfn_params, ocv_neg_count, PJ_AT_DFN_PARAMS_OCV_NEG_COUNT);
+OFFSET(dfn_params, ocv_neg_coeffs, PJ_AT_DFN_PARAMS_OCV_NEG_COEFFS);
+OFFSET(dfn_params, ocv_pos_count, PJ_AT_DFN_PARAMS_OCV_POS_COUNT);
+OFFSET(dfn_params, ocv_pos_coeffs, PJ_AT_DFN_PARAMS_OCV_POS_COEFFS);
+OFFSET(dfn_config, n_x_neg, PJ_AT_DFN_CONFIG_N_X_NEG);
+OFFSET(dfn_config, n_x_pos, PJ_AT_DFN_CONFIG_N_X_POS);
+OFFSET(dfn_config, n_r, PJ_AT_DFN_CONFIG_N_R);
+OFFSET(dfn_config, v_min, PJ_AT_DFN_CONFIG_V_MIN);
+OFFSET(dfn_config, v_max, PJ_AT_DFN_CONFIG_V_MAX);
+OFFSET(dfn_cell, params, PJ_AT_DFN_CELL_PARAMS);
+OFFSET(dfn_cell, config, PJ_AT_DFN_CELL_CONFIG);
+OFFSET(dfn_cell, c_s_neg, PJ_AT_DFN_CELL_C_S_NEG);
+OFFSET(dfn_cell, c_s_pos, PJ_AT_DFN_CELL_C_S_POS);
+OFFSET(dfn_cell, c_e, PJ_AT_DFN_CELL_C_E);
+OFFSET(dfn_cell, time_s, PJ_AT_DFN_CELL_TIME_S);
+OFFSET(dfn_cell, voltage, PJ_AT_DFN_CELL_VOLTAGE);
+OFFSET(dfn_cell, current, PJ_AT_DFN_CELL_CURRENT);
+OFFSET(dfn_cell, theta_neg_surf, PJ_AT_DFN_CELL_THETA_NEG_SURF);
+OFFSET(dfn_cell, theta_pos_surf, PJ_AT_DFN_CELL_THETA_POS_SURF);
+OFFSET(dfn_step, report, PJ_AT_DFN_CELL_REPORT);
+OFFSET(dfn_run, ending, PJ_AT_DFN_CELL_ENDING);
+OFFSET(dfn_report, voltage, PJ_AT_DFN_REPORT_VOLTAGE);
+OFFSET(dfn_report, current, PJ_AT_DFN_REPORT_CURRENT);
+OFFSET(dfn_report, time_s, PJ_AT_DFN_REPORT_TIME_S);
+OFFSET(dfn_report, theta_neg, PJ_AT_DFN_REPORT_THETA_NEG);
+OFFSET(dfn_report, theta_pos, PJ_AT_DFN_REPORT_THETA_POS);
+OFFSET(dfn_report, delta_c_e_max, PJ_AT_DFN_REPORT_DELTA_C_E_MAX);
+OFFSET(dfn_report, cutoff, PJ_AT_DFN_REPORT_CUTOFF);
+OFFSET(dfn_report, newton_iter, PJ_AT_DFN_REPORT_NEWTON_ITER);
+OFFSET(ending, how, PJ_AT_ENDING_HOW);
+OFFSET(ending, rows, PJ_AT_ENDING_ROWS);
+OFFSET(new_particle, sheet, PJ_AT_NEW_PARTICLE_SHEET);
+OFFSET(new_particle, n_nodes, PJ_AT_NEW_PARTICLE_N_NODES);
+OFFSET(new_cell, config, PJ_AT_NEW_CELL_CONFIG);
+OFFSET(new_cell, anode, PJ_AT_NEW_CELL_ANODE);
+OFFSET(new_cell, cathode, PJ_AT_NEW_CELL_CATHODE);
+OFFSET(new_dfn, params, PJ_AT_NEW_DFN_PARAMS);
+OFFSET(new_dfn, config, PJ_AT_NEW_DFN_CONFIG);
+
+/* ---- what is expected at run time ---- */
+static int failures, checks;
+
+static void expect(int line, int holds, const char *claim)
+{
+    checks++;
+    if (!holds) {
+        failures++;
+        fprintf(stderr, "calls.c:%d: %s\n", line, claim);
+    }
+}
+
+#define EXPECT(claim) expect(__LINE__, (claim), #claim)
+#define EXPECT_F64(image, at, number) EXPECT(pj_get_f64(image, at) == (number))
+#define EXPECT_U64(image, at, whole) EXPECT(pj_get_u64(image, at) == (whole))
+
+static const double T = 298.15;
+static const uint8_t empty[1] = {0};
+
+static uint8_t graphite[PJ_SHEET_BYTES], lfp[PJ_SHEET_BYTES], nmc[PJ_SHEET_BYTES], salt[PJ_SALT_BYTES];
+static uint8_t new_particle[PJ_NEW_PARTICLE_BYTES], particle[PJ_PARTICLE_BYTES], config[PJ_CONFIG_BYTES];
+static uint8_t new_cell[PJ_NEW_CELL_BYTES], cell_lfp[PJ_CELL_BYTES], cell_nmc[PJ_CELL_BYTES], cell_of[PJ_CELL_BYTES];
+static uint8_t regions[PJ_REGIONS_BYTES], electrolyte[PJ_ELECTROLYTE_BYTES];
+static uint8_t params_nmc[PJ_DFN_PARAMS_BYTES], params_lfp[PJ_DFN_PARAMS_BYTES];
+static uint8_t new_dfn[PJ_NEW_DFN_BYTES], dfn[PJ_DFN_CELL_BYTES];
+
+/* A number of a record; a refusal is a failure. */
+static double number(int line, pj_number_call_t call, const uint8_t *image, size_t bytes, double x, double y)
+{
+    uint8_t answer[PJ_NUMBER_BYTES] = {0};
+    expect(line, pj_number(call, image, bytes, x, y, answer, sizeof answer) == PJ_REFUSAL_NONE, "pj_number is not refused");
+    return pj_get_f64(answer, 0);
+}
+
+#define NUMBER(call, image, bytes, x, y) number(__LINE__, call, image, bytes, x, y)
+
+static uint64_t build(pj_build_call_t call, const uint8_t *image, size_t bytes, uint8_t *answer, size_t answer_bytes)
+{
+    return pj_build(call, image, bytes, answer, answer_bytes);
+}
+
+static int near(double x, double y)
+{
+    double gap = x < y ? y - x : x - y;
+    return gap <= 1e-9 * (y < 0 ? -y : y);
+}
+
+static void ready_sheets(void)
+{
+    static const double numbers_lfp[9] = {2.5e-6, 1e-14, 22806.0, 0.20, 80e-6, 0.50, 0.0626, 20000.0, 2e-11};
+    static const double numbers_nmc[9] = {5e-6, 1.5e-14, 49000.0, 0.15, 90e-6, 0.55, 0.0626, 25000.0, 2e-11};
+    size_t i;
+    EXPECT(build(PJ_BUILD_GRAPHITE_ANODE, empty, 0, graphite, sizeof graphite) == PJ_REFUSAL_NONE);
+    EXPECT(build(PJ_BUILD_LFP_CATHODE, empty, 0, lfp, sizeof lfp) == PJ_REFUSAL_NONE);
+    EXPECT(build(PJ_BUILD_NMC_CATHODE, empty, 0, nmc, sizeof nmc) == PJ_REFUSAL_NONE);
+    EXPECT_U64(graphite, PJ_AT_SHEET_CHEMISTRY, PJ_CHEMISTRY_GRAPHITE);
+    EXPECT_U64(lfp, PJ_AT_SHEET_CHEMISTRY, PJ_CHEMISTRY_LFP);
+    EXPECT_U64(nmc, PJ_AT_SHEET_CHEMISTRY, PJ_CHEMISTRY_NMC);
+    EXPECT_F64(graphite, PJ_AT_SHEET_R_PARTICLE, 12.5e-6);
+    EXPECT_F64(graphite, PJ_AT_SHEET_D_S_REF, 3.9e-14);
+    EXPECT_F64(graphite, PJ_AT_SHEET_C_S_MAX, 31833.0);
+    EXPECT_F64(graphite, PJ_AT_SHEET_THETA_INIT, 0.80);
+    EXPECT_F64(graphite, PJ_AT_SHEET_THICKNESS, 100e-6);
+    EXPECT_F64(graphite, PJ_AT_SHEET_EPSILON_S, 0.60);
+    EXPECT_F64(graphite, PJ_AT_SHEET_AREA, 0.0626);
+    EXPECT_F64(graphite, PJ_AT_SHEET_E_A_DS, 35000.0);
+    EXPECT_F64(graphite, PJ_AT_SHEET_K_BV, 2e-11);
+    for (i = 0; i < 9; i++) {
+        EXPECT_F64(lfp, PJ_AT_SHEET_R_PARTICLE + 8 * i, numbers_lfp[i]);
+        EXPECT_F64(nmc, PJ_AT_SHEET_R_PARTICLE + 8 * i, numbers_nmc[i]);
+    }
+}
+
+static void ready_salt(void)
+{
+    EXPECT(build(PJ_BUILD_LIPF6_EC_DMC, empty, 0, salt, sizeof salt) == PJ_REFUSAL_NONE);
+    EXPECT_F64(salt, PJ_AT_SALT_D_E_REF, 7.5e-11);
+    EXPECT_F64(salt, PJ_AT_SALT_KAPPA_REF, 1.1);
+    EXPECT_F64(salt, PJ_AT_SALT_T_PLUS, 0.364);
+    EXPECT_F64(salt, PJ_AT_SALT_BRUGGEMAN, 1.5);
+    EXPECT_F64(salt, PJ_AT_SALT_C_E_INIT, 1000.0);
+    EXPECT_F64(salt, PJ_AT_SALT_E_A_DE, 17000.0);
+    EXPECT_F64(salt, PJ_AT_SALT_E_A_KAPPA, 12000.0);
+}
+
+static void ready_dfn_params(void)
+{
+    EXPECT(build(PJ_BUILD_NMC_GRAPHITE, empty, 0, params_nmc, sizeof params_nmc) == PJ_REFUSAL_NONE);
+    EXPECT(build(PJ_BUILD_LFP_GRAPHITE, empty, 0, params_lfp, sizeof params_lfp) == PJ_REFUSAL_NONE);
+    EXPECT_F64(params_nmc, PJ_AT_DFN_PARAMS_L_NEG, 88e-6);
+    EXPECT_F64(params_nmc, PJ_AT_DFN_PARAMS_L_SEP, 25e-6);
+    EXPECT_F64(params_nmc, PJ_AT_DFN_PARAMS_L_POS, 80e-6);
+    EXPECT_F64(params_nmc, PJ_AT_DFN_PARAMS_AREA, 1.0);
+    EXPECT_F64(params_nmc, PJ_AT_DFN_PARAMS_R_NEG, 12.5e-6);
+    EXPECT_F64(params_nmc, PJ_AT_DFN_PARAMS_D_S_NEG_REF, 3.9e-14);
+    EXPECT_F64(params_nmc, PJ_AT_DFN_PARAMS_C_S_NEG_MAX, 31833.0);
+    EXPECT_F64(params_nmc, PJ_AT_DFN_PARAMS_EPS_NEG, 0.3);
+    EXPECT_F64(params_nmc, PJ_AT_DFN_PARAMS_THETA_NEG_0, 0.8);
+    EXPECT_F64(params_nmc, PJ_AT_DFN_PARAMS_K_NEG, 1e-5);
+    EXPECT_F64(params_nmc, PJ_AT_DFN_PARAMS_R_POS, 8.5e-6);
+    EXPECT_F64(params_nmc, PJ_AT_DFN_PARAMS_D_S_POS_REF, 1e-14);
+    EXPECT_F64(params_nmc, PJ_AT_DFN_PARAMS_C_S_POS_MAX, 51218.0);
+    EXPECT_F64(params_nmc, PJ_AT_DFN_PARAMS_EPS_POS, 0.3);
+    EXPECT_F64(params_nmc, PJ_AT_DFN_PARAMS_THETA_POS_0, 0.5);
+    EXPECT_F64(params_nmc, PJ_AT_DFN_PARAMS_K_POS, 3e-6);
+    EXPECT_F64(params_nmc, PJ_AT_DFN_PARAMS_C_E0, 1200.0);
+    EXPECT_F64(params_nmc, PJ_AT_DFN_PARAMS_D_E0, 2.6e-10);
+    EXPECT_F64(params_nmc, PJ_AT_DFN_PARAMS_GAMMA_E, 0.5);
+    EXPECT_F64(params_nmc, PJ_AT_DFN_PARAMS_T_PLUS, 0.38);
+    EXPECT_F64(params_nmc, PJ_AT_DFN_PARAMS_KAPPA0, 1.0);
+    EXPECT_F64(params_nmc, PJ_AT_DFN_PARAMS_EPS_E_ELEC, 0.3);
+    EXPECT_F64(params_nmc, PJ_AT_DFN_PARAMS_EPS_E_SEP, 0.4);
+    EXPECT_F64(params_nmc, PJ_AT_DFN_PARAMS_BRUGG, 1.5);
+    EXPECT_F64(params_nmc, PJ_AT_DFN_PARAMS_TEMPERATURE_K, 298.15);
+    EXPECT_U64(params_nmc, PJ_AT_DFN_PARAMS_OCV_NEG_COUNT, 2);
+    EXPECT_F64(params_nmc, PJ_AT_DFN_PARAMS_OCV_NEG_COEFFS, -1.5);
+    EXPECT_F64(params_nmc, PJ_AT_DFN_PARAMS_OCV_NEG_COEFFS + 8, 1.2);
+    EXPECT_U64(params_nmc, PJ_AT_DFN_PARAMS_OCV_POS_COUNT, 2);
+    EXPECT_F64(params_nmc, PJ_AT_DFN_PARAMS_OCV_POS_COEFFS, -2.0);
+    EXPECT_F64(params_nmc, PJ_AT_DFN_PARAMS_OCV_POS_COEFFS + 8, 4.5);
+    EXPECT_F64(params_lfp, PJ_AT_DFN_PARAMS_D_S_NEG_REF, 2e-14);
+    EXPECT_F64(params_lfp, PJ_AT_DFN_PARAMS_D_S_POS_REF, 5.9e-18);
+    EXPECT_F64(params_lfp, PJ_AT_DFN_PARAMS_C_S_POS_MAX, 26390.0);
+    EXPECT_F64(params_lfp, PJ_AT_DFN_PARAMS_K_POS, 1e-6);
+    EXPECT_F64(params_lfp, PJ_AT_DFN_PARAMS_OCV_POS_COEFFS, -0.1);
+    EXPECT_F64(params_lfp, PJ_AT_DFN_PARAMS_OCV_POS_COEFFS + 8, 3.45);
+}
+
+static void new_particles(void)
+{
+    memcpy(new_particle + PJ_AT_NEW_PARTICLE_SHEET, graphite, sizeof graphite);
+    pj_put_u64(new_particle, PJ_AT_NEW_PARTICLE_N_NODES, 5);
+    EXPECT(build(PJ_BUILD_PARTICLE, new_particle, sizeof new_particle, particle, sizeof particle) == PJ_REFUSAL_NONE);
+    EXPECT(memcmp(particle + PJ_AT_PARTICLE_SHEET, graphite, sizeof graphite) == 0);
+    EXPECT_U64(particle, PJ_AT_PARTICLE_N_NODES, 5);
+    EXPECT_F64(particle, PJ_AT_PARTICLE_C_S + 8 * 4, 0.80 * 31833.0);
+    EXPECT_U64(particle, PJ_AT_PARTICLE_C_S + 8 * 5, 0);
+}
+
+static void new_cells(void)
+{
+    pj_put_u64(config, PJ_AT_CONFIG_N_NODES, 11);
+    pj_put_f64(config, PJ_AT_CONFIG_V_MIN, 3.0);
+    pj_put_f64(config, PJ_AT_CONFIG_V_MAX, 4.2);
+    pj_put_f64(config, PJ_AT_CONFIG_FARADAY, 96485.0);
+    pj_put_f64(config, PJ_AT_CONFIG_R_GAS, 8.314);
+    pj_put_f64(config, PJ_AT_CONFIG_R_ELECTROLYTE_OHM_M2, 2e-4);
+    EXPECT(build(PJ_BUILD_CELL_LFP, config, sizeof config, cell_lfp, sizeof cell_lfp) == PJ_REFUSAL_NONE);
+    EXPECT(build(PJ_BUILD_CELL_NMC, config, sizeof config, cell_nmc, sizeof cell_nmc) == PJ_REFUSAL_NONE);
+    EXPECT(memcmp(cell_nmc + PJ_AT_CELL_CONFIG, config, sizeof config) == 0);
+    EXPECT(memcmp(cell_nmc + PJ_AT_CELL_ANODE, graphite, sizeof graphite) == 0);
+    EXPECT(memcmp(cell_nmc + PJ_AT_CELL_CATHODE, nmc, sizeof nmc) == 0);
+    EXPECT_F64(cell_nmc, PJ_AT_CELL_TIME_S, 0.0);
+    memcpy(new_cell + PJ_AT_NEW_CELL_CONFIG, config, sizeof config);
+    memcpy(new_cell + PJ_AT_NEW_CELL_ANODE, graphite, sizeof graphite);
+    memcpy(new_cell + PJ_AT_NEW_CELL_CATHODE, lfp, sizeof lfp);
+    EXPECT(build(PJ_BUILD_CELL, new_cell, sizeof new_cell, cell_of, sizeof cell_of) == PJ_REFUSAL_NONE);
+    EXPECT(memcmp(cell_of, cell_lfp, sizeof cell_of) == 0);
+}
+
+static void new_electrolytes(void)
+{
+    memcpy(regions + PJ_AT_REGIONS_SALT, salt, sizeof salt);
+    pj_put_f64(regions, PJ_AT_REGIONS_L_NEG, 1e-4);
+    pj_put_f64(regions, PJ_AT_REGIONS_L_SEP, 2.5e-5);
+    pj_put_f64(regions, PJ_AT_REGIONS_L_POS, 8e-5);
+    pj_put_f64(regions, PJ_AT_REGIONS_EPS_NEG, 0.3);
+    pj_put_f64(regions, PJ_AT_REGIONS_EPS_SEP, 0.4);
+    pj_put_f64(regions, PJ_AT_REGIONS_EPS_POS, 0.35);
+    pj_put_u64(regions, PJ_AT_REGIONS_N_NEG, 1);
+    pj_put_u64(regions, PJ_AT_REGIONS_N_SEP, 1);
+    pj_put_u64(regions, PJ_AT_REGIONS_N_POS, 1);
+    EXPECT(build(PJ_BUILD_ELECTROLYTE, regions, sizeof regions, electrolyte, sizeof electrolyte) == PJ_REFUSAL_NONE);
+    EXPECT(memcmp(electrolyte + PJ_AT_ELECTROLYTE_REGIONS, regions, sizeof regions) == 0);
+    EXPECT_F64(electrolyte, PJ_AT_ELECTROLYTE_C_E + 8 * 2, 1000.0);
+    EXPECT_U64(electrolyte, PJ_AT_ELECTROLYTE_C_E + 8 * 3, 0);
+}
+
+static void new_dfn_cells(void)
+{
+    memcpy(new_dfn + PJ_AT_NEW_DFN_PARAMS, params_nmc, sizeof params_nmc);
+    pj_put_u64(new_dfn, PJ_AT_NEW_DFN_CONFIG + PJ_AT_DFN_CONFIG_N_X_NEG, 3);
+    pj_put_u64(new_dfn, PJ_AT_NEW_DFN_CONFIG + PJ_AT_DFN_CONFIG_N_X_POS, 1);
+    pj_put_u64(new_dfn, PJ_AT_NEW_DFN_CONFIG + PJ_AT_DFN_CONFIG_N_R, 6);
+    pj_put_f64(new_dfn, PJ_AT_NEW_DFN_CONFIG + PJ_AT_DFN_CONFIG_V_MIN, 2.5);
+    pj_put_f64(new_dfn, PJ_AT_NEW_DFN_CONFIG + PJ_AT_DFN_CONFIG_V_MAX, 4.3);
+    EXPECT(build(PJ_BUILD_DFN, new_dfn, sizeof new_dfn, dfn, sizeof dfn) == PJ_REFUSAL_NONE);
+    EXPECT(memcmp(dfn + PJ_AT_DFN_CELL_PARAMS, new_dfn, PJ_AT_DFN_CELL_C_S_NEG) == 0);
+    EXPECT_F64(dfn, PJ_AT_DFN_CELL_C_S_NEG + 8 * 17, 0.8 * 31833.0);
+    EXPECT_U64(dfn, PJ_AT_DFN_CELL_C_S_NEG + 8 * 18, 0);
+    EXPECT_F64(dfn, PJ_AT_DFN_CELL_C_S_POS + 8 * 5, 0.5 * 51218.0);
+    EXPECT_U64(dfn, PJ_AT_DFN_CELL_C_S_POS + 8 * 6, 0);
+    EXPECT_F64(dfn, PJ_AT_DFN_CELL_C_E + 8 * 4, 1200.0);
+    EXPECT_U64(dfn, PJ_AT_DFN_CELL_C_E + 8 * 5, 0);
+    EXPECT_F64(dfn, PJ_AT_DFN_CELL_TIME_S, 0.0);
+    EXPECT_F64(dfn, PJ_AT_DFN_CELL_VOLTAGE, 3.8);
+    EXPECT_F64(dfn, PJ_AT_DFN_CELL_CURRENT, 0.0);
+    EXPECT_F64(dfn, PJ_AT_DFN_CELL_THETA_NEG_SURF, 0.8);
+    EXPECT_F64(dfn, PJ_AT_DFN_CELL_THETA_POS_SURF, 0.5);
+}
+
+static void numbers(void)
+{
+    const double u_graphite = NUMBER(PJ_NUMBER_OCP, graphite, sizeof graphite, 0.80, 0), u_nmc = NUMBER(PJ_NUMBER_OCP, nmc, sizeof nmc, 0.15, 0);
+    EXPECT(NUMBER(PJ_NUMBER_D_S, graphite, sizeof graphite, T, 0) == 3.9e-14);
+    EXPECT(near(NUMBER(PJ_NUMBER_SPECIFIC_AREA, graphite, sizeof graphite, 0, 0), 144000.0));
+    EXPECT(near(u_nmc, 4.2 - 1.5 * 0.15 + 1.2 * 0.0225 - 0.6 * 0.003375 + 0.08));
+    EXPECT(NUMBER(PJ_NUMBER_DOCP_DTHETA, nmc, sizeof nmc, 0.5, 0) < -0.5);
+    EXPECT(near(NUMBER(PJ_NUMBER_SPHERE_VOLUME, empty, 0, 1e-5, 0), 4.18879020478639e-15));
+    EXPECT(near(NUMBER(PJ_NUMBER_DT_STABLE, particle, sizeof particle, T, 0), 0.5 * 3.125e-6 * 3.125e-6 / 3.9e-14));
+    EXPECT(near(NUMBER(PJ_NUMBER_THETA_SURFACE, particle, sizeof particle, 0, 0), 0.80));
+    EXPECT(near(NUMBER(PJ_NUMBER_THETA_AVG, particle, sizeof particle, 0, 0), 0.80));
+    EXPECT(near(NUMBER(PJ_NUMBER_C_AVG, particle, sizeof particle, 0, 0), 0.80 * 31833.0));
+    EXPECT(near(NUMBER(PJ_NUMBER_OCP_SURFACE, particle, sizeof particle, 0, 0), u_graphite));
+    EXPECT(near(NUMBER(PJ_NUMBER_OCV, cell_nmc, sizeof cell_nmc, 0, 0), u_nmc - u_graphite));
+    EXPECT(near(NUMBER(PJ_NUMBER_SOC_ESTIMATE, cell_nmc, sizeof cell_nmc, 0, 0), 1.0));
+    EXPECT(NUMBER(PJ_NUMBER_D_E, salt, sizeof salt, 0, T) == 7.5e-11);
+    EXPECT(NUMBER(PJ_NUMBER_KAPPA, salt, sizeof salt, 0, T) == 1.1);
+    EXPECT(near(NUMBER(PJ_NUMBER_D_E_EFF, salt, sizeof salt, 0.25, T), 7.5e-11 * 0.125));
+    EXPECT(near(NUMBER(PJ_NUMBER_KAPPA_EFF, salt, sizeof salt, 0.25, T), 1.1 * 0.125));
+    EXPECT(NUMBER(PJ_NUMBER_N_TOTAL, electrolyte, sizeof electrolyte, 0, 0) == 3.0);
+    EXPECT(NUMBER(PJ_NUMBER_SALT_AVG, electrolyte, sizeof electrolyte, 0, 0) == 1000.0);
+    EXPECT(NUMBER(PJ_NUMBER_SALT_DT_STABLE, electrolyte, sizeof electrolyte, T, 0) > 0.0);
+}
+
+/* The signs that the header states. */
+static void single_particle_steps(void)
+{
+    static uint8_t moved[PJ_PARTICLE_BYTES], step[PJ_CELL_STEP_BYTES];
+    const uint8_t *report = step + PJ_AT_CELL_REPORT;
+    EXPECT(pj_particle_step(particle, sizeof particle, 1e-6, 1.0, T, moved, sizeof moved) == PJ_REFUSAL_NONE);
+    EXPECT(pj_get_f64(moved, PJ_AT_PARTICLE_C_S + 8 * 4) > pj_get_f64(particle, PJ_AT_PARTICLE_C_S + 8 * 4));
+
+    EXPECT(pj_cell_step(cell_nmc, sizeof cell_nmc, 3.0, 10.0, T, step, sizeof step) == PJ_REFUSAL_NONE);
+    EXPECT(pj_get_f64(report, PJ_AT_REPORT_VOLTAGE) < NUMBER(PJ_NUMBER_OCV, cell_nmc, sizeof cell_nmc, 0, 0));
+    EXPECT_F64(report, PJ_AT_REPORT_CURRENT, 3.0);
+    EXPECT(pj_get_f64(report, PJ_AT_REPORT_THETA_NEG) < 0.80);
+    EXPECT(pj_get_f64(report, PJ_AT_REPORT_THETA_POS) > 0.15);
+    EXPECT_F64(report, PJ_AT_REPORT_THETA_NEG, NUMBER(PJ_NUMBER_THETA_SURFACE, step + PJ_AT_CELL_ANODE, PJ_PARTICLE_BYTES, 0, 0));
+    EXPECT_F64(report, PJ_AT_REPORT_THETA_POS, NUMBER(PJ_NUMBER_THETA_SURFACE, step + PJ_AT_CELL_CATHODE, PJ_PARTICLE_BYTES, 0, 0));
+    EXPECT_F64(report, PJ_AT_REPORT_THETA_NEG_AVG, NUMBER(PJ_NUMBER_THETA_AVG, step + PJ_AT_CELL_ANODE, PJ_PARTICLE_BYTES, 0, 0));
+    EXPECT_F64(report, PJ_AT_REPORT_THETA_POS_AVG, NUMBER(PJ_NUMBER_THETA_AVG, step + PJ_AT_CELL_CATHODE, PJ_PARTICLE_BYTES, 0, 0));
+    EXPECT_F64(report, PJ_AT_REPORT_TIME_S, 10.0);
+    EXPECT_F64(step, PJ_AT_CELL_TIME_S, 10.0);
+    EXPECT_U64(report, PJ_AT_REPORT_CUTOFF, 0);
+    EXPECT(1 <= pj_get_u64(report, PJ_AT_REPORT_SUB_STEPS) && pj_get_u64(report, PJ_AT_REPORT_SUB_STEPS) <= 4096);
+}
+
+static void porous_steps(void)
+{
+    static uint8_t salted[PJ_ELECTROLYTE_BYTES], dfn_step[PJ_DFN_STEP_BYTES];
+    const uint8_t *dfn_report = dfn_step + PJ_AT_DFN_CELL_REPORT;
+    EXPECT(pj_electrolyte_step(electrolyte, sizeof electrolyte, 1.0, -1.0, 0.01, T, salted, sizeof salted) == PJ_REFUSAL_NONE);
+    EXPECT(pj_get_f64(salted, PJ_AT_ELECTROLYTE_C_E) > 1000.0 && pj_get_f64(salted, PJ_AT_ELECTROLYTE_C_E + 16) < 1000.0);
+
+    /* the anode of a DFN cell fills on discharge: a fault that is kept */
+    EXPECT(pj_dfn_step(dfn, sizeof dfn, 20.0, 10.0, dfn_step, sizeof dfn_step) == PJ_REFUSAL_NONE);
+    EXPECT(0.0 < pj_get_f64(dfn_report, PJ_AT_DFN_REPORT_VOLTAGE) && pj_get_f64(dfn_report, PJ_AT_DFN_REPORT_VOLTAGE) < 5.0);
+    EXPECT_F64(dfn_step, PJ_AT_DFN_CELL_VOLTAGE, pj_get_f64(dfn_report, PJ_AT_DFN_REPORT_VOLTAGE));
+    EXPECT_F64(dfn_report, PJ_AT_DFN_REPORT_CURRENT, 20.0);
+    EXPECT_F64(dfn_step, PJ_AT_DFN_CELL_CURRENT, 20.0);
+    EXPECT_F64(dfn_report, PJ_AT_DFN_REPORT_TIME_S, 10.0);
+    EXPECT_F64(dfn_step, PJ_AT_DFN_CELL_TIME_S, 10.0);
+    EXPECT(pj_get_f64(dfn_report, PJ_AT_DFN_REPORT_THETA_NEG) > 0.8);
+    EXPECT(pj_get_f64(dfn_report, PJ_AT_DFN_REPORT_THETA_POS) < 0.5);
+    EXPECT_F64(dfn_step, PJ_AT_DFN_CELL_THETA_NEG_SURF, pj_get_f64(dfn_report, PJ_AT_DFN_REPORT_THETA_NEG));
+    EXPECT_F64(dfn_step, PJ_AT_DFN_CELL_THETA_POS_SURF, pj_get_f64(dfn_report, PJ_AT_DFN_REPORT_THETA_POS));
+    EXPECT(pj_get_f64(dfn_report, PJ_AT_DFN_REPORT_DELTA_C_E_MAX) > 0.0);
+    EXPECT_U64(dfn_report, PJ_AT_DFN_REPORT_CUTOFF, 0);
+    EXPECT_U64(dfn_report, PJ_AT_DFN_REPORT_NEWTON_ITER, 1);
+}
+
+enum { ROWS = 200 };
+
+static double rows[PJ_ROW_DOUBLES * ROWS];
+static uint8_t run[PJ_CELL_RUN_BYTES], dfn_run[PJ_DFN_RUN_BYTES];
+
+static uint64_t discharge(double max_time_s, size_t rows_len)
+{
+    pj_put_u64(run, PJ_AT_CELL_ENDING + PJ_AT_ENDING_HOW, 0);
+    return pj_simulate_discharge(cell_nmc, sizeof cell_nmc, 5.0, 10.0, T, max_time_s, rows, rows_len, run, sizeof run);
+}
+
+#define EXPECT_ENDING(answer, at, how, count)         \
+    EXPECT_U64(answer, (at) + PJ_AT_ENDING_HOW, how); \
+    EXPECT_U64(answer, (at) + PJ_AT_ENDING_ROWS, count)
+
+static void discharges(void)
+{
+    const double *last = rows + 155 * PJ_ROW_DOUBLES, *second = rows + PJ_ROW_DOUBLES;
+    size_t i;
+    EXPECT(discharge(36000.0, PJ_ROW_DOUBLES * ROWS) == PJ_REFUSAL_NONE);
+    EXPECT_ENDING(run, PJ_AT_CELL_ENDING, PJ_ENDED_VOLTAGE, 156);
+    EXPECT(last[PJ_CELL_ROW_VOLTAGE] < 3.0 && last[PJ_CELL_ROW_CURRENT] == 5.0 && last[PJ_CELL_ROW_TIME_S] == 1560.0 && last[PJ_CELL_ROW_CUTOFF] == 1.0);
+    EXPECT(last[PJ_CELL_ROW_THETA_NEG] == NUMBER(PJ_NUMBER_THETA_SURFACE, run + PJ_AT_CELL_ANODE, PJ_PARTICLE_BYTES, 0, 0));
+    EXPECT(last[PJ_CELL_ROW_THETA_POS] == NUMBER(PJ_NUMBER_THETA_SURFACE, run + PJ_AT_CELL_CATHODE, PJ_PARTICLE_BYTES, 0, 0));
+    EXPECT(last[PJ_CELL_ROW_THETA_NEG_AVG] == NUMBER(PJ_NUMBER_THETA_AVG, run + PJ_AT_CELL_ANODE, PJ_PARTICLE_BYTES, 0, 0));
+    EXPECT(last[PJ_CELL_ROW_THETA_POS_AVG] == NUMBER(PJ_NUMBER_THETA_AVG, run + PJ_AT_CELL_CATHODE, PJ_PARTICLE_BYTES, 0, 0));
+    EXPECT(rows[PJ_CELL_ROW_CUTOFF] == 0.0);
+    EXPECT(discharge(0.0, PJ_ROW_DOUBLES * ROWS) == PJ_REFUSAL_NONE);
+    EXPECT_ENDING(run, PJ_AT_CELL_ENDING, PJ_ENDED_TIME, 0);
+
+    /* of 15 doubles one row is used; what lies behind it stays */
+    for (i = PJ_ROW_DOUBLES; i < 2 * PJ_ROW_DOUBLES; i++)
+        rows[i] = -7.0;
+    EXPECT(discharge(36000.0, 15) == PJ_REFUSAL_NONE);
+    EXPECT_ENDING(run, PJ_AT_CELL_ENDING, PJ_ENDED_FULL, 1);
+    EXPECT(second[0] == -7.0 && second[PJ_ROW_DOUBLES - 1] == -7.0);
+    /* the run's clock is its own, the cell's goes on */
+    memcpy(cell_of, run, sizeof cell_of);
+    EXPECT(pj_simulate_discharge(cell_of, sizeof cell_of, 5.0, 10.0, T, 10.0, rows, PJ_ROW_DOUBLES * ROWS, run, sizeof run) == PJ_REFUSAL_NONE);
+    EXPECT_ENDING(run, PJ_AT_CELL_ENDING, PJ_ENDED_TIME, 1);
+    EXPECT(rows[PJ_CELL_ROW_TIME_S] == 20.0);
+}
+
+static void galvanostatic_runs(void)
+{
+    static uint8_t hot[PJ_NEW_DFN_BYTES], wild[PJ_DFN_CELL_BYTES];
+    /* a run of a DFN cell looks at the cell's clock, after a first row */
+    EXPECT(pj_run_galvanostatic(dfn, sizeof dfn, 2.0, 1.0, 0.0, rows, PJ_ROW_DOUBLES * ROWS, dfn_run, sizeof dfn_run) == PJ_REFUSAL_NONE);
+    EXPECT_ENDING(dfn_run, PJ_AT_DFN_CELL_ENDING, PJ_ENDED_TIME, 1);
+    EXPECT(rows[PJ_DFN_ROW_VOLTAGE] == pj_get_f64(dfn_run, PJ_AT_DFN_CELL_VOLTAGE) && rows[PJ_DFN_ROW_CURRENT] == 2.0 && rows[PJ_DFN_ROW_TIME_S] == 1.0);
+    EXPECT(rows[PJ_DFN_ROW_THETA_NEG] == pj_get_f64(dfn_run, PJ_AT_DFN_CELL_THETA_NEG_SURF));
+    EXPECT(rows[PJ_DFN_ROW_THETA_POS] == pj_get_f64(dfn_run, PJ_AT_DFN_CELL_THETA_POS_SURF));
+    EXPECT(rows[PJ_DFN_ROW_DELTA_C_E_MAX] > 0.0 && rows[PJ_DFN_ROW_CUTOFF] == 0.0 && rows[PJ_DFN_ROW_NEWTON_ITER] == 1.0);
+
+    /* refused after a row: the answer is written; before one: it is left */
+    memcpy(hot, new_dfn, sizeof hot);
+    pj_put_f64(hot, PJ_AT_DFN_PARAMS_C_E0, 1e5);
+    pj_put_f64(hot, PJ_AT_DFN_PARAMS_GAMMA_E, 1000.0);
+    EXPECT(build(PJ_BUILD_DFN, hot, sizeof hot, wild, sizeof wild) == PJ_REFUSAL_NONE);
+    pj_put_u64(dfn_run, PJ_AT_DFN_CELL_ENDING + PJ_AT_ENDING_HOW, 0);
+    EXPECT(pj_run_galvanostatic(wild, sizeof wild, 0.0, 1.0, 100.0, rows, PJ_ROW_DOUBLES * ROWS, dfn_run, sizeof dfn_run) == PJ_REFUSAL_NOT_FINITE);
+    EXPECT_ENDING(dfn_run, PJ_AT_DFN_CELL_ENDING, PJ_ENDED_REFUSED, 1);
+    EXPECT_F64(dfn_run, PJ_AT_DFN_CELL_TIME_S, 1.0);
+    EXPECT(discharge(36000.0, 7) == PJ_REFUSAL_LENGTH);
+    EXPECT_U64(run, PJ_AT_CELL_ENDING + PJ_AT_ENDING_HOW, 0);
+}
+
+/* The input that docs/REFERENCE.md names for each refusal. */
+static void refusals(void)
+{
+    static uint8_t bad_config[PJ_CONFIG_BYTES], bad_particle[PJ_NEW_PARTICLE_BYTES], bad_cell[PJ_NEW_CELL_BYTES], bad_salt[PJ_ELECTROLYTE_BYTES];
+    static uint8_t step[PJ_CELL_STEP_BYTES], kept[PJ_CELL_STEP_BYTES], solution[PJ_SOLUTION_BYTES], answer[PJ_NUMBER_BYTES];
+    const double entries[4] = {0.0, 1.0, 1.0, 0.0}, right[2] = {3.0, 4.0};
+    memset(step, 0xA5, sizeof step);
+    memcpy(kept, step, sizeof step);
+
+    memcpy(bad_config, config, sizeof config);
+    pj_put_u64(bad_config, PJ_AT_CONFIG_N_NODES, 2);
+    EXPECT(build(PJ_BUILD_CELL_LFP, bad_config, sizeof bad_config, step, PJ_CELL_BYTES) == PJ_REFUSAL_GRID);
+    memcpy(bad_particle, new_particle, sizeof new_particle);
+    pj_put_f64(bad_particle, PJ_AT_SHEET_THETA_INIT, 1.5);
+    EXPECT(build(PJ_BUILD_PARTICLE, bad_particle, sizeof bad_particle, step, PJ_PARTICLE_BYTES) == PJ_REFUSAL_SHEET);
+    EXPECT(pj_number((pj_number_call_t)20, empty, 0, 0, 0, answer, sizeof answer) == PJ_REFUSAL_SHEET);
+    EXPECT(pj_build((pj_build_call_t)13, empty, 0, step, sizeof step) == PJ_REFUSAL_SHEET);
+    EXPECT(pj_cell_step(cell_lfp, sizeof cell_lfp, 2e6, 10.0, T, step, sizeof step) == PJ_REFUSAL_LOAD);
+    EXPECT(pj_cell_step(cell_lfp, sizeof cell_lfp, 3.0, 0.0, T, step, sizeof step) == PJ_REFUSAL_INTERVAL);
+    EXPECT(pj_cell_step(cell_lfp, sizeof cell_lfp, 3.0, 10.0, 500.0, step, sizeof step) == PJ_REFUSAL_TEMPERATURE);
+
+    memcpy(bad_cell, new_cell, sizeof new_cell);
+    pj_put_f64(bad_cell, PJ_AT_NEW_CELL_ANODE + PJ_AT_SHEET_D_S_REF, 1e-8);
+    pj_put_f64(bad_cell, PJ_AT_NEW_CELL_ANODE + PJ_AT_SHEET_E_A_DS, 5e4);
+    EXPECT(build(PJ_BUILD_CELL, bad_cell, sizeof bad_cell, cell_of, sizeof cell_of) == PJ_REFUSAL_NONE);
+    EXPECT(pj_cell_step(cell_of, sizeof cell_of, 3.0, 10.0, 350.0, step, sizeof step) == PJ_REFUSAL_DIFFUSIVITY);
+    memcpy(bad_cell, new_cell, sizeof new_cell);
+    pj_put_f64(bad_cell, PJ_AT_NEW_CELL_ANODE + PJ_AT_SHEET_R_PARTICLE, 1e-7);
+    EXPECT(build(PJ_BUILD_CELL, bad_cell, sizeof bad_cell, cell_of, sizeof cell_of) == PJ_REFUSAL_NONE);
+    EXPECT(pj_cell_step(cell_of, sizeof cell_of, 3.0, 86400.0, T, step, sizeof step) == PJ_REFUSAL_SUB_STEPS);
+
+    memcpy(bad_salt, electrolyte, sizeof electrolyte);
+    pj_put_f64(bad_salt, PJ_AT_ELECTROLYTE_C_E, 1.7e308);
+    pj_put_f64(bad_salt, PJ_AT_ELECTROLYTE_C_E + 16, 1.7e308);
+    EXPECT(pj_number(PJ_NUMBER_SALT_AVG, bad_salt, sizeof bad_salt, 0, 0, answer, sizeof answer) == PJ_REFUSAL_NOT_FINITE);
+    EXPECT(pj_solve_dense(entries, 1, right, 1, 1, solution, sizeof solution) == PJ_REFUSAL_SINGULAR);
+    EXPECT(pj_solve_dense(entries, 3, right, 2, 2, solution, sizeof solution) == PJ_REFUSAL_LENGTH);
+    EXPECT(pj_cell_step(cell_lfp, sizeof cell_lfp, 3.0, 10.0, T, step, sizeof step - 1) == PJ_REFUSAL_LENGTH);
+    EXPECT(memcmp(step, kept, sizeof step) == 0);
+
+    EXPECT(pj_solve_dense(entries, 4, right, 2, 2, solution, sizeof solution) == PJ_REFUSAL_NONE);
+    EXPECT_F64(solution, 0, 4.0);
+    EXPECT_F64(solution, 8, 3.0);
+    EXPECT_U64(solution, 16, 0);
+}
+
+int main(void)
+{
+#ifdef SIZE_FOR_A_CALL
+    /* C++ refuses this; harness/c/run sees to it */
+    EXPECT(pj_number(PJ_SHEET_BYTES, empty, 0, 0, 0, run, PJ_NUMBER_BYTES) == PJ_REFUSAL_SHEET);
+#endif
+    EXPECT(PJ_LAYOUT_VERSION == 1);
+    ready_sheets();
+    ready_salt();
+    ready_dfn_params();
+    new_particles();
+    new_cells();
+    new_electrolytes();
+    new_dfn_cells();
+    numbers();
+    single_particle_steps();
+    porous_steps();
+    discharges();
+    galvanostatic_runs();
+    refusals();
+    if (failures != 0) {
+        fprintf(stderr, "calls.c: %d of %d do not hold\n", failures, checks);
+        return 1;
+    }
+    printf("calls.c: every size, offset, call, refusal and ending as the header has it, %d checks\n", checks);
+    return 0;
+}

@@ -1,0 +1,605 @@
+"""The faults that harness/oracle/wrong puts into the oracle, one at a time.
+
+A fault is a change of text in one file: standins.rs, a source that make_oracle.py has made (sources/..) or a file of
+harness/calls (calls/..). The old text stands there once; where it stands more often, `nth` says which. A fault that no call can
+show has the reason why, and is tried all the same.
+"""
+import math
+import re
+import struct
+import sys
+from collections import namedtuple
+
+Fault = namedtuple("Fault", "file what old new nth reason")
+
+
+def as_rust(x):
+    """A binary64 as a constant of Rust, by its bits."""
+    return f"f64::from_bits(0x{struct.unpack('>Q', struct.pack('>d', x))[0]:016X})"
+
+
+def below(x):
+    return math.nextafter(x, -math.inf)
+
+
+def above(x):
+    return math.nextafter(x, math.inf)
+
+
+def listed(file, rows):
+    """Faults of one file, each as (what, old, new) with nth and reason where they are needed."""
+    for what, old, new, *more in rows:
+        given = more[0] if more else {}
+        yield Fault(file, what, old, new, given.get("nth"), given.get("reason", ""))
+
+
+def because(reason):
+    return {"reason": reason}
+
+
+def nth(n):
+    return {"nth": n}
+
+
+NAN = because("a NaN goes through what follows and comes out as a NaN, whose bits mean nothing")
+SAME_PRODUCT = because("a product of two numbers is the same either way round")
+FINITE = because("no call that the table lets pass gives a NaN or an infinity there")
+BUILT = because("the particle that is built of it asks it, and answers the same number")
+FIRST_STEP = because("a first step is always made, and answers the same number with no row written")
+
+TERM = "a = 1.0 + (a * y) / f64::from(k);"
+RESULT = "f64::from(k) * LN_2 + (2.0 * s) * a"
+ROOT = "ln(a + (a * a + 1.0).sqrt()).copysign(x)"
+
+STANDINS = [
+    ("E: a NaN is not looked for", "    if t.is_nan() {\n        return t;\n    }\n", "", NAN),
+    ("E: 709 gives infinity", "t > 709.0", "t >= 709.0"),
+    ("E: the number after 709 gives none", "t > 709.0", "t > " + as_rust(above(709.0))),
+    ("E: infinity only above 710", "t > 709.0", "t > 710.0"),
+    ("E: the largest number for infinity", "return f64::INFINITY;", "return f64::MAX;"),
+    ("E: -708 gives 0", "t < -708.0", "t <= -708.0"),
+    ("E: the number before -708 gives none", "t < -708.0", "t < " + as_rust(below(-708.0))),
+    ("E: 0 only below -709", "t < -708.0", "t < -709.0"),
+    ("E: -0 below -708", "return 0.0;", "return -0.0;"),
+    ("E: t/512", "t / 1024.0", "t / 512.0"),
+    ("E: t/2048", "t / 1024.0", "t / 2048.0"),
+    ("E: a = 0 at first", "let mut a = 1.0;", "let mut a = 0.0;"),
+    ("E: 17 terms", "(1..=18).rev()", "(1..=17).rev()"),
+    ("E: 19 terms", "(1..=18).rev()", "(1..=19).rev()"),
+    ("E: without the last term", "(1..=18).rev()", "(2..=18).rev()"),
+    ("E: terms the other way round", "(1..=18).rev()", "1..=18"),
+    ("E: a*(y/k)", TERM, "a = 1.0 + a * (y / f64::from(k));"),
+    ("E: (a/k)*y", TERM, "a = 1.0 + (a / f64::from(k)) * y;"),
+    ("E: 1 - (a*y)/k", TERM, "a = 1.0 - (a * y) / f64::from(k);"),
+    ("E: squared nine times", "0..10", "0..9"),
+    ("E: squared eleven times", "0..10", "0..11"),
+    ("E: the last digit wrong above 1e300", "    a\n}", "    if a > 1e300 && a < f64::INFINITY { a.next_up() } else { a }\n}"),
+    ("E: the last digit wrong below 1e-300", "    a\n}", "    if a < 1e-300 { a.next_up() } else { a }\n}"),
+    ("L: c one binary64 larger", "0x3FE6_2E42_FEFA_39EF", "0x3FE6_2E42_FEFA_39F0"),
+    ("L: c one binary64 smaller", "0x3FE6_2E42_FEFA_39EF", "0x3FE6_2E42_FEFA_39EE"),
+    ("L: a NaN is not looked for", "x.is_nan() || x < 0.0", "x < 0.0"),
+    ("L: below zero is not looked for", "x.is_nan() || x < 0.0", "x.is_nan()"),
+    ("L: -0 gives a NaN", "x.is_nan() || x < 0.0", "x.is_nan() || x.is_sign_negative()"),
+    ("L: +infinity at zero", "return f64::NEG_INFINITY;", "return f64::INFINITY;"),
+    ("L: infinity is not looked for", "    if x == f64::INFINITY {\n        return x;\n    }\n", ""),
+    ("L: 1.5 is not halved", "m >= 1.5", "m > 1.5"),
+    ("L: the number before 1.5 is halved", "m >= 1.5", "m >= " + as_rust(below(1.5))),
+    ("L: halved from the root of 2 on", "m >= 1.5", "m >= std::f64::consts::SQRT_2"),
+    ("L: m is not halved", "        m /= 2.0;\n", ""),
+    ("L: k is not raised", "        k += 1;\n", ""),
+    ("L: k is lowered", "k += 1;", "k -= 1;"),
+    ("L: a subnormal's k one too high", "-1022 - shift as i32", "-1021 - shift as i32"),
+    ("L: subnormals taken as normal", "exponent == 0", "exponent == -1"),
+    ("L: a normal number's k one too low", "exponent - 1023)", "exponent - 1024)"),
+    ("L: (m + 1)/(m - 1)", "(m - 1.0) / (m + 1.0)", "(m + 1.0) / (m - 1.0)"),
+    ("L: (1 - m)/(m + 1)", "(m - 1.0) / (m + 1.0)", "(1.0 - m) / (m + 1.0)"),
+    ("L: a = 1/21 at first", "1.0 / 23.0", "1.0 / 21.0"),
+    ("L: a = 1/25 at first", "1.0 / 23.0", "1.0 / 25.0"),
+    ("L: a = 0 at first", "1.0 / 23.0", "0.0"),
+    ("L: d from 19", "(1..=21).rev()", "(1..=19).rev()"),
+    ("L: a term more, 1/25", "let mut a = 1.0 / 23.0;", "let mut a = 1.0 / 23.0 + q * (1.0 / 25.0);"),
+    ("L: d down to 3", "(1..=21).rev()", "(3..=21).rev()"),
+    ("L: d the other way round", "(1..=21).rev().step_by(2)", "(1..=21).step_by(2)"),
+    ("L: every d", ".step_by(2)", ""),
+    ("L: 1/d - q*a", "/ f64::from(d) + q * a", "/ f64::from(d) - q * a"),
+    ("L: q*a + 1/d rounded once", "1.0 / f64::from(d) + q * a", "q.mul_add(a, 1.0 / f64::from(d))"),
+    ("L: q = s", "let q = s * s;", "let q = s;"),
+    ("L: k*c - (2*s)*a", RESULT, "f64::from(k) * LN_2 - (2.0 * s) * a"),
+    ("L: s*a, not doubled", RESULT, "f64::from(k) * LN_2 + s * a"),
+    ("L: 2*(s*a)", RESULT, "f64::from(k) * LN_2 + 2.0 * (s * a)", because("doubling is exact, and s*a is no subnormal")),
+    ("L: k*c + .. rounded once", RESULT, "f64::from(k).mul_add(LN_2, (2.0 * s) * a)"),
+    ("L: .. + (2*s)*a rounded once", RESULT, "(2.0 * s).mul_add(a, f64::from(k) * LN_2)"),
+    ("H: a NaN is not looked for", "    if x.is_nan() {\n        return x;\n    }\n", "", NAN),
+    ("H: x for its size", "let a = x.abs();", "let a = x;"),
+    ("H: without the sign", ROOT, "ln(a + (a * a + 1.0).sqrt())"),
+    ("H: the other sign", ROOT, "-ln(a + (a * a + 1.0).sqrt()).copysign(x)"),
+    ("H: +0 at -0", ROOT, "if x == 0.0 { 0.0 } else { ln(a + (a * a + 1.0).sqrt()).copysign(x) }"),
+    ("H: a*a - 1", ROOT, "ln(a + (a * a - 1.0).sqrt()).copysign(x)"),
+    ("H: a*a + 1 rounded once", ROOT, "ln(a + a.mul_add(a, 1.0).sqrt()).copysign(x)"),
+    ("H: the root minus a", ROOT, "ln((a * a + 1.0).sqrt() - a).copysign(x)"),
+    ("H: powf(0.5) for the root", ROOT, "ln(a + powf(a * a + 1.0, 0.5)).copysign(x)"),
+    ("powf: the root for 0.5", "exp(b * ln(x))", "if b == 0.5 { x.sqrt() } else { exp(b * ln(x)) }"),
+    ("powf: 1 for the power 0", "exp(b * ln(x))", "if b == 0.0 { 1.0 } else { exp(b * ln(x)) }"),
+    ("powf: E(-b*L(x))", "exp(b * ln(x))", "exp(-b * ln(x))"),
+    ("power 2: x", "2 => x * x,", "2 => x,"),
+    ("power 3: (x*x)*x", "3 => x * (x * x)", "3 => (x * x) * x", SAME_PRODUCT),
+    ("power 3: x*x", "3 => x * (x * x)", "3 => x * x"),
+    ("power 4: x*(x*(x*x))", "4 => (x * x) * (x * x)", "4 => x * (x * (x * x))"),
+    ("the machine's exp", "        exp(self)", "        self.exp()"),
+    ("the machine's ln", "        ln(self)", "        self.ln()"),
+    ("the machine's powf", "        powf(self, b)", "        self.powf(b)"),
+    ("the machine's asinh", "        asinh(self)", "        self.asinh()"),
+]
+
+# ---- the Rust: each node loop later and earlier, what stands at the ends, the roots, floors and clamps
+
+NO_NODE_0 = because("the node's radius is 0, so its term is +0")
+SKIPPED = because("the loop passes over that node anyway")
+UNREAD = because("that entry is not read again")
+NO_I0 = because("an exchange current of 0 and one that is a NaN are both not above 1e-30")
+
+ELECTRODE = [
+    ("c_avg: from node 1", "for i in 0..n {", "for i in 1..n {", NO_NODE_0),
+    ("c_avg: without the surface", "for i in 0..n {", "for i in 0..n - 1 {"),
+    ("c_avg: the surface weighs 2 or 4", "if i == 0 || i == n - 1 {", "if i == 0 {"),
+    ("c_avg: the centre weighs 2", "if i == 0 || i == n - 1 {", "if i == n - 1 {", NO_NODE_0),
+    ("c_avg: 2 and 4 exchanged", "i % 2 == 0", "i % 2 == 1"),
+    ("step: inner nodes from 2", "for i in 1..n - 1 {", "for i in 2..n - 1 {"),
+    ("step: inner nodes without the last", "for i in 1..n - 1 {", "for i in 1..n - 2 {"),
+    ("step: the centre does not change", "dc[0] = 6.0 * d_s", "dc[0] = 0.0 * d_s"),
+    ("step: the surface does not change", "dc[n - 1] = d_s * (d2c + 2.0 / r_surf * dc_dr_surf);", "let _ = (d2c, dc_dr_surf, r_surf);"),
+    ("step: the update from node 1", "self.c_s.iter_mut().zip(dc.iter())", "self.c_s.iter_mut().zip(dc.iter()).skip(1)"),
+    ("step: the update without the surface", "self.c_s.iter_mut().zip(dc.iter())", "self.c_s.iter_mut().zip(dc.iter()).take(n - 1)"),
+    ("step: not clamped below", ".clamp(c_min, c_max)", ".min(c_max)"),
+    ("step: not clamped above", ".clamp(c_min, c_max)", ".max(c_min)"),
+    ("step: -0 clamped to +0", ".clamp(c_min, c_max)", ".clamp(c_min, c_max) + 0.0"),
+    ("ocp: from 0.011", "theta.clamp(0.01, 0.99)", "theta.clamp(0.011, 0.99)"),
+    ("ocp: up to 0.98", "theta.clamp(0.01, 0.99)", "theta.clamp(0.01, 0.98)"),
+    ("ocp of NMC: not clamped a second time", "let x = x.clamp(0.1, 0.9);", "let x = x.clamp(0.01, 0.99);"),
+    ("ocp of LFP: not clamped a second time", "    let x = x.clamp(0.01, 0.99);\n", "", because("x is clamped to the same limits before")),
+    ("ocp of graphite: the root for powf(0.5)", "x.oracle_powf(0.5)", "x.sqrt()"),
+    ("d_s: 1/T - 1/T_ref", "(1.0 / T_REF - 1.0 / temp_k)", "(1.0 / temp_k - 1.0 / T_REF)"),
+    ("sphere_volume: (r*r)*r first", "4.0 / 3.0 * PI * r * r * r", "4.0 / 3.0 * PI * (r * r * r)"),
+]
+
+ELECTROLYTE = [
+    ("c_avg: from node 1", "self.c_e.iter().sum::<f64>()", "self.c_e.iter().skip(1).sum::<f64>()"),
+    ("c_avg: without the last node", "self.c_e.iter().sum::<f64>()", "self.c_e.iter().take(self.c_e.len() - 1).sum::<f64>()"),
+    ("c_avg: summed from the end", "self.c_e.iter().sum::<f64>()", "self.c_e.iter().rev().sum::<f64>()"),
+    ("step: from node 1", "for i in 0..n {", "for i in 1..n {"),
+    ("step: without the last node", "for i in 0..n {", "for i in 0..n - 1 {"),
+    ("step: the anode a node longer", "if i < self.n_neg {", "if i <= self.n_neg {"),
+    ("step: the separator a node longer", "i < self.n_neg + self.n_sep {", "i <= self.n_neg + self.n_sep {"),
+    ("step: the update from node 1", "self.c_e.iter_mut().zip(dc.iter())", "self.c_e.iter_mut().zip(dc.iter()).skip(1)"),
+    ("step: the update without the last node", "self.c_e.iter_mut().zip(dc.iter())", "self.c_e.iter_mut().zip(dc.iter()).take(n - 1)"),
+    ("step: without the floor", ".max(1e-10)", ".max(f64::MIN)"),
+    ("step: the floor one binary64 higher", ".max(1e-10)", ".max(" + as_rust(above(1e-10)) + ")"),
+    (
+        "step: a NaN passes the floor", "*ce = (*ce + dt * dc_val).max(1e-10);",
+        "let c = *ce + dt * dc_val;\n            *ce = if c.is_nan() { c } else { c.max(1e-10) };",
+        because("only an overflow makes no number of a place, and then an infinity of one sign: no NaN comes to the floor"),
+    ),
+    ("dt_stable: the largest porosity", "self.eps_neg.min(self.eps_sep).min(self.eps_pos)", "self.eps_neg.max(self.eps_sep).max(self.eps_pos)"),
+]
+
+SOLVER = [
+    ("step: a sub-step fewer", "for _ in 0..n_sub {", "for _ in 1..n_sub {"),
+    ("step: a sub-step more", "for _ in 0..n_sub {", "for _ in 0..=n_sub {"),
+    ("step: floor for ceil", ".ceil() as usize", ".floor() as usize"),
+    ("step: without signum", "v_ohm * current_a.signum()", "v_ohm"),
+    ("step: signum of a zero is 0", "current_a.signum()", "(if current_a == 0.0 { 0.0 } else { current_a.signum() })", because("v_ohm is a zero there")),
+    ("step: the anode's overpotential with the other sign", "let eta_neg = -self", "let eta_neg = self"),
+    ("overpotential: the last digit of the root", "* 1000.0).sqrt()", "* 1000.0).sqrt().next_up()"),
+    ("overpotential: powf(0.5) for the root", "* 1000.0).sqrt()", "* 1000.0).oracle_powf(0.5)"),
+    (
+        "overpotential: 0 up to 1e-20", "i_0_mol < 1e-30", "i_0_mol < 1e-20",
+        because("k_bv is at least 1e-16 and the root at least 3, so i_0 is far above"),
+    ),
+    ("run: a first step before the clock is asked", "while t < max_time_s {", "while t < max_time_s || states.is_empty() {"),
+    ("run: goes on at its limit", "while t < max_time_s {", "while t <= max_time_s {"),
+    ("soc_estimate: not clamped", ".clamp(0.0, 1.0)", ".clamp(-9.0, 9.0)"),
+]
+
+DFN = [
+    ("electrolyte: anode from node 2", "if i == 0 || i == n_neg - 1 {", "if i <= 1 || i == n_neg - 1 {"),
+    ("electrolyte: anode without its last but one", "if i == 0 || i == n_neg - 1 {", "if i == 0 || i + 2 >= n_neg {"),
+    ("electrolyte: the anode's last node too", "if i == 0 || i == n_neg - 1 {", "if i == 0 {"),
+    ("electrolyte: the anode's loop from 1", "for i in 0..n_neg {", "for i in 1..n_neg {", SKIPPED),
+    ("electrolyte: the anode's loop without its last", "for i in 0..n_neg {", "for i in 0..n_neg - 1 {", SKIPPED),
+    ("electrolyte: cathode from its second node", "for i in 0..n_pos {", "for i in 1..n_pos {"),
+    ("electrolyte: the cathode's loop without its last", "for i in 0..n_pos {", "for i in 0..n_pos - 1 {", SKIPPED),
+    ("electrolyte: cathode without its last but one", "gi >= n_total - 1", "gi >= n_total - 2"),
+    ("electrolyte: the cathode's last node too", "gi >= n_total - 1", "gi >= n_total"),
+    ("electrolyte: clamped from node 1", "for c in &mut c_new {", "for c in c_new.iter_mut().skip(1) {"),
+    ("electrolyte: clamped without the last node", "for c in &mut c_new {", "for c in c_new.iter_mut().take(n_total - 1) {"),
+    ("electrolyte: clamped without the separator", "for c in &mut c_new {", "for (_, c) in c_new.iter_mut().enumerate().filter(|(i, _)| *i != n_neg) {"),
+    ("electrolyte: from 101", "c.clamp(100.0, 3000.0)", "c.clamp(101.0, 3000.0)"),
+    ("electrolyte: up to 2999", "c.clamp(100.0, 3000.0)", "c.clamp(100.0, 2999.0)"),
+    ("electrolyte: a NaN becomes 100", "c.clamp(100.0, 3000.0)", "c.max(100.0).min(3000.0)"),
+    ("electrolyte: the cathode's source with the other sign", "let source = (1.0 - p.t_plus) * a_pos", "let source = -(1.0 - p.t_plus) * a_pos"),
+    ("d_eff_e: the exponent's sign", "(-self.gamma_e *", "(self.gamma_e *"),
+    ("d_eff_e: powf after the product", "eps.oracle_powf(self.brugg) * d\n", "self.d_e0 * (eps.oracle_powf(self.brugg) * (d / self.d_e0))\n"),
+    ("solid: particles from 1", "for xi in 0..n_x {", "for xi in 1..n_x {"),
+    ("solid: without the last particle", "for xi in 0..n_x {", "for xi in 0..n_x - 1 {"),
+    ("solid: inner nodes from 2", "for ri in 1..n_r - 1 {", "for ri in 2..n_r - 1 {"),
+    ("solid: inner nodes without the last", "for ri in 1..n_r - 1 {", "for ri in 1..n_r - 2 {"),
+    ("solid: the centre keeps its value", "            c_xi[0] = c_xi[1];\n", ""),
+    ("solid: the centre takes the old value", "c_xi[0] = c_xi[1];", "c_xi[0] = c[1];"),
+    ("solid: the first surface update is kept", "c_xi[n_r - 1] = c[n_r - 1] - dt_s", "c_xi[n_r - 1] = c_xi[n_r - 1] - dt_s"),
+    ("solid: clamped from node 1", "for c in &mut c_xi {", "for c in c_xi.iter_mut().skip(1) {"),
+    ("solid: clamped without the surface", "for c in &mut c_xi {", "for c in c_xi.iter_mut().take(n_r - 1) {"),
+    ("solid: the centre is clamped twice", "c_xi[0] = c_xi[1];", "c_xi[0] = c_xi[1].clamp(0.0, c_s_max);", because("the second clamp changes nothing")),
+    ("solid: the flux's sign", "let flux_surface = j_li", "let flux_surface = -j_li"),
+    ("solid: d_surf at least 1e-18", "let flux_surface = j_li / d_surf.max(1e-30);", "let flux_surface = j_li / d_surf.max(1e-18);"),
+    ("ocv: without the first coefficient", "coeffs.iter().fold", "coeffs.iter().skip(1).fold"),
+    ("ocv: without the last coefficient", "coeffs.iter().fold", "coeffs.iter().take(coeffs.len().saturating_sub(1)).fold"),
+    ("step: the middle a node later", "c_e_new[n_x_neg / 2]", "c_e_new[n_x_neg / 2 + 1]"),
+    ("step: the largest change from node 1", ".zip(self.state.c_e.iter())", ".zip(self.state.c_e.iter())\n            .skip(1)"),
+    ("step: the largest change without the last node", ".zip(self.state.c_e.iter())", ".zip(self.state.c_e.iter())\n            .take(self.state.c_e.len() - 1)"),
+    ("step: the largest change with its sign", ".map(|(a, b)| (a - b).abs())", ".map(|(a, b)| a - b)"),
+    ("voltage: not clamped below", "v.clamp(0.0, 5.0)", "v.min(5.0)"),
+    ("voltage: not clamped above", "v.clamp(0.0, 5.0)", "v.max(0.0)"),
+    (
+        "voltage: 0 for a NaN", "v.clamp(0.0, 5.0)", "v.max(0.0).min(5.0)",
+        because("a NaN comes only from the electrolyte's middle node, which is refused for itself"),
+    ),
+    ("voltage: powf(0.5) for the first root", "c_e_mid.sqrt()", "c_e_mid.oracle_powf(0.5)", nth(1)),
+    *((f"voltage: the last digit of root {n}", ".sqrt()", ".sqrt().next_up()", nth(n)) for n in range(1, 7)),
+    ("voltage: a NaN for the anode's third root", ".sqrt().max(0.0)", ".sqrt()", {**nth(1), **NO_I0}),
+    ("voltage: a NaN for the cathode's third root", ".sqrt().max(0.0)", ".sqrt()", {**nth(2), **NO_I0}),
+    ("voltage: the surface's own stoichiometry", "theta_neg.clamp(0.001, 0.999)", "theta_neg"),
+    ("voltage: c_e/c_e0 from 1e-2", "(c_e_mid / p.c_e0).max(1e-3)", "(c_e_mid / p.c_e0).max(1e-2)"),
+    (
+        "voltage: the logarithm from 1e-4", ".max(1e-9).oracle_ln()", ".max(1e-4).oracle_ln()",
+        because("c_e is clamped to at least 100 and c_e0 is at most 1e5, so the ratio is at least 1e-3"),
+    ),
+    ("run: ends after its limit", "step.time_s >= max_time_s", "step.time_s > max_time_s"),
+    ("run: the voltage ends nothing", "step.cutoff || step.time_s", "step.time_s"),
+    ("dense: columns from 1", "for col in 0..n {", "for col in 1..n {"),
+    ("dense: without the last column", "for col in 0..n {", "for col in 0..n.saturating_sub(1) {", because("nothing stands below it, and the second pass asks its pivot too")),
+    ("dense: the pivot search a row later", "for row in col + 1..n {\n            let v", "for row in col + 2..n {\n            let v"),
+    ("dense: the pivot search without the last row", "for row in col + 1..n {\n            let v", "for row in col + 1..n - 1 {\n            let v"),
+    ("dense: the last of two equal pivots", "if v > max_val {", "if v >= max_val {"),
+    ("dense: a pivot with its sign", "let v = a[row * n + col].abs();", "let v = a[row * n + col];"),
+    ("dense: 1e-14 is singular", "if max_val < 1e-14 {", "if max_val <= 1e-14 {"),
+    ("dense: the number before 1e-14 is not singular", "if max_val < 1e-14 {", "if max_val < " + as_rust(below(1e-14)) + " {", because("the second pass asks every pivot again")),
+    ("dense: the exchange from column 1", "for k in 0..n {", "for k in 1..n {"),
+    ("dense: the exchange without the last column", "for k in 0..n {", "for k in 0..n - 1 {"),
+    ("dense: the right side is not exchanged", "            x.swap(col, max_row);\n", ""),
+    ("dense: elimination a row later", "for row in col + 1..n {\n            let f", "for row in col + 2..n {\n            let f"),
+    ("dense: elimination without the last row", "for row in col + 1..n {\n            let f", "for row in col + 1..n - 1 {\n            let f"),
+    ("dense: elimination from the next column", "for k in col..n {", "for k in col + 1..n {", UNREAD),
+    ("dense: elimination without the last column", "for k in col..n {", "for k in col..n - 1 {"),
+    ("dense: back from row 1", "for col in (0..n).rev() {", "for col in (1..n).rev() {"),
+    ("dense: back without the last row", "for col in (0..n).rev() {", "for col in (0..n.saturating_sub(1)).rev() {"),
+    ("dense: back, rows from 1", "for row in 0..col {", "for row in 1..col {"),
+    ("dense: back, without the last row above", "for row in 0..col {", "for row in 0..col.saturating_sub(1) {"),
+    (
+        "dense: the second pass asks no pivot", "        if a[col * n + col].abs() < 1e-14 {\n            return None;\n        }\n        x[col] /=", "        x[col] /=",
+        because("the first pass has asked every one, and does not change a row after its column"),
+    ),
+]
+
+# ---- harness/calls: orders, limits, endings
+
+ORDER = "[1, 10, 2, 3, 4, 5, 6, 7, 8, 9]"
+
+
+def swapped_orders():
+    """Two neighbours of the table's order exchanged."""
+    numbers = [int(n) for n in ORDER.strip("[]").split(", ")]
+    reasons = {
+        (5, 6): because("6 is asked only where 1 to 5 are not met"),
+        (7, 8): because("8 is asked only where 7 is not met"),
+        (8, 9): because("no solution is made where 9 is met"),
+    }
+    for i in range(9):
+        pair, changed = (numbers[i], numbers[i + 1]), list(numbers)
+        changed[i], changed[i + 1] = pair[1], pair[0]
+        yield (f"{pair[1]} before {pair[0]}", ORDER, str(changed), reasons.get(pair, {}))
+
+
+TABLE = [
+    *swapped_orders(),
+    ("the last number met wins", "ORDER.iter().find", "ORDER.iter().rev().find"),
+    ("a range without its low end", "self.low <= x", "self.low < x"),
+    ("a range without its high end", "x <= self.high", "x < self.high"),
+    ("a range holds a NaN", "self.low <= x && x <= self.high", "!(x < self.low || x > self.high)"),
+    ("-0 is +0", "x.to_bits() == 0", "x == 0.0"),
+    ("unused places are not looked at", "{ unused(*x) }", "{ true }"),
+    ("a place more is used", "if i < count { test", "if i <= count { test"),
+    ("a place fewer is used", "if i < count { test", "if i + 1 < count { test"),
+    ("the first place is not looked at", "if i < count { test(*x)", "if i < count { i == 0 || test(*x)"),
+    ("one number in range is enough", "zip(ranges).all(", "zip(ranges).any("),
+    ("finite: the first number is not looked at", "values.iter().all(|x| x.is_finite())", "values.iter().skip(1).all(|x| x.is_finite())"),
+    ("finite: the last number is not looked at", "values.iter().all(|x| x.is_finite())", "values.iter().rev().skip(1).all(|x| x.is_finite())"),
+    ("finite: an infinity is finite", "values.iter().all(|x| x.is_finite())", "values.iter().all(|x| !x.is_nan())"),
+    ("finite: a NaN is finite", "values.iter().all(|x| x.is_finite())", "values.iter().all(|x| !x.is_infinite())"),
+    ("9 for 8", "Err(8)", "Err(9)"),
+    ("load: not asked to be finite", "x.is_finite() && x.abs() <= most", "x.abs() <= most", because("neither a NaN nor an infinity is at most anything")),
+    ("load: without its end", "x.abs() <= most", "x.abs() < most"),
+    ("load: any below zero", "x.abs() <= most", "x <= most"),
+    ("interval: 0", "dt > 0.0 &&", "dt >= 0.0 &&"),
+    ("interval: from the second least number", "dt > 0.0 &&", "dt > f64::from_bits(1) &&"),
+    ("interval: below 86,400", "dt <= 86_400.0", "dt < 86_400.0"),
+    ("interval: the number after 86,400", "dt <= 86_400.0", "dt <= " + as_rust(above(86400.0))),
+    ("clock: infinity", "time_s.is_finite() && time_s >= 0.0", "time_s >= 0.0"),
+    ("clock: above 0", "time_s >= 0.0", "time_s > 0.0"),
+    ("clock: no -0", "time_s >= 0.0", "time_s.is_sign_positive()"),
+    ("clock: any below zero", "time_s.is_finite() && time_s >= 0.0", "time_s.is_finite()"),
+    ("current: one binary64 more", "MOST_CURRENT: f64 = 1e6", "MOST_CURRENT: f64 = " + as_rust(above(1e6))),
+    ("flux: one binary64 more", "MOST_FLUX: f64 = 1e13", "MOST_FLUX: f64 = " + as_rust(above(1e13))),
+    ("source: one binary64 more", "MOST_SOURCE: f64 = 1e9", "MOST_SOURCE: f64 = " + as_rust(above(1e9))),
+]
+
+CHAIN = (
+    "if turn.cutoff {\n            Ending::Voltage\n        } else if time_over(rows.len(), &cell) {\n            Ending::Time\n"
+    "        } else if rows.len() == capacity {\n            Ending::Full\n        }"
+)
+VOLTAGE, TIME, FULL = "turn.cutoff", "time_over(rows.len(), &cell)", "rows.len() == capacity"
+
+
+def chain(*tests):
+    names = {VOLTAGE: "Voltage", TIME: "Time", FULL: "Full"}
+    return " else ".join(f"if {test} {{ Ending::{names[test]} }}" for test in tests)
+
+
+RUNS = [
+    ("time before voltage", CHAIN, chain(TIME, VOLTAGE, FULL)),
+    ("full before time", CHAIN, chain(VOLTAGE, FULL, TIME)),
+    ("full before all", CHAIN, chain(FULL, VOLTAGE, TIME)),
+    ("the voltage ends nothing", CHAIN, chain(TIME, FULL)),
+    ("the time ends nothing", CHAIN, chain(VOLTAGE, FULL)),
+    ("full a row early", FULL, "rows.len() + 1 >= capacity"),
+    ("a row that does not fit", "places / ROW", "places.div_ceil(ROW)"),
+    ("voltage and time have each other's number", "Voltage = 1,\n    Time = 2,", "Voltage = 2,\n    Time = 1,"),
+    ("full and refused have each other's number", "Full = 3,\n    Refused = 4,", "Full = 4,\n    Refused = 3,"),
+    ("the clock is not asked before the first step", "if test_before_first && time_over", "if false && test_before_first && time_over"),
+    ("the clock is asked a row late", TIME, "time_over(rows.len() - 1, &cell)"),
+    ("the clock is asked a row early", TIME, "time_over(rows.len() + 1, &cell)"),
+    ("the clock is asked of the cell at the start", TIME, "time_over(rows.len(), start)"),
+    ("a refused step takes the rows", "Ending::Refused, refusal, rows, cell }", "Ending::Refused, refusal, rows: Vec::new(), cell }"),
+    ("a refused step takes the cell", "Ending::Refused, refusal, rows, cell }", "Ending::Refused, refusal, rows, cell: start.clone() }"),
+    ("a refused step has no number", "Ending::Refused, refusal, rows, cell }", "Ending::Refused, refusal: 0 * refusal, rows, cell }"),
+    ("a refused step is full", "Ending::Refused, refusal, rows, cell }", "Ending::Full, refusal, rows, cell }"),
+    ("the cell stays as it was", "        cell = turn.cell;\n", "        let _ = turn.cell;\n"),
+]
+
+
+CALLS_ELECTRODE = [
+    ("chemistry 0", "(1..=3).contains", "(0..=3).contains"),
+    ("chemistry 4", "(1..=3).contains", "(1..=4).contains"),
+    ("no chemistry 3", "(1..=3).contains", "(1..=2).contains"),
+    ("no chemistry 1", "(1..=3).contains", "(2..=3).contains"),
+    ("LFP and NMC exchanged", "2 => ElectrodeType::LFP,\n            _ => ElectrodeType::NMC", "2 => ElectrodeType::NMC,\n            _ => ElectrodeType::LFP"),
+    ("the sheet's numbers are not asked", "(1..=3).contains(&self.chemistry) && all_in(&self.numbers, &RANGES)", "(1..=3).contains(&self.chemistry)"),
+    ("the chemistry is not asked", "(1..=3).contains(&self.chemistry) && all_in(&self.numbers, &RANGES)", "all_in(&self.numbers, &RANGES)"),
+    ("d_s: the sheet is not asked", "        met.when(2, !self.fits());\n", ""),
+    ("d_s: the temperature is not asked", "        met.when(5, !TEMPERATURE.holds(temp_k));\n", ""),
+    ("d_s: 2 for 5", "met.when(5, !TEMPERATURE", "met.when(2, !TEMPERATURE"),
+    ("specific_area, ocp, docp_dtheta: the sheet is not asked", "!self.fits() || !argument_ok", "!argument_ok"),
+    ("ocp: any stoichiometry", "self.checked(theta.is_finite())?.ocp(theta)", "self.checked(true)?.ocp(theta)"),
+    ("docp_dtheta: any stoichiometry", "self.checked(theta.is_finite())?.docp_dtheta(theta)", "self.checked(true)?.docp_dtheta(theta)"),
+    ("ocp: a stoichiometry in 0 to 1", "self.checked(theta.is_finite())?.ocp(theta)", "self.checked((0.0..=1.0).contains(&theta))?.ocp(theta)"),
+    ("docp_dtheta: a stoichiometry in 0 to 1", "self.checked(theta.is_finite())?.docp_dtheta(theta)", "self.checked((0.0..=1.0).contains(&theta))?.docp_dtheta(theta)"),
+    ("sphere_volume: the radius is not asked", "    met.when(2, !RANGES[0].holds(r));\n", ""),
+    ("a number that is not finite", "finite_or_8(&[&[x]]).map(|()| x)", "Ok(x)"),
+]
+
+CALLS_PARTICLE = [
+    ("2 nodes", "(3..=PLACES as u64)", "(2..=PLACES as u64)"),
+    ("4 nodes at least", "(3..=PLACES as u64)", "(4..=PLACES as u64)"),
+    ("63 nodes at most", "(3..=PLACES as u64)", "(3..PLACES as u64)"),
+    ("a place below zero", "let solid = range(0.0, self", "let solid = range(-f64::from_bits(1), self"),
+    ("no place of 0", "let solid = range(0.0, self", "let solid = range(f64::from_bits(1), self"),
+    ("a place above c_s_max", "self.sheet.c_s_max());\n        self", "self.sheet.c_s_max().next_up());\n        self"),
+    ("the sheet is not asked", "self.sheet.fits() && places", "places"),
+    ("the places are not asked", "self.sheet.fits() && places(&self.c_s, self.n.min(PLACES as u64) as usize, |x| solid.holds(x))", "{ let _ = solid; self.sheet.fits() }"),
+    ("new: the sheet is not asked", "        met.when(2, !sheet.fits());\n", ""),
+    ("new: the count is not asked", "        met.when(1, !nodes_fit(n));\n", ""),
+    ("the count is not asked", "        met.when(1, !nodes_fit(self.n));\n", ""),
+    ("step: the flux is not asked", "        met.when(3, !load(j_n, MOST_FLUX));\n", ""),
+    ("step: the interval is not asked", "        met.when(4, !interval(dt));\n", ""),
+    ("step: the temperature is not asked", "        met.when(5, !TEMPERATURE.holds(temp_k));\n", "", nth(1)),
+    ("dt_stable: the temperature is not asked", "        met.when(5, !TEMPERATURE.holds(temp_k));\n", "", nth(2)),
+    ("step: a profile that is not finite", "        finite_or_8(&[&moved.c_s])?;\n", "", FINITE),
+]
+
+CALLS_SOLVER = [
+    ("count: q + 1 of a whole q", "(whole as f64) < q", "(whole as f64) <= q"),
+    ("count: the whole number below q", "whole + 1", "whole"),
+    ("q of 4,096 is too many", "q > MOST_SUB_STEPS", "q >= MOST_SUB_STEPS"),
+    ("q: one binary64 more", "MOST_SUB_STEPS: f64 = 4096.0", "MOST_SUB_STEPS: f64 = " + as_rust(above(4096.0))),
+    ("q: the anode's interval is not asked", "dt.min(dt_neg).min(dt_pos)", "{ let _ = dt_neg; dt.min(dt_pos) }"),
+    ("q: the cathode's interval is not asked", "dt.min(dt_neg).min(dt_pos)", "{ let _ = dt_pos; dt.min(dt_neg) }"),
+    ("new: the count is not asked", "        met.when(1, !nodes_fit(config.n_nodes));\n", "", nth(1)),
+    ("ready cells: the count is not asked", "        met.when(1, !nodes_fit(config.n_nodes));\n", "", nth(2)),
+    ("new: the config is not asked", "!all_in(&config.numbers, &RANGES) || !anode.fits() || !cathode.fits()", "!anode.fits() || !cathode.fits()"),
+    ("new: the anode's sheet is not asked", "&RANGES) || !anode.fits() || !cathode.fits()", "&RANGES) || !cathode.fits()", BUILT),
+    ("new: the cathode's sheet is not asked", "&RANGES) || !anode.fits() || !cathode.fits()", "&RANGES) || !anode.fits()", BUILT),
+    ("ready cells: the config is not asked", "        met.when(2, !all_in(&config.numbers, &RANGES));\n", ""),
+    ("the config's count is not asked", "!nodes_fit(n) || self.anode.n != n", "self.anode.n != n"),
+    ("the anode's count is not asked", "|| self.anode.n != n ", ""),
+    ("the cathode's count is not asked", " || self.cathode.n != n", ""),
+    ("the config is not asked", "!all_in(&self.config.numbers, &RANGES) || !self.anode", "!self.anode"),
+    ("the anode is not asked", "!self.anode.fits() || ", ""),
+    ("the cathode is not asked", "!self.cathode.fits() || ", ""),
+    ("the clock is not asked", " || !clock(self.time_s)", ""),
+    ("the area is the cathode's", "let electrode_area = anode.params.area;", "let electrode_area = cathode.params.area;"),
+    ("step: the current is not asked", "        met.when(3, !load(current_a, MOST_CURRENT));\n", "", nth(1)),
+    ("step: the interval is not asked", "        met.when(4, !interval(dt));\n", ""),
+    ("step: the temperature is not asked", "        met.when(5, !TEMPERATURE.holds(temp_k));\n", "", nth(1)),
+    ("step: the anode's diffusivity is not asked", "!in_range(&made.anode) || ", ""),
+    ("step: the cathode's diffusivity is not asked", " || !in_range(&made.cathode)", ""),
+    ("step: 7 is not asked", "        met.when(7, q > MOST_SUB_STEPS);\n", ""),
+    ("step: an anode that is not finite", "&made.anode.c_s, ", "", FINITE),
+    ("step: a cathode that is not finite", "&made.cathode.c_s, ", "", FINITE),
+    ("step: a clock that is not finite", "&[made.time_s], ", "", FINITE),
+    ("step: a report that is not finite", ", &report.row()])?", "])?", FINITE),
+    ("report: the stoichiometries exchanged", "s.theta_neg, s.theta_pos, s.theta_neg_avg", "s.theta_pos, s.theta_neg, s.theta_neg_avg"),
+    ("report: the averages exchanged", "s.theta_neg_avg, s.theta_pos_avg", "s.theta_pos_avg, s.theta_neg_avg"),
+    ("report: cutoff the other way", "if s.cutoff { 1.0 } else { 0.0 }", "if s.cutoff { 0.0 } else { 1.0 }"),
+    ("report: a sub-step more", "word(self.sub_steps)", "word(self.sub_steps + 1)"),
+    ("ocv: the cell is not asked", "        self.met().refuse()?;\n        finite(self.spm().ocv())", "        finite(self.spm().ocv())"),
+    ("soc_estimate: the cell is not asked", "        self.met().refuse()?;\n        finite(self.spm().soc", "        finite(self.spm().soc"),
+    ("run: the length is not asked", "        met.when(10, places < ROW);\n", ""),
+    ("run: nine places at least", "places < ROW", "places <= ROW"),
+    ("run: the current is not asked", "        met.when(3, !load(current_a, MOST_CURRENT));\n", "", nth(2)),
+    ("run: the interval is not asked", "!interval(dt) || !max_time_s", "!max_time_s"),
+    ("run: the limit is not asked", " || !max_time_s.is_finite()", ""),
+    ("run: the temperature is not asked", "        met.when(5, !TEMPERATURE.holds(temp_k));\n", "", nth(2)),
+    (
+        "run: 6 and 7 are asked even if no step is due", "        let step = |cell: &Self| {",
+        "        if let Err(number) = self.step(current_a, dt, temp_k) {\n            return refused(self, number);\n        }\n        let step = |cell: &Self| {",
+    ),
+    ("run: its clock starts at the cell's", "fold(0.0, |t, _| t + dt)", "fold(self.time_s, |t, _| t + dt)"),
+    ("run: its clock is rows*dt", "(0..rows).fold(0.0, |t, _| t + dt)", "rows as f64 * dt"),
+    ("run: time is over after its limit", "!(own_clock(rows) < max_time_s)", "own_clock(rows) > max_time_s"),
+    ("run: a first step always", "max_time_s), true)", "max_time_s), false)"),
+]
+
+CALLS_ELECTROLYTE = [
+    ("regions of no node", "(1..=MOST_NODES)", "(0..=MOST_NODES)"),
+    ("regions of two nodes at least", "(1..=MOST_NODES)", "(2..=MOST_NODES)"),
+    ("regions of 31 nodes at most", "(1..=MOST_NODES)", "(1..MOST_NODES)"),
+    ("the counts are not asked", "met.when(1, !self.counts.iter().all(|n| (1..=MOST_NODES).contains(n)));", ""),
+    ("the anode's count is not asked", "!self.counts.iter().all", "!self.counts.iter().skip(1).all"),
+    ("the cathode's count is not asked", "!self.counts.iter().all", "!self.counts.iter().take(2).all"),
+    ("the lengths are not asked", "self.lengths.iter().all(|x| LENGTH.holds(*x)) && ", ""),
+    ("the porosities are not asked", " && self.porosities.iter().all(|x| POROSITY.holds(*x))", ""),
+    ("the parameters are not asked", "!self.params.fits() || !in_range", "!in_range"),
+    ("rates: the parameters are not asked", "!self.fits() || !POROSITY", "!POROSITY"),
+    ("rates: the porosity is not asked", " || !POROSITY.holds(porosity)", ""),
+    ("rates: the temperature is not asked", "        met.when(5, !TEMPERATURE.holds(temp_k));\n", "", nth(1)),
+    ("the places are not asked", "        met.when(2, !places(&self.c_e, used as usize, |x| FLOOR.holds(x)));\n", "        let _ = used;\n"),
+    ("n_total: the electrolyte is not asked", "        self.met().refuse()?;\n        Ok(", "        Ok("),
+    ("c_avg: the electrolyte is not asked", "        self.met().refuse()?;\n        finite(", "        finite("),
+    ("step: the anode's source is not asked", "!load(j_n_neg, MOST_SOURCE) || ", ""),
+    ("step: the cathode's source is not asked", " || !load(j_n_pos, MOST_SOURCE)", ""),
+    ("step: the interval is not asked", "        met.when(4, !interval(dt));\n", ""),
+    ("step: the temperature is not asked", "        met.when(5, !TEMPERATURE.holds(temp_k));\n", "", nth(2)),
+    ("dt_stable: the temperature is not asked", "        met.when(5, !TEMPERATURE.holds(temp_k));\n", "", nth(3)),
+    ("step: a profile that is not finite", "        finite_or_8(&[&moved.c_e])?;\n", ""),
+]
+
+CALLS_DFN = [
+    ("no particle in the anode", "(1..=MOST_X).contains(&n_x_neg)", "(0..=MOST_X).contains(&n_x_neg)"),
+    ("two in the anode at least", "(1..=MOST_X).contains(&n_x_neg)", "(2..=MOST_X).contains(&n_x_neg)"),
+    ("15 in the anode at most", "(1..=MOST_X).contains(&n_x_neg)", "(1..MOST_X).contains(&n_x_neg)"),
+    ("two in the cathode at least", "(1..=MOST_X).contains(&n_x_pos)", "(2..=MOST_X).contains(&n_x_pos)"),
+    ("15 in the cathode at most", "(1..=MOST_X).contains(&n_x_pos)", "(1..MOST_X).contains(&n_x_pos)"),
+    ("three nodes of a particle at least", "(2..=MOST_R)", "(3..=MOST_R)"),
+    ("31 nodes of a particle at most", "(2..=MOST_R)", "(2..MOST_R)"),
+    ("17 coefficients", "self.count <= MOST_COEFFICIENTS as u64", "self.count <= 1 + MOST_COEFFICIENTS as u64"),
+    ("15 coefficients at most", "self.count <= MOST_COEFFICIENTS as u64", "self.count < MOST_COEFFICIENTS as u64"),
+    ("the coefficients' values are not asked", " && places(&self.values, self.count as usize, |x| COEFFICIENT.holds(x))", ""),
+    ("the parameters' numbers are not asked", "all_in(&self.numbers, &RANGES) && self", "self"),
+    ("the anode's coefficients are not asked", " && self.ocv_neg.fits()", ""),
+    ("the cathode's coefficients are not asked", " && self.ocv_pos.fits()", ""),
+    ("new: the counts are not asked", "        met.when(1, !config.grid_fits());\n", ""),
+    ("new: the parameters are not asked", "!params.fits() || !config", "!config"),
+    ("new: the voltages are not asked", "|| !config.voltages.iter().all(|x| VOLTAGE.holds(*x))", ""),
+    ("the counts are not asked", "        met.when(1, !self.config.grid_fits());\n", ""),
+    ("the parameters are not asked", "self.params.fits()\n            && self", "self"),
+    ("the voltages are not asked", "            && self.config.voltages.iter().all(|x| VOLTAGE.holds(*x))\n", ""),
+    ("the anode's places are not asked", "            && solid(&self.c_s_neg, n_x_neg, self.params.numbers[6])\n", ""),
+    ("the cathode's places are not asked", "            && solid(&self.c_s_pos, n_x_pos, self.params.numbers[12])\n", ""),
+    ("the electrolyte's places are not asked", "            && places(&self.c_e, n_x_neg + 1 + n_x_pos, |x| CONCENTRATION.holds(x))\n", ""),
+    ("the clock is not asked", "\n            && clock(self.time_s);", ";"),
+    ("the anode's places up to the cathode's c_s_max", "n_x_neg, self.params.numbers[6]", "n_x_neg, self.params.numbers[12]"),
+    ("no solid place of 0", "range(0.0, c_s_max).holds(x)", "range(f64::from_bits(1), c_s_max).holds(x)"),
+    ("a solid place above c_s_max", "range(0.0, c_s_max).holds(x)", "range(0.0, c_s_max.next_up()).holds(x)"),
+    ("an electrolyte place fewer", "places(&self.c_e, n_x_neg + 1 + n_x_pos,", "places(&self.c_e, n_x_neg + n_x_pos,"),
+    ("what a step overwrites is asked", "&& clock(self.time_s);", "&& clock(self.time_s)\n            && self.overwritten.iter().all(|x| x.is_finite());"),
+    ("step: the current is not asked", "        met.when(3, !load(current_a, MOST_CURRENT));\n", "", nth(1)),
+    ("step: the interval is not asked", "        met.when(4, !interval(dt_s));\n", ""),
+    ("step: 5 for a temperature out of range", "met.when(2, !fields);", "met.when(if RANGES[24].holds(self.params.numbers[24]) { 2 } else { 5 }, !fields);"),
+    ("step: an anode that is not finite", "&next.c_s_neg, ", "", FINITE),
+    ("step: a cathode that is not finite", "&next.c_s_pos, ", "", FINITE),
+    ("step: an electrolyte that is not finite", "&next.c_e, ", ""),
+    ("step: a clock that is not finite", "&[next.time_s], ", "", FINITE),
+    ("step: overwritten fields that are not finite", "&next.overwritten, ", "", because("the report has the same numbers")),
+    (
+        "step: a report that is not finite", ", &report_row(&report)])?", "])?",
+        because("the overwritten fields have the same numbers, and the largest change passes over a NaN and is finite"),
+    ),
+    ("report: cutoff the other way", "if s.cutoff { 1.0 } else { 0.0 }", "if s.cutoff { 0.0 } else { 1.0 }"),
+    ("report: the stoichiometries exchanged", "s.theta_neg, s.theta_pos, s.delta", "s.theta_pos, s.theta_neg, s.delta"),
+    ("run: the length is not asked", "        met.when(10, places < ROW);\n", ""),
+    ("run: nine places at least", "places < ROW", "places <= ROW"),
+    ("run: the current is not asked", "        met.when(3, !load(current_a, MOST_CURRENT));\n", "", {"nth": 2, **FIRST_STEP}),
+    ("run: the interval is not asked", "!interval(dt_s) || !max_time_s", "!max_time_s", FIRST_STEP),
+    ("run: the limit is not asked", " || !max_time_s.is_finite()", ""),
+    ("run: time is over after its limit", "cell.time_s >= max_time_s", "cell.time_s > max_time_s"),
+    ("run: the clock is asked before the first step", "max_time_s, false)", "max_time_s, true)"),
+    ("run: its own clock", "cell.time_s >= max_time_s", "cell.time_s - self.time_s >= max_time_s"),
+]
+
+CALLS_DENSE = [
+    ("order 33", "n > MOST_ORDER", "n > MOST_ORDER + 1"),
+    ("order 31 at most", "n > MOST_ORDER", "n >= MOST_ORDER"),
+    ("the matrix's length is not asked", "a.len() as u64 != n * n || ", ""),
+    ("the right side's length is not asked", " || b.len() as u64 != n", ""),
+    ("10 is asked of a wrong order too", "n <= MOST_ORDER && (", "(", because("1 comes before 10")),
+    ("the matrix's entries are not asked", "!all_finite(a) || !all_finite(b)", "!all_finite(b)"),
+    ("the right side's entries are not asked", "!all_finite(a) || !all_finite(b)", "!all_finite(a)"),
+    ("8 for 9", "return Err(9);", "return Err(8);"),
+    ("a solution that is not finite", "    finite_or_8(&[&x])?;\n", ""),
+]
+
+
+CALLS_WORDS = [
+    ("array: a -0 at the end is left out", "bits(*x) != 0)", "*x != 0.0)"),
+    ("a NaN keeps its bits", "if x.is_nan() {", "if false {"),
+    ("flag: 0 for yes", "u64::from(b)", "u64::from(!b)"),
+]
+
+LIMIT = re.compile(r"range\((-?[\d._e-]+), (-?[\d._e-]+|f64::MAX)\)")
+
+
+def number(text):
+    return sys.float_info.max if text == "f64::MAX" else float(text.replace("_", ""))
+
+
+def limits(file, text):
+    """Both ends of each range one binary64 higher: the low end is refused then, and the number after the high end passes."""
+    names, seen = [], {}
+    for line in text.split("\n"):
+        doc = re.fullmatch(r"/// (\w+(?:, \w+)+)", line)
+        const = re.match(r"pub const (\w+)", line)
+        names = doc.group(1).split(", ") if doc else names
+        if const:
+            name, place = const.group(1), 0
+        for found in LIMIT.finditer(line):
+            old, low, high = found.group(0), *(number(end) for end in found.groups())
+            remark = re.search(r"// (\w+)$", line)
+            label = remark.group(1) if remark else names[place] if name == "RANGES" else name
+            place += 1
+            seen[old] = seen.get(old, 0) + 1
+            one = seen[old] if text.count(old) > 1 else None
+            yield Fault(file, f"{label}: its low end", old, f"range({as_rust(above(low))}, {as_rust(high)})", one, "")
+            yield Fault(file, f"{label}: above its high end", old, f"range({as_rust(low)}, {as_rust(above(high))})", one, "")
+
+
+def all_faults(texts):
+    """Every fault; `texts` has the right files by their names."""
+    tables = [
+        ("standins.rs", STANDINS),
+        ("sources/electrode.rs", ELECTRODE),
+        ("sources/electrolyte.rs", ELECTROLYTE),
+        ("sources/solver.rs", SOLVER),
+        ("sources/dfn.rs", DFN),
+        ("calls/table.rs", TABLE),
+        ("calls/runs.rs", RUNS),
+        ("calls/electrode.rs", CALLS_ELECTRODE),
+        ("calls/particle.rs", CALLS_PARTICLE),
+        ("calls/solver.rs", CALLS_SOLVER),
+        ("calls/electrolyte.rs", CALLS_ELECTROLYTE),
+        ("calls/dfn.rs", CALLS_DFN),
+        ("calls/dense.rs", CALLS_DENSE),
+        ("calls/words.rs", CALLS_WORDS),
+    ]
+    for file, rows in tables:
+        yield from listed(file, rows)
+        if file.startswith("calls/"):
+            yield from limits(file, texts[file])
