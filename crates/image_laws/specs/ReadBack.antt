@@ -224,10 +224,15 @@ number-read-back call s x y a = go (B.listed call 19) (B.lengths (length s) (num
 -- ---- the solution of linear equations, whose right side is a row of doubles
 pub solution-read-back : (m : List Float) (bits : List ℕ) (n : ℕ) (a : List ℕ) → B.denseNumber m (map f64 bits) n (length a) ≡ 0
     → placesAt 32 (B.denseAfter m (map f64 bits) n a) 0 ≡ solved m (map f64 bits) n .x
-unfolding B.denseNumber B.denseAfter written
-solution-read-back m bits n a h =
-    let r = solved m (map f64 bits) n in
-    let c = accepted a a 256 256 (r .refusal) (written (r .refusal) (putRow a 0 (r .x)) a) h in
-    let k = solved-encodable m (map f64 bits) n (doubles-encodable bits) in
-    ap (λ (b : List ℕ). placesAt 32 b 0) (c .writes)
-    ∙ (rw (eq-eqb (r .refusal) 0 (c .number)) (row-read-back 32 a 0 (r .x) (k .count) (rw (c .answer) (le-refl 256)) (k .places)))
+unfolding B.denseNumber B.denseAfter B.met written
+solution-read-back m bits n a = go (eqb (length a) 256) refl
+  where
+    go : (x : Bool) → eqb (length a) 256 ≡ x → B.denseNumber m (map f64 bits) n (length a) ≡ 0
+        → placesAt 32 (B.denseAfter m (map f64 bits) n a) 0 ≡ solved m (map f64 bits) n .x
+    go true e h =
+        let r = solved m (map f64 bits) n in
+        let l : length a ≡ 256 = eqb-true (length a) 256 e in
+        let z : r .refusal ≡ 0 = rw e at h in
+        let k = solved-encodable m (map f64 bits) n (doubles-encodable bits) in
+        rw (e, eq-eqb (r .refusal) 0 z) (row-read-back 32 a 0 (r .x) (k .count) (rw l (le-refl 256)) (k .places))
+    go false e h = let z : N.badLength ≡ 0 = rw e at h in absurd (omega (arith, z))

@@ -9,8 +9,7 @@ use lib.ListN.{length}
 use lib.Ieee.{Float}
 use borrow.Author.Needs.{needs}
 use borrow.Author.Tests.{le-leb, lt-leb, not-true, not-false}
-use Rattle.refusal.specs.Numbers as Numbers
-use Rattle.refusal.specs.Numbers.{grid, sheet, refusalUnless, firstMet}
+use Rattle.refusal.specs.Numbers.{grid, sheet, badLength, refusalUnless, firstMet}
 use Rattle.matrix_rows.specs.Places.{allFinite}
 use Rattle.dense.specs.Solve.{inputRefusal}
 use Rattle.dense.proofs.Sizes.{square-fits}
@@ -23,7 +22,7 @@ module _ (a b : List Float) (n : ℕ) where
   unfolding inputRefusal refusalUnless firstMet
   too-many h = rw (lt-leb n 32 h)
 
-  wrong-length : n ≤ 32 → (eqb (length a) (n * n) && eqb (length b) n) ≡ false → inputRefusal a b n ≡ Numbers.length
+  wrong-length : n ≤ 32 → (eqb (length a) (n * n) && eqb (length b) n) ≡ false → inputRefusal a b n ≡ badLength
   unfolding inputRefusal refusalUnless firstMet
   wrong-length h e = rw (le-leb n 32 h, e)
 
