@@ -23,7 +23,7 @@ module _ (a b : List Float) (n : ℕ) where
   unfolding inputRefusal refusalUnless firstMet
   too-many h = rw (lt-leb n 32 h)
 
-  wrong-length : n ≤ 32 → (eqb (length a) (n * n) && eqb (length b) n) ≡ false → inputRefusal a b n ≡ Numbers.length
+  wrong-length : n ≤ 32 → (eqb (length a) (n * n) && eqb (length b) n) ≡ false → inputRefusal a b n ≡ Numbers.badLength
   unfolding inputRefusal refusalUnless firstMet
   wrong-length h e = rw (le-leb n 32 h, e)
 
