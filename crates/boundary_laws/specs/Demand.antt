@@ -5,6 +5,7 @@ use mathlib.Core.Path.{_≡_, sym, _∙_, subst}
 use mathlib.Core.List.{List}
 use native.Mathlib.Omega.{arith}
 use lib.ListN.{length}
+use Rattle.image_laws.specs.CellImages.{particleIn}
 use Rattle.fraction.specs.Fraction.{nat, pow2, _+F_, _-F_, _*F_, _/F_, _≤F_, _within_}
 use Rattle.binary64.specs.Value.{val}
 use Rattle.diffusion.specs.Calls as DF
@@ -18,7 +19,7 @@ use Rattle.solver_laws.specs.Demand as SD
 use Rattle.solver_laws.specs.Ranking.{Paired, Twins, Ranked, solver-ranking}
 use Rattle.cell_images.specs.Images.{cellAt}
 use Rattle.boundary_laws.specs.CallLists.{CCall, imageAfter, acceptedCalls, wellFormed}
-use Rattle.boundary_laws.specs.StepLists.{particleIn, particleSteps, cellSteps, particle-simulates, reportedSubSteps, cell-simulates}
+use Rattle.boundary_laws.specs.StepLists.{particleSteps, cellSteps, particle-simulates, reportedSubSteps, cell-simulates}
 use Rattle.boundary_laws.specs.Nodes.{nodeOf, nodeAt, mostAt, particle-nodes, cell-nodes, node-below}
 
 -- ---- a particle: lists of `pj_particle_step`

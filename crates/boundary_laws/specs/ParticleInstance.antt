@@ -23,12 +23,12 @@ use Rattle.image_builds.specs.Builds.{particleMade, newNumber, buildLength, bui
 use Rattle.boundary.specs.Calls as B
 use Rattle.image_laws.specs.Words.{word-read-back}
 use Rattle.image_laws.specs.Rows.{writes-word, same-below}
-use Rattle.image_laws.specs.CellImages.{EncodableSheet, writes-sheet, sheet-same, sheet-read-back}
+use Rattle.image_laws.specs.CellImages.{particleIn, EncodableSheet, writes-sheet, sheet-same, sheet-read-back}
 use Rattle.image_laws.specs.CellBuilds.{graphite-encodable}
 use Rattle.image_laws.specs.AnswerLengths.{particle-build-length}
 use Rattle.image_laws.specs.ReadBack.{particle-build-read-back}
 use Rattle.boundary_laws.specs.CallLists.{CCall, imageAfter, acceptedCalls, wellFormed}
-use Rattle.boundary_laws.specs.StepLists.{particleIn, particleSteps, particle-simulates}
+use Rattle.boundary_laws.specs.StepLists.{particleSteps, particle-simulates}
 use Rattle.boundary_laws.specs.Nodes.{nodeOf}
 use Rattle.boundary_laws.specs.Demand.{ParticleKept, particle-images-near}
 use Rattle.boundary_laws.specs.Instance.{zeros, zeros-length, calls}

@@ -21,12 +21,12 @@ use Rattle.electrolyte.specs.Calls as E
 use Rattle.electrolyte.specs.Again.{step-kept}
 use Rattle.dfn.specs.Step as D
 use Rattle.codec.specs.Words.{wordAt}
-use Rattle.sheet_images.specs.Images.{particleAt}
 use Rattle.cell_images.specs.Images.{cellAt}
 use Rattle.electrolyte_images.specs.Images.{electrolyteAt}
 use Rattle.porous_images.specs.Images as I
 use Rattle.cell_calls.specs.Steps as CS
 use Rattle.porous_calls.specs.Steps as PS
+use Rattle.image_laws.specs.CellImages.{particleIn}
 use Rattle.boundary.specs.Calls as B
 use Rattle.image_laws.specs.DfnRuns.{dfn-step-refused}
 use Rattle.image_laws.specs.AnswerLengths.{particle-step-length, cell-step-length, electrolyte-step-length, dfn-step-length}
@@ -48,10 +48,6 @@ pub record DfnCall : Type 0 where
 
 abbrev pub current : DfnCall → Float
 current q = f64 (q .bits)
-
--- the image of a particle is read at its first word
-abbrev pub particleIn : List ℕ → ParticleDiffusion
-particleIn s = particleAt s 0
 
 -- ---- what C sees of a step, by the definitions that the contract of the call cites; and the step, by the definition that the contract of `step` cites
 abbrev pub particleSteps : Calls 600 particleIn PD.Call

@@ -15,7 +15,6 @@ use Rattle.places.specs.Places.{placesBy}
 use Rattle.codec.specs.Words.{floatAt, placesAt}
 
 infixr 40 _∷ᵉ_
-
 -- each place is a number that binary64 holds
 pub record EncodableRow (c : List Float) : Type 0 where
   pub place : (i : ℕ) → T (fits binary64 (getD c i nan))

@@ -2,6 +2,7 @@ pub mod Accepted
 pub mod Words
 pub mod Encodable
 pub mod Rows
+pub mod Layout
 pub mod CellImages
 pub mod Reports
 pub mod ElectrolyteImages
