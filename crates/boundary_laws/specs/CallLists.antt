@@ -148,6 +148,13 @@ module _ {C Q : Type 0} {size : ℕ} {read : List ℕ → C} (b : Calls size rea
               let d = step-of s q l e in
               rw (e, reported-one s q l e, ih (imageNext s q) (d .fills), d .reads)
 
+-- ON AN IMAGE OF ANOTHER LENGTH, where a kind of call is refused for it, every call is, and the image stays
+module _ {C Q : Type 0} {size : ℕ} {read : List ℕ → C} (b : Calls size read Q) (refused : (s : List ℕ) (q : Q) (a : List ℕ) → eqb (length s) size ≡ false → b .handed s q a ≡ false) where
+  pub image-stays : (qs : List (CCall Q)) (s : List ℕ) → eqb (length s) size ≡ false → imageAfter b s qs ≡ s
+  unfolding imageAfter imageNext
+  image-stays [] s n = refl
+  image-stays (q ∷ qs) s n = rw (refused s (q .call) (q .answer) n) (image-stays qs s n)
+
 -- ---- calls of two kinds in one list
 module _ {C Q Q' : Type 0} {size : ℕ} {read : List ℕ → C} (b : Calls size read Q) (b' : Calls size read Q') where
   abbrev pub orElse : Calls size read (Q ⊎ Q')

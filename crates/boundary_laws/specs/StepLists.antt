@@ -31,7 +31,7 @@ use Rattle.boundary.specs.Calls as B
 use Rattle.image_laws.specs.DfnRuns.{dfn-step-refused}
 use Rattle.image_laws.specs.AnswerLengths.{particle-step-length, cell-step-length, electrolyte-step-length, dfn-step-length}
 use Rattle.image_laws.specs.ReadBack.{particle-step-read-back, cell-step-read-back, sub-steps-read-back, electrolyte-step-read-back, dfn-step-read-back}
-use Rattle.boundary_laws.specs.CallLists.{Calls, CCall, imageNext, imageAfter, acceptedCalls, reported, wellFormed, recordAfter, accepted, total, Implements, simulates, reported-is, plain-implements}
+use Rattle.boundary_laws.specs.CallLists.{Calls, CCall, imageAfter, acceptedCalls, reported, wellFormed, recordAfter, accepted, total, Implements, simulates, reported-is, image-stays, plain-implements}
 
 -- ---- the calls
 -- of an electrolyte
@@ -233,8 +233,17 @@ cell-simulates qs s l =
           ∙ cell-total w (cellAt s);
     }
 
--- on an image of another length every call is refused, and the image stays
-pub no-cell-image : (qs : List (CCall SD.Call)) (s : List ℕ) → eqb (length s) 1256 ≡ false → imageAfter cellSteps s qs ≡ s
-unfolding imageAfter imageNext B.cellNumber B.met
-no-cell-image [] s n = refl
-no-cell-image (q ∷ qs) s n = rw n (no-cell-image qs s n)
+-- ---- on an image of another length every call is refused, and the image stays
+particle-refused : (s : List ℕ) (q : PD.Call) (a : List ℕ) → eqb (length s) 600 ≡ false → particleSteps .handed s q a ≡ false
+unfolding B.particleNumber B.met
+particle-refused s q a n = rw n
+
+pub particle-image-stays : (qs : List (CCall PD.Call)) (s : List ℕ) → eqb (length s) 600 ≡ false → imageAfter particleSteps s qs ≡ s
+particle-image-stays = image-stays particleSteps particle-refused
+
+cell-refused : (s : List ℕ) (q : SD.Call) (a : List ℕ) → eqb (length s) 1256 ≡ false → cellSteps .handed s q a ≡ false
+unfolding B.cellNumber B.met
+cell-refused s q a n = rw n
+
+pub cell-image-stays : (qs : List (CCall SD.Call)) (s : List ℕ) → eqb (length s) 1256 ≡ false → imageAfter cellSteps s qs ≡ s
+cell-image-stays = image-stays cellSteps cell-refused
