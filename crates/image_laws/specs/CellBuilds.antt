@@ -7,7 +7,7 @@ use native.Mathlib.Omega.{arith}
 use native.Mathlib.Nat.{zero-lt-suc}
 use lib.Dec.{T, eqb}
 use lib.ListN.{length}
-use lib.Ieee.{binary64}
+use lib.Ieee.{binary64, fits, neg, ofBits}
 use lib.Ieee.Bits.{ofBits-fits}
 use lib.Ieee.Fits.{mul-fits, and-l, and-r}
 use borrow.Author.Tests.{eq-eqb, ne-eqb, le-leb, lt-leb}
@@ -32,7 +32,7 @@ use Rattle.boundary.specs.Calls as B
 use Rattle.boundary.specs.Calls.{lengths, met}
 use Rattle.image_builds.specs.Builds.{buildLength, builtLength, particleMade, cellBuilt, newNumber, newAfter}
 use Rattle.image_laws.specs.Accepted.{inputs-pass, accepted-is}
-use Rattle.image_laws.specs.Encodable.{EncodableRow, []ᵉ, _∷ᵉ_, filled-encodable, filled-length, literal}
+use Rattle.image_laws.specs.Encodable.{EncodableRow, allFit, closed-row, filled-encodable, filled-length}
 use Rattle.image_laws.specs.Layout.{Holds, holds-alone}
 use Rattle.image_laws.specs.CellImages.{EncodableSheet, EncodableParticle, configNumbers, EncodableCell, particleIn, particle-layout, cell-layout}
 use Rattle.image_laws.specs.CellEncodable.{sheetAt-row, sheet-encodable, configAt-row}
@@ -95,16 +95,16 @@ module _ (g : SpmConfig) (a c : ElectrodeParams) (hg : EncodableRow (configNumbe
 
 -- the ready sheets
 pub graphite-encodable : EncodableRow (sheetNumbers graphiteAnode)
-unfolding graphiteAnode
-graphite-encodable = literal _ ∷ᵉ literal _ ∷ᵉ literal _ ∷ᵉ literal _ ∷ᵉ literal _ ∷ᵉ literal _ ∷ᵉ literal _ ∷ᵉ literal _ ∷ᵉ literal _ ∷ᵉ []ᵉ
+unfolding graphiteAnode allFit fits neg ofBits
+graphite-encodable = closed-row (sheetNumbers graphiteAnode) tt
 
 pub lfp-encodable : EncodableRow (sheetNumbers lfpCathode)
-unfolding lfpCathode
-lfp-encodable = literal _ ∷ᵉ literal _ ∷ᵉ literal _ ∷ᵉ literal _ ∷ᵉ literal _ ∷ᵉ literal _ ∷ᵉ literal _ ∷ᵉ literal _ ∷ᵉ literal _ ∷ᵉ []ᵉ
+unfolding lfpCathode allFit fits neg ofBits
+lfp-encodable = closed-row (sheetNumbers lfpCathode) tt
 
 pub nmc-encodable : EncodableRow (sheetNumbers nmcCathode)
-unfolding nmcCathode
-nmc-encodable = literal _ ∷ᵉ literal _ ∷ᵉ literal _ ∷ᵉ literal _ ∷ᵉ literal _ ∷ᵉ literal _ ∷ᵉ literal _ ∷ᵉ literal _ ∷ᵉ literal _ ∷ᵉ []ᵉ
+unfolding nmcCathode allFit fits neg ofBits
+nmc-encodable = closed-row (sheetNumbers nmcCathode) tt
 
 built-cell : (call : ℕ) (s : List ℕ) → cellBuilt call s .refusal ≡ 0 → EncodableCell (cellBuilt call s .solver)
 unfolding cellBuilt
@@ -124,12 +124,28 @@ module _ (call : ℕ) (s a : List ℕ) (m : 8 ≤ call) (n : call ≤ 10) where
   pub cell-build-number : B.buildNumber call s (length a) ≡ met (lengths (length s) (buildLength call) (length a) 1256) (newNumber call s)
   unfolding B.buildNumber builtLength
   cell-build-number =
-      rw (le-leb 1 call (omega (arith, m)), le-leb call 12 (omega (arith, n)), lt-leb call 3 (omega (arith, m)), ne-eqb call 4 (λ (e : call ≡ 4). omega (arith, m, e)), lt-leb call 6 (omega (arith, m)), not-particle, le-leb call 10 n)
+      rw (
+        le-leb 1 call (omega (arith, m)),
+        le-leb call 12 (omega (arith, n)),
+        lt-leb call 3 (omega (arith, m)),
+        ne-eqb call 4 (λ (e : call ≡ 4). omega (arith, m, e)),
+        lt-leb call 6 (omega (arith, m)),
+        not-particle,
+        le-leb call 10 n,
+      )
 
   pub cell-build-after : B.buildAfter call s a ≡ cond (lengths (length s) (buildLength call) (length a) 1256) (newAfter call s a) a
   unfolding B.buildAfter builtLength
   cell-build-after =
-      rw (le-leb 1 call (omega (arith, m)), le-leb call 12 (omega (arith, n)), lt-leb call 3 (omega (arith, m)), ne-eqb call 4 (λ (e : call ≡ 4). omega (arith, m, e)), lt-leb call 6 (omega (arith, m)), not-particle, le-leb call 10 n)
+      rw (
+        le-leb 1 call (omega (arith, m)),
+        le-leb call 12 (omega (arith, n)),
+        lt-leb call 3 (omega (arith, m)),
+        ne-eqb call 4 (λ (e : call ≡ 4). omega (arith, m, e)),
+        lt-leb call 6 (omega (arith, m)),
+        not-particle,
+        le-leb call 10 n,
+      )
 
   pub cell-number : newNumber call s ≡ cellBuilt call s .refusal
   unfolding newNumber

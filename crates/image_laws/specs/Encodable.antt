@@ -1,13 +1,13 @@
 -- What an image can hold of a row: numbers of binary64, the NaN among them. Assumes nothing.
 use Prim.Native.Nat.{ℕ, zero, suc, _+_}
 use mathlib.Core.Path.{_≡_, _∙_}
-use mathlib.Core.Bool.{cond, _||_}
+use mathlib.Core.Bool.{Bool, true, cond, _&&_, _||_}
 use mathlib.Core.List.{List, [], _∷_}
 use lib.Dec.{T}
 use lib.ListN.{length, getD, set, replicate, length-replicate}
 use lib.Ieee.{Float, nan, inf, fin, isNan, lt, binary64, fits, ofBits}
 use lib.Ieee.Bits.{ofBits-fits}
-use lib.Ieee.Fits.{nan-fits, cond-fits}
+use lib.Ieee.Fits.{nan-fits, cond-fits, and-l, and-r}
 use Rattle.binary64.specs.Operators.{f64}
 use Rattle.choice.specs.Choice.{absOf, clampOf, maxOf}
 use Rattle.turns.specs.Turns.{firstBy, first-length}
@@ -28,6 +28,16 @@ _∷ᵉ_ {x} {c} f h = record { place = go }
     go : (i : ℕ) → T (fits binary64 (getD (x ∷ c) i nan))
     go zero = f
     go (suc i) = h .place i
+
+-- a row of closed numbers, by computation
+unfoldable pub allFit : List Float → Bool
+allFit [] = true
+allFit (x ∷ c) = fits binary64 x && allFit c
+
+pub closed-row : (c : List Float) → T (allFit c) → EncodableRow c
+unfolding allFit
+closed-row [] h = []ᵉ
+closed-row (x ∷ c) h = and-l (fits binary64 x) (allFit c) h ∷ᵉ closed-row c (and-r (fits binary64 x) (allFit c) h)
 
 -- ---- what is made of a row
 pub tail-encodable : {x : Float} {c : List Float} → EncodableRow (x ∷ c) → EncodableRow c
