@@ -1,5 +1,5 @@
--- LISTS OF CALLS FROM C: each call is handed the image that the last answer begins with, refused calls and wrong lengths change nothing, and the record of the last image is the record
--- after the same list of calls by their definitions. One law for every kind of call. Assumes nothing.
+-- LISTS OF CALLS FROM C: each call is handed the image that the last answer begins with, refused calls and wrong lengths change nothing, and the record of the
+-- last image is the record after the same list of calls by their definitions. One law for every kind of call. Assumes nothing.
 use Prim.Native.Nat.{ℕ, _+_}
 use mathlib.Core.Path.{_≡_, refl, sym, ap, _∙_}
 use mathlib.Core.Bool.{Bool, true, false, cond}
@@ -12,8 +12,8 @@ use lib.ListN.{length, take}
 use Rattle.refusal.specs.Numbers as N
 use Rattle.boundary.specs.Calls.{met}
 
--- A kind of call on images of `size` bytes that `read` reads as a record. What C sees, by the definitions that the contracts cite: what a call returns, what it leaves in its answer, and
--- whether that begins with a new image. What the call is: its number and the next record, by the record.
+-- A kind of call on images of `size` bytes that `read` reads as a record. What C sees, by the definitions that the contracts cite: what a call returns, what it
+-- leaves in its answer, and whether that begins with a new image. What the call is: its number and the next record, by the record.
 pub record Calls {C : Type 0} (size : ℕ) (read : List ℕ → C) (Q : Type 0) : Type 0 where
   pub formed : Q → List ℕ → Bool
   pub returned : List ℕ → Q → List ℕ → ℕ

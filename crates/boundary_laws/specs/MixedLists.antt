@@ -1,5 +1,5 @@
--- LISTS THAT MIX BUILDS, STEPS AND RUNS of C. A build replaces the record; a run hands on the cell after its finished rows, also where it is refused after a row; a refused call changes
--- nothing. The record of the last image is the record after the same calls. Assumes nothing.
+-- LISTS THAT MIX BUILDS, STEPS AND RUNS of C. A build replaces the record; a run hands on the cell after its finished rows, also where it is refused after a
+-- row; a refused call changes nothing. The record of the last image is the record after the same calls. Assumes nothing.
 use Prim.Native.Nat.{ℕ}
 use mathlib.Core.Path.{_≡_}
 use mathlib.Core.Logic.{_⊎_}

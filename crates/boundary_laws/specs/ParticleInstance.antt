@@ -1,5 +1,5 @@
--- A worked instance of theorem 1 of calls from C, every premise met: the ready graphite sheet and 11 nodes, the particle that `pj_build` 7 makes of them, and a list of `pj_particle_step`, two
--- calls that are refused and one with an answer a byte short among three that are accepted. Answers are zeros. Assumes nothing.
+-- A worked instance of theorem 1 of calls from C, every premise met: the ready graphite sheet and 11 nodes, the particle that `pj_build` 7 makes of them, and a
+-- list of `pj_particle_step`, two calls that are refused and one with an answer a byte short among three that are accepted. Answers are zeros. Assumes nothing.
 use Prim.Native.Nat.{ℕ, _<_}
 use mathlib.Core.Path.{_≡_, refl, ap, _∙_, subst}
 use mathlib.Core.List.{List, [], _∷_}

@@ -1,4 +1,5 @@
--- Lists of one step of C: `pj_particle_step`, `pj_cell_step`, `pj_electrolyte_step`, `pj_dfn_step`. The record of the last image is the record after the same steps. Assumes nothing.
+-- Lists of one step of C: `pj_particle_step`, `pj_cell_step`, `pj_electrolyte_step`, `pj_dfn_step`. The record of the last image is the record after the same
+-- steps. Assumes nothing.
 use Prim.Native.Nat.{ℕ, zero, suc, _<_}
 use mathlib.Core.Path.{_≡_, refl, ap, _∙_}
 use mathlib.Core.Bool.{false}
@@ -132,7 +133,8 @@ cell-steps-implement =
       refused-keeps = λ c q n. SC.step-refused c (q .current) (q .dt) (q .temp) n .0;
     })
 
-electrolyte-returned : (s : List ℕ) (q : ElectrolyteCall) (a : List ℕ) → length s ≡ 896 → electrolyteSteps .returned s q a ≡ B.met (eqb (length a) 896) (electrolyteSteps .number (electrolyteAt s) q)
+electrolyte-returned : (s : List ℕ) (q : ElectrolyteCall) (a : List ℕ) → length s ≡ 896
+    → electrolyteSteps .returned s q a ≡ B.met (eqb (length a) 896) (electrolyteSteps .number (electrolyteAt s) q)
 unfolding B.electrolyteNumber PS.electrolyteNumber
 electrolyte-returned s q a l = rw (eq-eqb (length s) 896 l)
 

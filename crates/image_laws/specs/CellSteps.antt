@@ -90,7 +90,8 @@ module _ (s : List ℕ) (i dt t : Float) (a : List ℕ) (h : cellNumber s i dt t
 
   pub cell-answer : Holds 157 cellAt a (cellAfter s i dt t a) (S.stepped (cellAt s) i dt t .solver)
   cell-answer =
-      rw answer-is (holds cell-layout a (after .solver) stepped-cell (rw l (lit≤ tt)) (putReport new (after .state) (after .«sub_steps»)) 166 (writes-cell-report new (after .state) (after .«sub_steps»)))
+      rw answer-is
+      (holds cell-layout a (after .solver) stepped-cell (rw l (lit≤ tt)) (putReport new (after .state) (after .«sub_steps»)) 166 (writes-cell-report new (after .state) (after .«sub_steps»)))
 
   pub sub-steps-answer : wordAt (cellAfter s i dt t a) 165 ≡ S.stepped (cellAt s) i dt t .«sub_steps»
   sub-steps-answer =

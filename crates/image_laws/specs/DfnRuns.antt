@@ -102,7 +102,8 @@ module _ (d : DfnSolver) (i dt limit : Float) (places : ℕ) where
   unfolding galvanostatic
   written-run = go (runRefusal d (feedOf i dt limit) places) refl
     where
-      go : (k : ℕ) → runRefusal d (feedOf i dt limit) places ≡ k → T (told (galvanostatic d i dt limit places .ended .refusal) (galvanostatic d i dt limit places .rows)) → runRefusal d (feedOf i dt limit) places ≡ 0
+      go : (k : ℕ) → runRefusal d (feedOf i dt limit) places ≡ k → T (told (galvanostatic d i dt limit places .ended .refusal) (galvanostatic d i dt limit places .rows))
+          → runRefusal d (feedOf i dt limit) places ≡ 0
       go zero e t = e
       go (suc k) e t = absurd (rw (e, eqb·suc-zero k, eqb·suc-zero k) at t)
 

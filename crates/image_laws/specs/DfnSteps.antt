@@ -1,4 +1,5 @@
--- The answer of an accepted step of a Doyle-Fuller-Newman cell is read back as what `stepped` gives. The cell and the report hold the current, a number of binary64. Assumes nothing.
+-- The answer of an accepted step of a Doyle-Fuller-Newman cell is read back as what `stepped` gives. The cell and the report hold the current, a number of
+-- binary64. Assumes nothing.
 use Prim.Native.Nat.{ℕ}
 use mathlib.Core.Path.{_≡_, refl, ap, _∙_}
 use mathlib.Core.List.{List}

@@ -95,7 +95,8 @@ unfolding floatAt
 float-encodable s k = ofBits-fits binary64 _
 
 pub places-encodable : (n : ℕ) (s : List ℕ) (at : ℕ) → EncodableRow (placesAt n s at)
-places-encodable n s at = first-encodable n (λ k. floatAt s (at + k)) (replicate n (ofBits binary64 0)) (λ i. float-encodable s (at + i)) (copies-encodable n (ofBits binary64 0) (ofBits-fits binary64 0))
+places-encodable n s at =
+    first-encodable n (λ k. floatAt s (at + k)) (replicate n (ofBits binary64 0)) (λ i. float-encodable s (at + i)) (copies-encodable n (ofBits binary64 0) (ofBits-fits binary64 0))
 
 pub places-count : (n : ℕ) (s : List ℕ) (at : ℕ) → length (placesAt n s at) ≡ n
 places-count n s at = first-length (λ k. floatAt s (at + k)) (replicate n (ofBits binary64 0)) n ∙ length-replicate n (ofBits binary64 0)

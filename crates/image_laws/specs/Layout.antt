@@ -1,5 +1,5 @@
--- THE LAW OF ANSWERS, for every record that an answer begins with: where the record can be encoded and the answer has room, it is read back from it, and from its first bytes alone,
--- whatever is written after it; and the answer keeps its length. Assumes nothing.
+-- THE LAW OF ANSWERS, for every record that an answer begins with: where the record can be encoded and the answer has room, it is read back from it, and from
+-- its first bytes alone, whatever is written after it; and the answer keeps its length. Assumes nothing.
 use Prim.Native.Nat.{ℕ, _≤_, _*_}
 use mathlib.Core.Path.{_≡_, refl, _∙_}
 use mathlib.Core.List.{List}

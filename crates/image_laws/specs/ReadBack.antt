@@ -1,5 +1,6 @@
--- WHAT IS WRITTEN IS READ BACK, for each call from C that returns 0: the record, the report, the number or the solution in its answer is the one that the call's definition gives. That the
--- call returns 0 is the only premise: then its lengths are right. A number that an answer repeats is given by its 64 bits, as C gives it (`f64 bits`). Assumes nothing.
+-- WHAT IS WRITTEN IS READ BACK, for each call from C that returns 0: the record, the report, the number or the solution in its answer is the one that the
+-- call's definition gives. That the call returns 0 is the only premise: then its lengths are right. A number that an answer repeats is given by its 64 bits, as
+-- C gives it (`f64 bits`). Assumes nothing.
 use Prim.Native.Nat.{ℕ, _≤_, _<_, _^_}
 use mathlib.Core.Path.{sym, _≡_, refl, ap, _∙_}
 use mathlib.Core.Bool.{Bool, true, false}
