@@ -21,7 +21,7 @@ CITING = [PAGE, TOP / "CONTRIBUTING.md"]
 # The groups: what each holds, and its colours (panel, line, text).
 GROUPS = {
     "numerics": ("numbers exact and rounded, loops and rows, the tests that refuse a number", "#eef3fb", "#7c9ccc", "#23497f"),
-    "model": ("the cells of document 01: single-particle, electrolyte, Doyle-Fuller-Newman, their runs", "#eef8ee", "#7fb583", "#22642a"),
+    "model": ("the cells: single-particle, electrolyte, Doyle-Fuller-Newman, their runs", "#eef8ee", "#7fb583", "#22642a"),
     "boundary": ("the calls from C, on images of the records", "#fdf4e7", "#d6a55c", "#7d4e09"),
     "laws": ("what is proved beyond the contracts; no code", "#f6effa", "#ab86c6", "#5d2f80"),
     "programs": ("a discharge as rows; the replay of the oracle's list", "#fbeeee", "#cf8b8b", "#8a2b2b"),

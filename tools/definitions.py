@@ -240,7 +240,7 @@ def page():
         "# What a reader must believe",
         "",
         "<!-- made by tools/definitions.py --write -->",
-        "A contract or a theorem says what its words mean, and the definitions below are what they mean: this is the text to hold beside document 01. The",
+        "A contract or a theorem says what its words mean, and the definitions below are what they mean: this is the text to hold beside REFERENCE.md. The",
         "checker proves the rest, so laws and proofs may be left unread. Names are followed from the contracts of the library crates' public functions",
         f"({functions}, of which {calls} are called from C) and from the statements of the theorems that CLAIMS.md cites ({len(theorems)}), through each definition's own text.",
         "",

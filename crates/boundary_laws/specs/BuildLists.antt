@@ -12,12 +12,13 @@ use Rattle.cell_images.specs.Images.{cellAt}
 use Rattle.electrolyte_images.specs.Images.{electrolyteAt}
 use Rattle.porous_images.specs.Images as I
 use Rattle.image_builds.specs.Builds.{buildLength, builtLength, newNumber, particleMade, cellBuilt, electrolyteBuilt, dfnMade}
+use Rattle.image_laws.specs.CellImages.{particleIn}
 use Rattle.boundary.specs.Calls as B
 use Rattle.image_laws.specs.CellBuilds.{cell-build-number, cell-number}
 use Rattle.image_laws.specs.AnswerLengths.{particle-build-length, cell-build-length, electrolyte-build-length, dfn-build-length}
 use Rattle.image_laws.specs.ReadBack.{particle-build-read-back, cell-build-read-back, electrolyte-build-read-back, dfn-build-read-back}
 use Rattle.boundary_laws.specs.CallLists.{Calls, Implements, plain-implements}
-use Rattle.boundary_laws.specs.StepLists.{particleIn, whole}
+use Rattle.boundary_laws.specs.StepLists.{whole}
 
 -- ---- builds
 -- 7, 11 and 12 of `pj_build`: the image that is handed in

@@ -1,5 +1,5 @@
--- LISTS OF CALLS FROM C: each call is handed the image that the last answer begins with, refused calls and wrong lengths change nothing, and the record of the last image is the record
--- after the same list of calls by their definitions. One law for every kind of call. Assumes nothing.
+-- LISTS OF CALLS FROM C: each call is handed the image that the last answer begins with, refused calls and wrong lengths change nothing, and the record of the
+-- last image is the record after the same list of calls by their definitions. One law for every kind of call. Assumes nothing.
 use Prim.Native.Nat.{ℕ, _+_}
 use mathlib.Core.Path.{_≡_, refl, sym, ap, _∙_}
 use mathlib.Core.Bool.{Bool, true, false, cond}
@@ -12,8 +12,8 @@ use lib.ListN.{length, take}
 use Rattle.refusal.specs.Numbers as N
 use Rattle.boundary.specs.Calls.{met}
 
--- A kind of call on images of `size` bytes that `read` reads as a record. What C sees, by the definitions that the contracts cite: what a call returns, what it leaves in its answer, and
--- whether that begins with a new image. What the call is: its number and the next record, by the record.
+-- A kind of call on images of `size` bytes that `read` reads as a record. What C sees, by the definitions that the contracts cite: what a call returns, what it
+-- leaves in its answer, and whether that begins with a new image. What the call is: its number and the next record, by the record.
 pub record Calls {C : Type 0} (size : ℕ) (read : List ℕ → C) (Q : Type 0) : Type 0 where
   pub formed : Q → List ℕ → Bool
   pub returned : List ℕ → Q → List ℕ → ℕ
@@ -147,6 +147,13 @@ module _ {C Q : Type 0} {size : ℕ} {read : List ℕ → C} (b : Calls size rea
           go true e ih =
               let d = step-of s q l e in
               rw (e, reported-one s q l e, ih (imageNext s q) (d .fills), d .reads)
+
+-- ON AN IMAGE OF ANOTHER LENGTH, where a kind of call is refused for it, every call is, and the image stays
+module _ {C Q : Type 0} {size : ℕ} {read : List ℕ → C} (b : Calls size read Q) (refused : (s : List ℕ) (q : Q) (a : List ℕ) → eqb (length s) size ≡ false → b .handed s q a ≡ false) where
+  pub image-stays : (qs : List (CCall Q)) (s : List ℕ) → eqb (length s) size ≡ false → imageAfter b s qs ≡ s
+  unfolding imageAfter imageNext
+  image-stays [] s n = refl
+  image-stays (q ∷ qs) s n = rw (refused s (q .call) (q .answer) n) (image-stays qs s n)
 
 -- ---- calls of two kinds in one list
 module _ {C Q Q' : Type 0} {size : ℕ} {read : List ℕ → C} (b : Calls size read Q) (b' : Calls size read Q') where

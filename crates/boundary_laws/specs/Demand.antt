@@ -1,10 +1,12 @@
--- THEOREMS 1, 2 AND 3 OF THE THIRD DEMAND, OF CALLS FROM C. An image of the right length whose record passes the checks, and any list of calls, each handed the last accepted answer, refused
--- calls and answers of wrong lengths among them: the nodes are words of the last image, the accepted calls those that return 0, the sub-steps those that the answers report. Assumes nothing.
+-- THEOREMS 1, 2 AND 3 OF THE THIRD DEMAND, OF CALLS FROM C. An image of the right length whose record passes the checks, and any list of calls, each handed the
+-- last accepted answer, refused calls and answers of wrong lengths among them: the nodes are words of the last image, the accepted calls those that return 0,
+-- the sub-steps those that the answers report. Assumes nothing.
 use Prim.Native.Nat.{ℕ, _<_}
 use mathlib.Core.Path.{_≡_, sym, _∙_, subst}
 use mathlib.Core.List.{List}
 use native.Mathlib.Omega.{arith}
 use lib.ListN.{length}
+use Rattle.image_laws.specs.CellImages.{particleIn}
 use Rattle.fraction.specs.Fraction.{nat, pow2, _+F_, _-F_, _*F_, _/F_, _≤F_, _within_}
 use Rattle.binary64.specs.Value.{val}
 use Rattle.diffusion.specs.Calls as DF
@@ -18,7 +20,7 @@ use Rattle.solver_laws.specs.Demand as SD
 use Rattle.solver_laws.specs.Ranking.{Paired, Twins, Ranked, solver-ranking}
 use Rattle.cell_images.specs.Images.{cellAt}
 use Rattle.boundary_laws.specs.CallLists.{CCall, imageAfter, acceptedCalls, wellFormed}
-use Rattle.boundary_laws.specs.StepLists.{particleIn, particleSteps, cellSteps, particle-simulates, reportedSubSteps, cell-simulates}
+use Rattle.boundary_laws.specs.StepLists.{particleSteps, cellSteps, particle-simulates, reportedSubSteps, cell-simulates}
 use Rattle.boundary_laws.specs.Nodes.{nodeOf, nodeAt, mostAt, particle-nodes, cell-nodes, node-below}
 
 -- ---- a particle: lists of `pj_particle_step`
@@ -47,7 +49,8 @@ particle-images-pass s qs l h = rw (particle-simulates qs s l .particle) (PD.aft
 abbrev pub CellKept : Electrode → List ℕ → List (CCall SD.Call) → Type 0
 CellKept e s qs = Each (λ q. Kept (SD.numbersAt e (cellAt s) q)) (acceptedCalls cellSteps s qs)
 
--- THEOREM 2. Every node of the electrode e in the last image is within K·M / 2 ^ 49 of the exact one, K the sub-steps that the answers report. Nothing is asked of the other electrode.
+-- THEOREM 2. Every node of the electrode e in the last image is within K·M / 2 ^ 49 of the exact one, K the sub-steps that the answers report. Nothing is asked
+-- of the other electrode.
 pub cell-images-near : (e : Electrode) (s : List ℕ) (qs : List (CCall SD.Call)) → length s ≡ 1256 → cellRefusal (cellAt s) ≡ 0 → CellKept e s qs
     → (i : ℕ) → i < cellAt s .config .«n_nodes»
     → nodeAt e (imageAfter cellSteps s qs) i -F SD.exactPlace e (cellAt s) (wellFormed cellSteps qs) i within nat (reportedSubSteps s qs) *F mostAt e (cellAt s) /F pow2 49
@@ -61,8 +64,9 @@ cell-images-near e s qs l h ks i m =
 pub cell-images-pass : (s : List ℕ) (qs : List (CCall SD.Call)) → length s ≡ 1256 → cellRefusal (cellAt s) ≡ 0 → cellRefusal (cellAt (imageAfter cellSteps s qs)) ≡ 0
 cell-images-pass s qs l h = rw (cell-simulates qs s l .cell) (SD.after-passes (wellFormed cellSteps qs) (cellAt s) h)
 
--- THEOREM 3. Two images whose cells are of one make with equal profiles and pass the checks, two lists that keep the conditions at both electrodes; the calls that return 0 are paired: alike
--- in interval and temperature, the second's current no less. Then no node of the second cathode is more than 2·K·M / 2 ^ 49 below the first, and none of the second anode more than that above.
+-- THEOREM 3. Two images whose cells are of one make with equal profiles and pass the checks, two lists that keep the conditions at both electrodes; the calls
+-- that return 0 are paired: alike in interval and temperature, the second's current no less. Then no node of the second cathode is more than 2·K·M / 2 ^ 49
+-- below the first, and none of the second anode more than that above.
 pub record RankedImages (s s' : List ℕ) (qs qs' : List (CCall SD.Call)) : Type 0 where
   pub count : reportedSubSteps s' qs' ≡ reportedSubSteps s qs
   pub cathode : (i : ℕ) → i < cellAt s .config .«n_nodes»

@@ -1,5 +1,5 @@
--- THEOREM 2 OF LISTS THAT MIX BUILDS, STEPS AND RUNS: the cell of the last image is the cell of the last accepted build (or of the first image) after a list of steps, those of the runs among
--- them, and every node is within K·M / 2 ^ 49 of the exact one. Assumes nothing.
+-- THEOREM 2 OF LISTS THAT MIX BUILDS, STEPS AND RUNS: the cell of the last image is the cell of the last accepted build (or of the first image) after a list of
+-- steps, those of the runs among them, and every node is within K·M / 2 ^ 49 of the exact one. Assumes nothing.
 use Prim.Native.Nat.{ℕ, _/_, _<_}
 use mathlib.Core.Path.{_≡_, refl, sym, ap, _∙_}
 use mathlib.Core.Bool.{Bool, true, false, cond}
@@ -108,7 +108,8 @@ start-passes (inr (inr r) ∷ qs) z h = start-passes qs (record { start = z .sta
 pub mixed-start-passes : (s : List ℕ) (qs : List (CCall (CellBuild ⊎ (SD.Call ⊎ CellRun)))) → cellRefusal (cellAt s) ≡ 0 → cellRefusal (sinceBuildIn s qs .start) ≡ 0
 mixed-start-passes s qs h = start-passes (wellFormed cellCalls qs) (record { start = cellAt s; steps = [] }) h
 
--- THEOREM 2. Where the accepted steps since the last build keep the two conditions at e, every node of e in the last image is within K·M / 2 ^ 49 of the exact one, K their sub-steps.
+-- THEOREM 2. Where the accepted steps since the last build keep the two conditions at e, every node of e in the last image is within K·M / 2 ^ 49 of the exact
+-- one, K their sub-steps.
 pub mixed-images-near : (e : Electrode) (s : List ℕ) (qs : List (CCall (CellBuild ⊎ (SD.Call ⊎ CellRun)))) → length s ≡ 1256 → cellRefusal (sinceBuildIn s qs .start) ≡ 0
     → SD.KeptAt e (sinceBuildIn s qs .start) (sinceBuildIn s qs .steps) → (i : ℕ) → i < sinceBuildIn s qs .start .config .«n_nodes»
     → nodeAt e (imageAfter cellCalls s qs) i -F SD.exactPlace e (sinceBuildIn s qs .start) (sinceBuildIn s qs .steps) i

@@ -1,17 +1,18 @@
--- LISTS THAT MIX BUILDS, STEPS AND RUNS of C. A build replaces the record; a run hands on the cell after its finished rows, also where it is refused after a row; a refused call changes
--- nothing. The record of the last image is the record after the same calls. Assumes nothing.
+-- LISTS THAT MIX BUILDS, STEPS AND RUNS of C. A build replaces the record; a run hands on the cell after its finished rows, also where it is refused after a
+-- row; a refused call changes nothing. The record of the last image is the record after the same calls. Assumes nothing.
 use Prim.Native.Nat.{ℕ}
 use mathlib.Core.Path.{_≡_}
 use mathlib.Core.Logic.{_⊎_}
 use mathlib.Core.List.{List}
 use lib.ListN.{length}
+use Rattle.image_laws.specs.CellImages.{particleIn}
 use Rattle.particle_laws.specs.Demand as PD
 use Rattle.solver_laws.specs.Demand as SD
 use Rattle.cell_images.specs.Images.{cellAt}
 use Rattle.electrolyte_images.specs.Images.{electrolyteAt}
 use Rattle.porous_images.specs.Images as I
 use Rattle.boundary_laws.specs.CallLists.{Calls, CCall, Simulates, simulates, orElse, both-implement}
-use Rattle.boundary_laws.specs.StepLists.{ElectrolyteCall, DfnCall, particleIn, particleSteps, cellSteps, electrolyteSteps, dfnSteps, particle-steps-implement, cell-steps-implement, electrolyte-steps-implement, dfn-steps-implement}
+use Rattle.boundary_laws.specs.StepLists.{ElectrolyteCall, DfnCall, particleSteps, cellSteps, electrolyteSteps, dfnSteps, particle-steps-implement, cell-steps-implement, electrolyte-steps-implement, dfn-steps-implement}
 use Rattle.boundary_laws.specs.BuildLists.{Build, CellBuild, particleBuilds, cellBuilds, electrolyteBuilds, dfnBuilds, particle-builds-implement, cell-builds-implement, electrolyte-builds-implement, dfn-builds-implement}
 use Rattle.boundary_laws.specs.RunLists.{CellRun, DfnRun, cellRuns, dfnRuns, cell-runs-implement, dfn-runs-implement}
 

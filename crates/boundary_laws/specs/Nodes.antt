@@ -6,6 +6,7 @@ use native.Mathlib.Omega.{arith}
 use native.Mathlib.Nat.{le-refl}
 use lib.ListN.{getD, replicate}
 use lib.Ieee.{nan}
+use Rattle.image_laws.specs.CellImages.{particleIn}
 use Rattle.fraction.specs.Fraction.{Fraction}
 use Rattle.binary64.specs.Operators.{f64}
 use Rattle.binary64.specs.Value.{val}
@@ -20,7 +21,6 @@ use Rattle.solver_laws.specs.Electrodes.{Electrode, electrode-passes, nodes-are
 use Rattle.codec.specs.Words.{floatAt, placesAt}
 use Rattle.sheet_images.specs.Images.{particleAt}
 use Rattle.cell_images.specs.Images.{cellAt}
-use Rattle.boundary_laws.specs.StepLists.{particleIn}
 
 -- the word of an electrode's first node; a particle's is 11
 abbrev pub firstNode : Electrode → ℕ

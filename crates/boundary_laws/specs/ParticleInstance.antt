@@ -1,5 +1,5 @@
--- A worked instance of theorem 1 of calls from C, every premise met: the ready graphite sheet and 11 nodes, the particle that `pj_build` 7 makes of them, and a list of `pj_particle_step`, two
--- calls that are refused and one with an answer a byte short among three that are accepted. Answers are zeros. Assumes nothing.
+-- A worked instance of theorem 1 of calls from C, every premise met: the ready graphite sheet and 11 nodes, the particle that `pj_build` 7 makes of them, and a
+-- list of `pj_particle_step`, two calls that are refused and one with an answer a byte short among three that are accepted. Answers are zeros. Assumes nothing.
 use Prim.Native.Nat.{ℕ, _<_}
 use mathlib.Core.Path.{_≡_, refl, ap, _∙_, subst}
 use mathlib.Core.List.{List, [], _∷_}
@@ -23,12 +23,12 @@ use Rattle.image_builds.specs.Builds.{particleMade, newNumber, buildLength, bui
 use Rattle.boundary.specs.Calls as B
 use Rattle.image_laws.specs.Words.{word-read-back}
 use Rattle.image_laws.specs.Rows.{writes-word, same-below}
-use Rattle.image_laws.specs.CellImages.{EncodableSheet, writes-sheet, sheet-same, sheet-read-back}
+use Rattle.image_laws.specs.CellImages.{particleIn, EncodableSheet, writes-sheet, sheet-same, sheet-read-back}
 use Rattle.image_laws.specs.CellBuilds.{graphite-encodable}
 use Rattle.image_laws.specs.AnswerLengths.{particle-build-length}
 use Rattle.image_laws.specs.ReadBack.{particle-build-read-back}
 use Rattle.boundary_laws.specs.CallLists.{CCall, imageAfter, acceptedCalls, wellFormed}
-use Rattle.boundary_laws.specs.StepLists.{particleIn, particleSteps, particle-simulates}
+use Rattle.boundary_laws.specs.StepLists.{particleSteps, particle-simulates}
 use Rattle.boundary_laws.specs.Nodes.{nodeOf}
 use Rattle.boundary_laws.specs.Demand.{ParticleKept, particle-images-near}
 use Rattle.boundary_laws.specs.Instance.{zeros, zeros-length, calls}

@@ -102,7 +102,9 @@ module _ (s : List ℕ) (q : CellRun) (a : List ℕ) (l : length s ≡ 1256) whe
         length-take-le 1256 (cellRuns .left s q a) (rw n (lit≤ tt))
 
     cell-run-keeps : cellRuns .handed s q a ≡ false → cellRuns .next (cellAt s) q ≡ cellAt s
-    cell-run-keeps h = run-idle (DR.feedOf (q .current) (q .dt) (q .temp) (q .limit)) (cellAt s) (q .places) (no-row (discharge (cellAt s) q .ended .refusal) (discharge (cellAt s) q .rows) (sym cell-run-handed ∙ h))
+    cell-run-keeps h =
+        run-idle (DR.feedOf (q .current) (q .dt) (q .temp) (q .limit)) (cellAt s) (q .places)
+        (no-row (discharge (cellAt s) q .ended .refusal) (discharge (cellAt s) q .rows) (sym cell-run-handed ∙ h))
 
 pub cell-runs-implement : Implements cellRuns
 cell-runs-implement = record { malformed = cell-run-malformed; returns = cell-run-returns; reads = cell-run-reads; fills = cell-run-fills; keeps = cell-run-keeps }
@@ -130,7 +132,9 @@ module _ (s : List ℕ) (q : DfnRun) (a : List ℕ) (l : length s ≡ 9008) wher
         length-take-le 9008 (dfnRuns .left s q a) (rw n (lit≤ tt))
 
     dfn-run-keeps : dfnRuns .handed s q a ≡ false → dfnRuns .next (I.cellAt s) q ≡ I.cellAt s
-    dfn-run-keeps h = dfn-run-idle (I.cellAt s) (f64 (q .bits)) (q .dt) (q .limit) (q .places) (no-row (galvanostatic (I.cellAt s) q .ended .refusal) (galvanostatic (I.cellAt s) q .rows) (sym dfn-run-handed ∙ h))
+    dfn-run-keeps h =
+        dfn-run-idle (I.cellAt s) (f64 (q .bits)) (q .dt) (q .limit) (q .places)
+        (no-row (galvanostatic (I.cellAt s) q .ended .refusal) (galvanostatic (I.cellAt s) q .rows) (sym dfn-run-handed ∙ h))
 
 pub dfn-runs-implement : Implements dfnRuns
 dfn-runs-implement = record { malformed = dfn-run-malformed; returns = dfn-run-returns; reads = dfn-run-reads; fills = dfn-run-fills; keeps = dfn-run-keeps }

@@ -1,4 +1,5 @@
--- Lists of one step of C: `pj_particle_step`, `pj_cell_step`, `pj_electrolyte_step`, `pj_dfn_step`. The record of the last image is the record after the same steps. Assumes nothing.
+-- Lists of one step of C: `pj_particle_step`, `pj_cell_step`, `pj_electrolyte_step`, `pj_dfn_step`. The record of the last image is the record after the same
+-- steps. Assumes nothing.
 use Prim.Native.Nat.{ℕ, zero, suc, _<_}
 use mathlib.Core.Path.{_≡_, refl, ap, _∙_}
 use mathlib.Core.Bool.{false}
@@ -21,17 +22,17 @@ use Rattle.electrolyte.specs.Calls as E
 use Rattle.electrolyte.specs.Again.{step-kept}
 use Rattle.dfn.specs.Step as D
 use Rattle.codec.specs.Words.{wordAt}
-use Rattle.sheet_images.specs.Images.{particleAt}
 use Rattle.cell_images.specs.Images.{cellAt}
 use Rattle.electrolyte_images.specs.Images.{electrolyteAt}
 use Rattle.porous_images.specs.Images as I
 use Rattle.cell_calls.specs.Steps as CS
 use Rattle.porous_calls.specs.Steps as PS
+use Rattle.image_laws.specs.CellImages.{particleIn}
 use Rattle.boundary.specs.Calls as B
 use Rattle.image_laws.specs.DfnRuns.{dfn-step-refused}
 use Rattle.image_laws.specs.AnswerLengths.{particle-step-length, cell-step-length, electrolyte-step-length, dfn-step-length}
 use Rattle.image_laws.specs.ReadBack.{particle-step-read-back, cell-step-read-back, sub-steps-read-back, electrolyte-step-read-back, dfn-step-read-back}
-use Rattle.boundary_laws.specs.CallLists.{Calls, CCall, imageNext, imageAfter, acceptedCalls, reported, wellFormed, recordAfter, accepted, total, Implements, simulates, reported-is, plain-implements}
+use Rattle.boundary_laws.specs.CallLists.{Calls, CCall, imageAfter, acceptedCalls, reported, wellFormed, recordAfter, accepted, total, Implements, simulates, reported-is, image-stays, plain-implements}
 
 -- ---- the calls
 -- of an electrolyte
@@ -48,10 +49,6 @@ pub record DfnCall : Type 0 where
 
 abbrev pub current : DfnCall → Float
 current q = f64 (q .bits)
-
--- the image of a particle is read at its first word
-abbrev pub particleIn : List ℕ → ParticleDiffusion
-particleIn s = particleAt s 0
 
 -- ---- what C sees of a step, by the definitions that the contract of the call cites; and the step, by the definition that the contract of `step` cites
 abbrev pub particleSteps : Calls 600 particleIn PD.Call
@@ -136,7 +133,8 @@ cell-steps-implement =
       refused-keeps = λ c q n. SC.step-refused c (q .current) (q .dt) (q .temp) n .0;
     })
 
-electrolyte-returned : (s : List ℕ) (q : ElectrolyteCall) (a : List ℕ) → length s ≡ 896 → electrolyteSteps .returned s q a ≡ B.met (eqb (length a) 896) (electrolyteSteps .number (electrolyteAt s) q)
+electrolyte-returned : (s : List ℕ) (q : ElectrolyteCall) (a : List ℕ) → length s ≡ 896
+    → electrolyteSteps .returned s q a ≡ B.met (eqb (length a) 896) (electrolyteSteps .number (electrolyteAt s) q)
 unfolding B.electrolyteNumber PS.electrolyteNumber
 electrolyte-returned s q a l = rw (eq-eqb (length s) 896 l)
 
@@ -237,8 +235,17 @@ cell-simulates qs s l =
           ∙ cell-total w (cellAt s);
     }
 
--- on an image of another length every call is refused, and the image stays
-pub no-cell-image : (qs : List (CCall SD.Call)) (s : List ℕ) → eqb (length s) 1256 ≡ false → imageAfter cellSteps s qs ≡ s
-unfolding imageAfter imageNext B.cellNumber B.met
-no-cell-image [] s n = refl
-no-cell-image (q ∷ qs) s n = rw n (no-cell-image qs s n)
+-- ---- on an image of another length every call is refused, and the image stays
+particle-refused : (s : List ℕ) (q : PD.Call) (a : List ℕ) → eqb (length s) 600 ≡ false → particleSteps .handed s q a ≡ false
+unfolding B.particleNumber B.met
+particle-refused s q a n = rw n
+
+pub particle-image-stays : (qs : List (CCall PD.Call)) (s : List ℕ) → eqb (length s) 600 ≡ false → imageAfter particleSteps s qs ≡ s
+particle-image-stays = image-stays particleSteps particle-refused
+
+cell-refused : (s : List ℕ) (q : SD.Call) (a : List ℕ) → eqb (length s) 1256 ≡ false → cellSteps .handed s q a ≡ false
+unfolding B.cellNumber B.met
+cell-refused s q a n = rw n
+
+pub cell-image-stays : (qs : List (CCall SD.Call)) (s : List ℕ) → eqb (length s) 1256 ≡ false → imageAfter cellSteps s qs ≡ s
+cell-image-stays = image-stays cellSteps cell-refused

@@ -1,13 +1,13 @@
 -- The answer of an accepted build of a particle or a single-particle cell is read back as what was built. Assumes nothing.
 use Prim.Native.Nat.{ℕ, _≤_}
-use mathlib.Core.Path.{_≡_, refl, sym, ap, _∙_}
+use mathlib.Core.Path.{_≡_, refl, sym, _∙_}
 use mathlib.Core.Bool.{cond, false, _&&_}
 use mathlib.Core.List.{List}
 use native.Mathlib.Omega.{arith}
 use native.Mathlib.Nat.{zero-lt-suc}
 use lib.Dec.{T, eqb}
 use lib.ListN.{length}
-use lib.Ieee.{binary64}
+use lib.Ieee.{binary64, fits, neg, ofBits}
 use lib.Ieee.Bits.{ofBits-fits}
 use lib.Ieee.Fits.{mul-fits, and-l, and-r}
 use borrow.Author.Tests.{eq-eqb, ne-eqb, le-leb, lt-leb}
@@ -26,14 +26,15 @@ use Rattle.solver.specs.declared.SpmAnswer.{SpmAnswer}
 use Rattle.solver.specs.Cell as S
 use Rattle.codec.specs.Words.{wordAt}
 use Rattle.image_rows.specs.Written.{written}
-use Rattle.sheet_images.specs.Images.{sheetAt, sheetNumbers, particleAt, configAt}
+use Rattle.sheet_images.specs.Images.{sheetAt, sheetNumbers, configAt}
 use Rattle.cell_images.specs.Images.{cellAt, putCell}
 use Rattle.boundary.specs.Calls as B
 use Rattle.boundary.specs.Calls.{lengths, met}
 use Rattle.image_builds.specs.Builds.{buildLength, builtLength, particleMade, cellBuilt, newNumber, newAfter}
 use Rattle.image_laws.specs.Accepted.{inputs-pass, accepted-is}
-use Rattle.image_laws.specs.Encodable.{EncodableRow, []ᵉ, _∷ᵉ_, filled-encodable, filled-length, literal}
-use Rattle.image_laws.specs.CellImages.{EncodableSheet, EncodableParticle, configNumbers, EncodableCell, writes-particle, particle-read-back, writes-cell, cell-read-back}
+use Rattle.image_laws.specs.Encodable.{EncodableRow, allFit, closed-row, filled-encodable, filled-length}
+use Rattle.image_laws.specs.Layout.{Holds, holds-alone}
+use Rattle.image_laws.specs.CellImages.{EncodableSheet, EncodableParticle, configNumbers, EncodableCell, particleIn, particle-layout, cell-layout}
 use Rattle.image_laws.specs.CellEncodable.{sheetAt-row, sheet-encodable, configAt-row}
 
 -- ---- a particle
@@ -63,13 +64,9 @@ module _ (s a : List ℕ) (h : newNumber 7 s ≡ 0) where
   unfolding newNumber particleMade
   new-particle = made-encodable (sheetAt s 0) (wordAt s 10) (sheetAt-row s 0) h
 
-  pub particle-built : 600 ≤ length a → particleAt (newAfter 7 s a) 0 ≡ particleMade s .particle
+  pub particle-built : 600 ≤ length a → Holds 75 particleIn a (newAfter 7 s a) (particleMade s .particle)
   unfolding newNumber newAfter written
-  particle-built l = rw (eq-eqb (particleMade s .refusal) 0 h) (particle-read-back a 0 (particleMade s .particle) l new-particle)
-
-  pub particle-built-length : length (newAfter 7 s a) ≡ length a
-  unfolding newNumber newAfter written
-  particle-built-length = rw (eq-eqb (particleMade s .refusal) 0 h) (writes-particle a 0 (particleMade s .particle) (new-particle .long) .size)
+  particle-built l = rw (eq-eqb (particleMade s .refusal) 0 h) (holds-alone particle-layout a (particleMade s .particle) new-particle l)
 
 -- ---- a cell
 built-met : (g : SpmConfig) (a c : ElectrodeParams) → S.buildRefusal g a c ≡ 0 → (g .«n_nodes» ≤ 64) × T (configFits g && sheetFits a && sheetFits c)
@@ -98,16 +95,16 @@ module _ (g : SpmConfig) (a c : ElectrodeParams) (hg : EncodableRow (configNumbe
 
 -- the ready sheets
 pub graphite-encodable : EncodableRow (sheetNumbers graphiteAnode)
-unfolding graphiteAnode
-graphite-encodable = literal _ ∷ᵉ literal _ ∷ᵉ literal _ ∷ᵉ literal _ ∷ᵉ literal _ ∷ᵉ literal _ ∷ᵉ literal _ ∷ᵉ literal _ ∷ᵉ literal _ ∷ᵉ []ᵉ
+unfolding graphiteAnode allFit fits neg ofBits
+graphite-encodable = closed-row (sheetNumbers graphiteAnode) tt
 
 pub lfp-encodable : EncodableRow (sheetNumbers lfpCathode)
-unfolding lfpCathode
-lfp-encodable = literal _ ∷ᵉ literal _ ∷ᵉ literal _ ∷ᵉ literal _ ∷ᵉ literal _ ∷ᵉ literal _ ∷ᵉ literal _ ∷ᵉ literal _ ∷ᵉ literal _ ∷ᵉ []ᵉ
+unfolding lfpCathode allFit fits neg ofBits
+lfp-encodable = closed-row (sheetNumbers lfpCathode) tt
 
 pub nmc-encodable : EncodableRow (sheetNumbers nmcCathode)
-unfolding nmcCathode
-nmc-encodable = literal _ ∷ᵉ literal _ ∷ᵉ literal _ ∷ᵉ literal _ ∷ᵉ literal _ ∷ᵉ literal _ ∷ᵉ literal _ ∷ᵉ literal _ ∷ᵉ literal _ ∷ᵉ []ᵉ
+unfolding nmcCathode allFit fits neg ofBits
+nmc-encodable = closed-row (sheetNumbers nmcCathode) tt
 
 built-cell : (call : ℕ) (s : List ℕ) → cellBuilt call s .refusal ≡ 0 → EncodableCell (cellBuilt call s .solver)
 unfolding cellBuilt
@@ -127,12 +124,28 @@ module _ (call : ℕ) (s a : List ℕ) (m : 8 ≤ call) (n : call ≤ 10) where
   pub cell-build-number : B.buildNumber call s (length a) ≡ met (lengths (length s) (buildLength call) (length a) 1256) (newNumber call s)
   unfolding B.buildNumber builtLength
   cell-build-number =
-      rw (le-leb 1 call (omega (arith, m)), le-leb call 12 (omega (arith, n)), lt-leb call 3 (omega (arith, m)), ne-eqb call 4 (λ (e : call ≡ 4). omega (arith, m, e)), lt-leb call 6 (omega (arith, m)), not-particle, le-leb call 10 n)
+      rw (
+        le-leb 1 call (omega (arith, m)),
+        le-leb call 12 (omega (arith, n)),
+        lt-leb call 3 (omega (arith, m)),
+        ne-eqb call 4 (λ (e : call ≡ 4). omega (arith, m, e)),
+        lt-leb call 6 (omega (arith, m)),
+        not-particle,
+        le-leb call 10 n,
+      )
 
   pub cell-build-after : B.buildAfter call s a ≡ cond (lengths (length s) (buildLength call) (length a) 1256) (newAfter call s a) a
   unfolding B.buildAfter builtLength
   cell-build-after =
-      rw (le-leb 1 call (omega (arith, m)), le-leb call 12 (omega (arith, n)), lt-leb call 3 (omega (arith, m)), ne-eqb call 4 (λ (e : call ≡ 4). omega (arith, m, e)), lt-leb call 6 (omega (arith, m)), not-particle, le-leb call 10 n)
+      rw (
+        le-leb 1 call (omega (arith, m)),
+        le-leb call 12 (omega (arith, n)),
+        lt-leb call 3 (omega (arith, m)),
+        ne-eqb call 4 (λ (e : call ≡ 4). omega (arith, m, e)),
+        lt-leb call 6 (omega (arith, m)),
+        not-particle,
+        le-leb call 10 n,
+      )
 
   pub cell-number : newNumber call s ≡ cellBuilt call s .refusal
   unfolding newNumber
@@ -146,8 +159,5 @@ module _ (call : ℕ) (s a : List ℕ) (m : 8 ≤ call) (n : call ≤ 10) where
     unfolding newAfter written
     answer-is = rw (not-particle, le-leb call 10 n, eq-eqb (cellBuilt call s .refusal) 0 (sym cell-number ∙ h))
 
-    pub cell-built : 1256 ≤ length a → cellAt (newAfter call s a) ≡ cellBuilt call s .solver
-    cell-built l = ap cellAt answer-is ∙ cell-read-back a (cellBuilt call s .solver) new-cell l
-
-    pub cell-built-length : length (newAfter call s a) ≡ length a
-    cell-built-length = ap length answer-is ∙ writes-cell a (cellBuilt call s .solver) new-cell .size
+    pub cell-built : 1256 ≤ length a → Holds 157 cellAt a (newAfter call s a) (cellBuilt call s .solver)
+    cell-built l = rw answer-is (holds-alone cell-layout a (cellBuilt call s .solver) new-cell l)

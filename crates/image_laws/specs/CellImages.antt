@@ -18,6 +18,7 @@ use Rattle.cell_images.specs.Images.{cellAt, putCell}
 use Rattle.image_laws.specs.Words.{word-read-back, float-read-back}
 use Rattle.image_laws.specs.Encodable.{EncodableRow}
 use Rattle.image_laws.specs.Rows.{Writes, SameWords, same-part, same-below, same-float, writes-then, writes-word, writes-float, writes-places, place-read-back, row-read-back, row-same}
+use Rattle.image_laws.specs.Layout.{Layout}
 
 -- ---- what an image can hold: words of 64 bits, numbers of binary64, profiles of 64 places
 pub record EncodableSheet (p : ElectrodeParams) : Type 0 where
@@ -199,3 +200,13 @@ module _ (s : List ℕ) (c : SpmSolver) (k : EncodableCell c) where
       let cathode : particleAt u 81 ≡ c .cathode =
       particle-same s3 u 81 (same-below (lit≤ tt) w4) ∙ particle-read-back s2 81 (c .cathode) (rw (w2 .size, w1 .size) (omega (arith, h))) (k .cathode) in
       rw (config, anode, cathode, float-read-back s3 156 (c .«time_s») (rw (w3 .size, w2 .size, w1 .size) (omega (arith, h))) (k .clock))
+
+-- ---- both as records that an answer begins with
+abbrev pub particleIn : List ℕ → ParticleDiffusion
+particleIn s = particleAt s 0
+
+pub particle-layout : Layout 75 particleIn (λ s p. putParticle s 0 p) EncodableParticle
+particle-layout = record { same = λ s s' p. particle-same s s' 0 p; writes = λ s p e. writes-particle s 0 p (e .long); read-back = λ s p e l. particle-read-back s 0 p l e }
+
+pub cell-layout : Layout 157 cellAt putCell EncodableCell
+cell-layout = record { same = cell-same; writes = writes-cell; read-back = cell-read-back }

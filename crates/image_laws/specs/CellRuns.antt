@@ -5,8 +5,7 @@ use mathlib.Core.List.{List}
 use native.Mathlib.Omega.{arith}
 use native.Mathlib.Nat.{zero-lt-suc, le-refl}
 use lib.Dec.{T, lit≤, eqb, eqb·suc-zero}
-use lib.ListN.{length, take}
-use lib.Seq.{length-take-le}
+use lib.ListN.{length}
 use lib.Ieee.{Float}
 use lib.Ieee.Bits.{is-true}
 use Rattle.matrix_rows.specs.Loops.{either}
@@ -24,11 +23,10 @@ use Rattle.codec.specs.Words.{wordAt}
 use Rattle.image_rows.specs.Written.{putEnding}
 use Rattle.cell_images.specs.Images.{cellAt, putCell}
 use Rattle.cell_calls.specs.Runs.{dischargeAfter}
-use Rattle.image_laws.specs.Rows.{same-below}
-use Rattle.image_laws.specs.CellImages.{EncodableCell, cell-same, writes-cell, cell-read-back}
+use Rattle.image_laws.specs.Layout.{Holds, holds}
+use Rattle.image_laws.specs.CellImages.{EncodableCell, writes-cell, cell-layout}
 use Rattle.image_laws.specs.Reports.{writes-ending, ending-read-back, rows-read-back}
 use Rattle.image_laws.specs.CellEncodable.{cellAt-encodable, step-encodable}
-use Rattle.image_laws.specs.CellSteps.{first-cell}
 use Rattle.image_laws.specs.Turns.{run-keeps, run-rows, ending-most}
 
 -- ---- what a run makes of its cell
@@ -100,7 +98,7 @@ module _ (w : Feed) where
   run-passes s places h = let m = run-tests s places h in rw (is-true (gridFits s) (m .0), is-true (cellFits s) (m .1))
 
 -- ---- the answer
-module _ (s : List ℕ) (i dt t limit : Float) (places : ℕ) (a : List ℕ)
+module _ (s : List ℕ) (i dt t limit : Float) (places : ℕ) (a : List ℕ) (l : length a ≡ 1272)
     (h : T (told (discharged (feedOf i dt t limit) (cellAt s) places .ended .refusal) (discharged (feedOf i dt t limit) (cellAt s) places .rows))) where
   abbrev run : RunSaid
   run = discharged (feedOf i dt t limit) (cellAt s) places
@@ -117,28 +115,20 @@ module _ (s : List ℕ) (i dt t limit : Float) (places : ℕ) (a : List ℕ)
   unfolding dischargeAfter
   answer-is = rw (is-true (told (run .ended .refusal) (run .rows)) h)
 
-  new-length : length new ≡ length a
-  new-length = writes-cell a (run .solver) run-cell .size
+  pub run-answer : Holds 157 cellAt a (dischargeAfter s i dt t limit places a) (discharged (feedOf i dt t limit) (cellAt s) places .solver)
+  run-answer =
+      rw answer-is
+      (holds cell-layout a (run .solver) run-cell (rw l (lit≤ tt)) (putEnding new 157 (run .ended .ending) (run .rows)) 159 (writes-ending new 157 (run .ended .ending) (run .rows)))
 
-  pub run-answer-length : length (dischargeAfter s i dt t limit places a) ≡ length a
-  run-answer-length = ap length answer-is ∙ writes-ending new 157 (run .ended .ending) (run .rows) .size ∙ new-length
+  room : 1272 ≤ length new
+  room = rw (writes-cell a (run .solver) run-cell .size ∙ l) (lit≤ tt)
 
-  module _ (l : length a ≡ 1272) where
-    pub run-answer-first : cellAt (take 1256 (dischargeAfter s i dt t limit places a)) ≡ discharged (feedOf i dt t limit) (cellAt s) places .solver
-    run-answer-first =
-        first-cell (dischargeAfter s i dt t limit places a) (rw (run-answer-length ∙ l) (lit≤ tt)) ∙ ap cellAt answer-is
-        ∙ cell-same new (putEnding new 157 (run .ended .ending) (run .rows)) (same-below (lit≤ tt) (writes-ending new 157 (run .ended .ending) (run .rows)))
-        ∙ cell-read-back a (run .solver) run-cell (rw l (lit≤ tt))
+  pub run-ending-answer : wordAt (dischargeAfter s i dt t limit places a) 157 ≡ discharged (feedOf i dt t limit) (cellAt s) places .ended .ending
+  run-ending-answer =
+      let m = run-ending (feedOf i dt t limit) (cellAt s) places in
+      ap (λ (b : List ℕ). wordAt b 157) answer-is ∙ ending-read-back new 157 (run .ended .ending) (run .rows) room (omega (arith, m))
 
-    pub run-first-length : length (take 1256 (dischargeAfter s i dt t limit places a)) ≡ 1256
-    run-first-length = length-take-le 1256 (dischargeAfter s i dt t limit places a) (rw (run-answer-length ∙ l) (lit≤ tt))
-
-    pub run-ending-answer : wordAt (dischargeAfter s i dt t limit places a) 157 ≡ discharged (feedOf i dt t limit) (cellAt s) places .ended .ending
-    run-ending-answer =
-        let m = run-ending (feedOf i dt t limit) (cellAt s) places in
-        ap (λ (b : List ℕ). wordAt b 157) answer-is ∙ ending-read-back new 157 (run .ended .ending) (run .rows) (rw (new-length ∙ l) (lit≤ tt)) (omega (arith, m))
-
-    pub run-rows-answer : places < 2 ^ 64 → wordAt (dischargeAfter s i dt t limit places a) 158 ≡ discharged (feedOf i dt t limit) (cellAt s) places .rows
-    run-rows-answer n =
-        let m = rows-most (feedOf i dt t limit) (cellAt s) places in
-        ap (λ (b : List ℕ). wordAt b 158) answer-is ∙ rows-read-back new 157 (run .ended .ending) (run .rows) (rw (new-length ∙ l) (lit≤ tt)) (omega (arith, m, n))
+  pub run-rows-answer : places < 2 ^ 64 → wordAt (dischargeAfter s i dt t limit places a) 158 ≡ discharged (feedOf i dt t limit) (cellAt s) places .rows
+  run-rows-answer n =
+      let m = rows-most (feedOf i dt t limit) (cellAt s) places in
+      ap (λ (b : List ℕ). wordAt b 158) answer-is ∙ rows-read-back new 157 (run .ended .ending) (run .rows) room (omega (arith, m, n))

@@ -4,8 +4,7 @@ use mathlib.Core.Path.{_≡_, refl, ap, _∙_}
 use mathlib.Core.List.{List}
 use native.Mathlib.Omega.{arith}
 use lib.Dec.{T, lit≤}
-use lib.ListN.{length, take}
-use lib.Seq.{length-take-le}
+use lib.ListN.{length}
 use lib.Ieee.{Float, binary64, fits}
 use lib.Ieee.Fits.{add-fits, sub-fits, div-fits}
 use borrow.Author.Tests.{eq-eqb}
@@ -25,10 +24,9 @@ use Rattle.sheet_images.specs.Images.{particleAt}
 use Rattle.cell_images.specs.Images.{cellAt, putCell, stateNumbers, putReport}
 use Rattle.cell_calls.specs.Steps.{particleNumber, particleAfter, cellNumber, cellAfter}
 use Rattle.image_laws.specs.Accepted.{inputs-pass}
-use Rattle.image_laws.specs.Words.{word-take}
 use Rattle.image_laws.specs.Encodable.{EncodableRow, []ᵉ, _∷ᵉ_}
-use Rattle.image_laws.specs.Rows.{same-below}
-use Rattle.image_laws.specs.CellImages.{EncodableParticle, EncodableCell, writes-particle, particle-read-back, cell-same, writes-cell, cell-read-back}
+use Rattle.image_laws.specs.Layout.{Holds, holds, holds-alone}
+use Rattle.image_laws.specs.CellImages.{EncodableParticle, EncodableCell, writes-cell, particleIn, particle-layout, cell-layout}
 use Rattle.image_laws.specs.Reports.{cellReportAt, writes-cell-report, report-row-read-back, sub-steps-word-read-back}
 use Rattle.image_laws.specs.CellEncodable.{particleAt-encodable, cellAt-encodable, step-encodable, particle-step-encodable}
 
@@ -42,20 +40,16 @@ module _ (s : List ℕ) (j dt t : Float) (a : List ℕ) (h : particleNumber s j 
   stepped-particle : EncodableParticle (P.stepped (particleAt s 0) j dt t .particle)
   stepped-particle = particle-step-encodable (particleAt s 0) j dt t (particleAt-encodable s 0 particle-passes)
 
-  pub particle-answer : 600 ≤ length a → particleAt (particleAfter s j dt t a) 0 ≡ P.stepped (particleAt s 0) j dt t .particle
+  pub particle-answer : 600 ≤ length a → Holds 75 particleIn a (particleAfter s j dt t a) (P.stepped (particleAt s 0) j dt t .particle)
   unfolding particleAfter written
-  particle-answer l = rw (eq-eqb (particleNumber s j dt t) 0 h) (particle-read-back a 0 (P.stepped (particleAt s 0) j dt t .particle) l stepped-particle)
-
-  pub particle-answer-length : length (particleAfter s j dt t a) ≡ length a
-  unfolding particleAfter written
-  particle-answer-length = rw (eq-eqb (particleNumber s j dt t) 0 h) (writes-particle a 0 (P.stepped (particleAt s 0) j dt t .particle) (stepped-particle .long) .size)
+  particle-answer l = rw (eq-eqb (particleNumber s j dt t) 0 h) (holds-alone particle-layout a (P.stepped (particleAt s 0) j dt t .particle) stepped-particle l)
 
 -- ---- a cell
 -- what an accepted step tells: the cell passes the checks, the sub-steps are few, the numbers of the report are binary64's
-pub record Stepped (c : SpmSolver) (i : Float) (r : SpmStep) : Type 0 where
-  pub passes : cellRefusal c ≡ 0
-  pub few : r .«sub_steps» ≤ 4096
-  pub report : T (fits binary64 i) → EncodableRow (stateNumbers (r .state))
+record Stepped (c : SpmSolver) (i : Float) (r : SpmStep) : Type 0 where
+  passes : cellRefusal c ≡ 0
+  few : r .«sub_steps» ≤ 4096
+  report : T (fits binary64 i) → EncodableRow (stateNumbers (r .state))
 
 voltage-fits : (c : SpmSolver) (i dt t : Float) → T (fits binary64 (report c i dt t .voltage))
 unfolding S.reported S.voltageOf
@@ -73,11 +67,7 @@ step-tells c i dt t = go (S.stepped c i dt t) (leads c i dt t)
     go r (Leads.refused k) z = absurd (omega (arith, z))
     go r (Leads.moved h g f) z = record { passes = S.input-cell c i dt t h; few = count-most _ g; report = report-encodable c i dt t }
 
--- the first 1,256 bytes are the cell's
-pub first-cell : (a : List ℕ) → 1256 ≤ length a → cellAt (take 1256 a) ≡ cellAt a
-first-cell a h = cell-same a (take 1256 a) (record { words = λ k l m. word-take 1256 a k (omega (arith, m)) h })
-
-module _ (s : List ℕ) (i dt t : Float) (a : List ℕ) (h : cellNumber s i dt t ≡ 0) where
+module _ (s : List ℕ) (i dt t : Float) (a : List ℕ) (h : cellNumber s i dt t ≡ 0) (l : length a ≡ 1328) where
   abbrev after : SpmStep
   after = S.stepped (cellAt s) i dt t
 
@@ -95,31 +85,18 @@ module _ (s : List ℕ) (i dt t : Float) (a : List ℕ) (h : cellNumber s i dt t
   unfolding cellAfter written
   answer-is = rw (eq-eqb (cellNumber s i dt t) 0 h)
 
-  new-length : length new ≡ length a
-  new-length = writes-cell a (after .solver) stepped-cell .size
+  room : 1328 ≤ length new
+  room = rw (writes-cell a (after .solver) stepped-cell .size ∙ l) (lit≤ tt)
 
-  pub cell-answer-length : length (cellAfter s i dt t a) ≡ length a
-  cell-answer-length = ap length answer-is ∙ writes-cell-report new (after .state) (after .«sub_steps») .size ∙ new-length
+  pub cell-answer : Holds 157 cellAt a (cellAfter s i dt t a) (S.stepped (cellAt s) i dt t .solver)
+  cell-answer =
+      rw answer-is
+      (holds cell-layout a (after .solver) stepped-cell (rw l (lit≤ tt)) (putReport new (after .state) (after .«sub_steps»)) 166 (writes-cell-report new (after .state) (after .«sub_steps»)))
 
-  module _ (l : length a ≡ 1328) where
-    room : 1328 ≤ length new
-    room = rw (new-length ∙ l) (lit≤ tt)
+  pub sub-steps-answer : wordAt (cellAfter s i dt t a) 165 ≡ S.stepped (cellAt s) i dt t .«sub_steps»
+  sub-steps-answer =
+      let m = tells .few in
+      ap (λ (b : List ℕ). wordAt b 165) answer-is ∙ sub-steps-word-read-back new (after .state) (after .«sub_steps») room (omega (arith, m))
 
-    pub cell-answer : cellAt (cellAfter s i dt t a) ≡ S.stepped (cellAt s) i dt t .solver
-    cell-answer =
-        ap cellAt answer-is ∙ cell-same new (putReport new (after .state) (after .«sub_steps»)) (same-below (lit≤ tt) (writes-cell-report new (after .state) (after .«sub_steps»)))
-        ∙ cell-read-back a (after .solver) stepped-cell (rw l (lit≤ tt))
-
-    pub cell-answer-first : cellAt (take 1256 (cellAfter s i dt t a)) ≡ S.stepped (cellAt s) i dt t .solver
-    cell-answer-first = first-cell (cellAfter s i dt t a) (rw (cell-answer-length ∙ l) (lit≤ tt)) ∙ cell-answer
-
-    pub cell-first-length : length (take 1256 (cellAfter s i dt t a)) ≡ 1256
-    cell-first-length = length-take-le 1256 (cellAfter s i dt t a) (rw (cell-answer-length ∙ l) (lit≤ tt))
-
-    pub sub-steps-answer : wordAt (cellAfter s i dt t a) 165 ≡ S.stepped (cellAt s) i dt t .«sub_steps»
-    sub-steps-answer =
-        let m = tells .few in
-        ap (λ (b : List ℕ). wordAt b 165) answer-is ∙ sub-steps-word-read-back new (after .state) (after .«sub_steps») room (omega (arith, m))
-
-    pub report-answer : T (fits binary64 i) → cellReportAt (cellAfter s i dt t a) ≡ S.stepped (cellAt s) i dt t .state
-    report-answer f = ap cellReportAt answer-is ∙ report-row-read-back new (after .state) (after .«sub_steps») room (tells .report f)
+  pub report-answer : T (fits binary64 i) → cellReportAt (cellAfter s i dt t a) ≡ S.stepped (cellAt s) i dt t .state
+  report-answer f = ap cellReportAt answer-is ∙ report-row-read-back new (after .state) (after .«sub_steps») room (tells .report f)

@@ -32,8 +32,9 @@ use Rattle.porous_images.specs.Images.{cellAt}
 use Rattle.image_builds.specs.Builds.{electrolyteBuilt, dfnMade, newNumber, newAfter}
 use Rattle.image_laws.specs.Accepted.{inputs-pass, accepted-is}
 use Rattle.image_laws.specs.Encodable.{EncodableRow, []ᵉ, _∷ᵉ_, filled-encodable, filled-length, literal, float-encodable}
-use Rattle.image_laws.specs.ElectrolyteImages.{saltNumbers, EncodableElectrolyte, writes-electrolyte, electrolyte-read-back}
-use Rattle.image_laws.specs.DfnImages.{EncodableParams, EncodableGrid, EncodableDfn, writes-dfn, dfn-read-back}
+use Rattle.image_laws.specs.Layout.{Holds, holds-alone}
+use Rattle.image_laws.specs.ElectrolyteImages.{saltNumbers, EncodableElectrolyte, electrolyte-layout}
+use Rattle.image_laws.specs.DfnImages.{EncodableParams, EncodableGrid, EncodableDfn, dfn-layout}
 use Rattle.image_laws.specs.ElectrolyteSteps.{saltAt-encodable}
 use Rattle.image_laws.specs.DfnEncodable.{paramsAt-encodable, gridAt-encodable}
 
@@ -68,13 +69,9 @@ module _ (s a : List ℕ) (h : newNumber 11 s ≡ 0) where
       electrolyte-encodable _ (saltAt-encodable s)
       (float-encodable s 7 ∷ᵉ float-encodable s 8 ∷ᵉ float-encodable s 9 ∷ᵉ float-encodable s 10 ∷ᵉ float-encodable s 11 ∷ᵉ float-encodable s 12 ∷ᵉ []ᵉ) h
 
-  pub electrolyte-built : 896 ≤ length a → electrolyteAt (newAfter 11 s a) ≡ electrolyteBuilt s .state
+  pub electrolyte-built : 896 ≤ length a → Holds 112 electrolyteAt a (newAfter 11 s a) (electrolyteBuilt s .state)
   unfolding newNumber newAfter written
-  electrolyte-built l = rw (eq-eqb (electrolyteBuilt s .refusal) 0 h) (electrolyte-read-back a (electrolyteBuilt s .state) new-electrolyte l)
-
-  pub electrolyte-built-length : length (newAfter 11 s a) ≡ length a
-  unfolding newNumber newAfter written
-  electrolyte-built-length = rw (eq-eqb (electrolyteBuilt s .refusal) 0 h) (writes-electrolyte a (electrolyteBuilt s .state) new-electrolyte .size)
+  electrolyte-built l = rw (eq-eqb (electrolyteBuilt s .refusal) 0 h) (holds-alone electrolyte-layout a (electrolyteBuilt s .state) new-electrolyte l)
 
 -- ---- a Doyle-Fuller-Newman cell
 dfn-met : (p : DfnParams) (g : DfnConfig) → D.newRefusal p g ≡ 0 → T (gridFits g) × T (parametersFit p)
@@ -114,10 +111,6 @@ module _ (s a : List ℕ) (h : newNumber 12 s ≡ 0) where
   unfolding newNumber dfnMade
   new-dfn = dfn-encodable s h
 
-  pub dfn-built : 9008 ≤ length a → cellAt (newAfter 12 s a) ≡ dfnMade s .cell
+  pub dfn-built : 9008 ≤ length a → Holds 1126 cellAt a (newAfter 12 s a) (dfnMade s .cell)
   unfolding newNumber newAfter written
-  dfn-built l = rw (eq-eqb (dfnMade s .refusal) 0 h) (dfn-read-back a (dfnMade s .cell) new-dfn l)
-
-  pub dfn-built-length : length (newAfter 12 s a) ≡ length a
-  unfolding newNumber newAfter written
-  dfn-built-length = rw (eq-eqb (dfnMade s .refusal) 0 h) (writes-dfn a (dfnMade s .cell) new-dfn .size)
+  dfn-built l = rw (eq-eqb (dfnMade s .refusal) 0 h) (holds-alone dfn-layout a (dfnMade s .cell) new-dfn l)

@@ -36,7 +36,10 @@ use Rattle.image_laws.specs.DfnImages.{EncodableParams, EncodableGrid, E
 -- ---- a Doyle-Fuller-Newman cell that passes the checks
 numbers-of : (x : List Float) (n : ℕ) (a : List Float) (m : ℕ) (c : List Float) → EncodableRow x → EncodableRow (paramsNumbers (paramsOf x n a m c))
 unfolding paramsNumbers paramsOf
-numbers-of x n a m c h = h .place 0 ∷ᵉ h .place 1 ∷ᵉ h .place 2 ∷ᵉ h .place 3 ∷ᵉ h .place 4 ∷ᵉ h .place 5 ∷ᵉ h .place 6 ∷ᵉ h .place 7 ∷ᵉ h .place 8 ∷ᵉ h .place 9 ∷ᵉ h .place 10 ∷ᵉ h .place 11 ∷ᵉ h .place 12 ∷ᵉ h .place 13 ∷ᵉ h .place 14 ∷ᵉ h .place 15 ∷ᵉ h .place 16 ∷ᵉ h .place 17 ∷ᵉ h .place 18 ∷ᵉ h .place 19 ∷ᵉ h .place 20 ∷ᵉ h .place 21 ∷ᵉ h .place 22 ∷ᵉ h .place 23 ∷ᵉ h .place 24 ∷ᵉ []ᵉ
+numbers-of x n a m c h =
+    h .place 0 ∷ᵉ h .place 1 ∷ᵉ h .place 2 ∷ᵉ h .place 3 ∷ᵉ h .place 4 ∷ᵉ h .place 5 ∷ᵉ h .place 6 ∷ᵉ h .place 7 ∷ᵉ h .place 8 ∷ᵉ h .place 9 ∷ᵉ h .place 10
+    ∷ᵉ h .place 11 ∷ᵉ h .place 12 ∷ᵉ h .place 13 ∷ᵉ h .place 14 ∷ᵉ h .place 15 ∷ᵉ h .place 16 ∷ᵉ h .place 17 ∷ᵉ h .place 18 ∷ᵉ h .place 19 ∷ᵉ h .place 20
+    ∷ᵉ h .place 21 ∷ᵉ h .place 22 ∷ᵉ h .place 23 ∷ᵉ h .place 24 ∷ᵉ []ᵉ
 
 pub paramsAt-encodable : (s : List ℕ) → paramsAt s .«ocv_neg_count» ≤ 16 → paramsAt s .«ocv_pos_count» ≤ 16 → EncodableParams (paramsAt s)
 unfolding paramsAt paramsOf

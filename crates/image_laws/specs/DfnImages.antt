@@ -16,6 +16,7 @@ use Rattle.porous_images.specs.Images.{cellAt, putCell}
 use Rattle.image_laws.specs.Words.{word-read-back, float-read-back}
 use Rattle.image_laws.specs.Encodable.{EncodableRow}
 use Rattle.image_laws.specs.Rows.{Writes, SameWords, same-part, same-below, same-float, writes-then, writes-word, writes-float, writes-places, place-read-back, row-read-back, row-same}
+use Rattle.image_laws.specs.Layout.{Layout}
 
 -- ---- parameters: 25 numbers, and for each electrode a count and 16 coefficients
 pub record EncodableParams (p : DfnParams) : Type 0 where
@@ -280,3 +281,6 @@ module _ (s : List ℕ) (d : DfnSolver) (k : EncodableDfn d) where
       let salt : placesAt 33 d6 1088 ≡ d .«c_e» = row-same 33 d5 d6 1088 (same-below (lit≤ tt) w6) ∙ row-read-back 33 d4 1088 (d .«c_e») (k .salt-long) (rw l4 (omega (arith, h))) (k .salt-places) in
       let at : (i j : ℕ) → i < 5 → j ≡ 1121 + i → floatAt d6 j ≡ getD (lastNumbers d) i nan = place-read-back d5 1121 (lastNumbers d) (rw l5 (omega (arith, h))) (k .last) in
       rw (params, grid, neg, pos, salt, at 0 1121 (lit≤ tt) refl, at 1 1122 (lit≤ tt) refl, at 2 1123 (lit≤ tt) refl, at 3 1124 (lit≤ tt) refl, at 4 1125 (lit≤ tt) refl)
+
+pub dfn-layout : Layout 1126 cellAt putCell EncodableDfn
+dfn-layout = record { same = dfn-same; writes = writes-dfn; read-back = dfn-read-back }

@@ -6,8 +6,7 @@ use mathlib.Core.List.{List}
 use native.Mathlib.Omega.{arith}
 use native.Mathlib.Nat.{le-refl}
 use lib.Dec.{T, lit≤, eqb, eqb·suc-zero}
-use lib.ListN.{length, take}
-use lib.Seq.{length-take-le}
+use lib.ListN.{length}
 use lib.Ieee.{Float, binary64, fits}
 use lib.Ieee.Bits.{is-true}
 use Rattle.matrix_rows.specs.Loops.{either}
@@ -26,12 +25,11 @@ use Rattle.codec.specs.Words.{wordAt}
 use Rattle.image_rows.specs.Written.{putEnding}
 use Rattle.porous_images.specs.Images.{cellAt, putCell}
 use Rattle.porous_calls.specs.Runs.{galvanostaticAfter}
-use Rattle.image_laws.specs.Rows.{same-below}
+use Rattle.image_laws.specs.Layout.{Holds, holds}
 use Rattle.image_laws.specs.Reports.{writes-ending, ending-read-back, rows-read-back}
-use Rattle.image_laws.specs.DfnImages.{EncodableDfn, dfn-same, writes-dfn, dfn-read-back}
+use Rattle.image_laws.specs.DfnImages.{EncodableDfn, writes-dfn, dfn-layout}
 use Rattle.image_laws.specs.Turns.{run-keeps, run-rows, ending-most}
 use Rattle.image_laws.specs.DfnEncodable.{dfnAt-encodable, dfn-step-encodable}
-use Rattle.image_laws.specs.DfnSteps.{first-dfn}
 
 -- ---- a refused step leaves the cell
 pub dfn-step-refused : (d : DfnSolver) (i dt : Float) → (D.stepped d i dt .refusal ≡ 0 → ⊥) → D.stepped d i dt .cell ≡ d
@@ -104,7 +102,8 @@ module _ (d : DfnSolver) (i dt limit : Float) (places : ℕ) where
   unfolding galvanostatic
   written-run = go (runRefusal d (feedOf i dt limit) places) refl
     where
-      go : (k : ℕ) → runRefusal d (feedOf i dt limit) places ≡ k → T (told (galvanostatic d i dt limit places .ended .refusal) (galvanostatic d i dt limit places .rows)) → runRefusal d (feedOf i dt limit) places ≡ 0
+      go : (k : ℕ) → runRefusal d (feedOf i dt limit) places ≡ k → T (told (galvanostatic d i dt limit places .ended .refusal) (galvanostatic d i dt limit places .rows))
+          → runRefusal d (feedOf i dt limit) places ≡ 0
       go zero e t = e
       go (suc k) e t = absurd (rw (e, eqb·suc-zero k, eqb·suc-zero k) at t)
 
@@ -113,7 +112,7 @@ module _ (d : DfnSolver) (i dt limit : Float) (places : ℕ) where
   run-passes h = DC.step-cell d i dt (none-met _ _ (none-met _ _ (none-met _ _ h .1) .1) .0)
 
 -- ---- the answer
-module _ (s : List ℕ) (i dt limit : Float) (places : ℕ) (a : List ℕ) (f : T (fits binary64 i))
+module _ (s : List ℕ) (i dt limit : Float) (places : ℕ) (a : List ℕ) (l : length a ≡ 9024) (f : T (fits binary64 i))
     (h : T (told (galvanostatic (cellAt s) i dt limit places .ended .refusal) (galvanostatic (cellAt s) i dt limit places .rows))) where
   abbrev run : RunSaid
   run = galvanostatic (cellAt s) i dt limit places
@@ -128,28 +127,20 @@ module _ (s : List ℕ) (i dt limit : Float) (places : ℕ) (a : List ℕ) (f : 
   unfolding galvanostaticAfter
   answer-is = rw (is-true (told (run .ended .refusal) (run .rows)) h)
 
-  new-length : length new ≡ length a
-  new-length = writes-dfn a (run .cell) run-cell .size
+  pub dfn-run-answer : Holds 1126 cellAt a (galvanostaticAfter s i dt limit places a) (galvanostatic (cellAt s) i dt limit places .cell)
+  dfn-run-answer =
+      rw answer-is
+      (holds dfn-layout a (run .cell) run-cell (rw l (lit≤ tt)) (putEnding new 1126 (run .ended .ending) (run .rows)) 1128 (writes-ending new 1126 (run .ended .ending) (run .rows)))
 
-  pub dfn-run-answer-length : length (galvanostaticAfter s i dt limit places a) ≡ length a
-  dfn-run-answer-length = ap length answer-is ∙ writes-ending new 1126 (run .ended .ending) (run .rows) .size ∙ new-length
+  room : 9024 ≤ length new
+  room = rw (writes-dfn a (run .cell) run-cell .size ∙ l) (lit≤ tt)
 
-  module _ (l : length a ≡ 9024) where
-    pub dfn-run-answer-first : cellAt (take 9008 (galvanostaticAfter s i dt limit places a)) ≡ galvanostatic (cellAt s) i dt limit places .cell
-    dfn-run-answer-first =
-        first-dfn (galvanostaticAfter s i dt limit places a) (rw (dfn-run-answer-length ∙ l) (lit≤ tt)) ∙ ap cellAt answer-is
-        ∙ dfn-same new (putEnding new 1126 (run .ended .ending) (run .rows)) (same-below (lit≤ tt) (writes-ending new 1126 (run .ended .ending) (run .rows)))
-        ∙ dfn-read-back a (run .cell) run-cell (rw l (lit≤ tt))
+  pub dfn-run-ending-answer : wordAt (galvanostaticAfter s i dt limit places a) 1126 ≡ galvanostatic (cellAt s) i dt limit places .ended .ending
+  dfn-run-ending-answer =
+      let m = dfn-run-ending (cellAt s) i dt limit places in
+      ap (λ (b : List ℕ). wordAt b 1126) answer-is ∙ ending-read-back new 1126 (run .ended .ending) (run .rows) room (omega (arith, m))
 
-    pub dfn-run-first-length : length (take 9008 (galvanostaticAfter s i dt limit places a)) ≡ 9008
-    dfn-run-first-length = length-take-le 9008 (galvanostaticAfter s i dt limit places a) (rw (dfn-run-answer-length ∙ l) (lit≤ tt))
-
-    pub dfn-run-ending-answer : wordAt (galvanostaticAfter s i dt limit places a) 1126 ≡ galvanostatic (cellAt s) i dt limit places .ended .ending
-    dfn-run-ending-answer =
-        let m = dfn-run-ending (cellAt s) i dt limit places in
-        ap (λ (b : List ℕ). wordAt b 1126) answer-is ∙ ending-read-back new 1126 (run .ended .ending) (run .rows) (rw (new-length ∙ l) (lit≤ tt)) (omega (arith, m))
-
-    pub dfn-run-rows-answer : places < 2 ^ 64 → wordAt (galvanostaticAfter s i dt limit places a) 1127 ≡ galvanostatic (cellAt s) i dt limit places .rows
-    dfn-run-rows-answer n =
-        let m = dfn-rows-most (cellAt s) i dt limit places in
-        ap (λ (b : List ℕ). wordAt b 1127) answer-is ∙ rows-read-back new 1126 (run .ended .ending) (run .rows) (rw (new-length ∙ l) (lit≤ tt)) (omega (arith, m, n))
+  pub dfn-run-rows-answer : places < 2 ^ 64 → wordAt (galvanostaticAfter s i dt limit places a) 1127 ≡ galvanostatic (cellAt s) i dt limit places .rows
+  dfn-run-rows-answer n =
+      let m = dfn-rows-most (cellAt s) i dt limit places in
+      ap (λ (b : List ℕ). wordAt b 1127) answer-is ∙ rows-read-back new 1126 (run .ended .ending) (run .rows) room (omega (arith, m, n))

@@ -13,7 +13,8 @@ use Rattle.electrolyte.specs.declared.ElectrolyteState.{ElectrolyteState}
 use Rattle.electrolyte_images.specs.Images.{saltAt, putSalt, electrolyteAt, regionNumbers, putRegions, putElectrolyte}
 use Rattle.image_laws.specs.Words.{word-read-back}
 use Rattle.image_laws.specs.Encodable.{EncodableRow}
-use Rattle.image_laws.specs.Rows.{Writes, SameWords, same-below, same-float, writes-then, writes-word, writes-places, place-read-back, row-read-back}
+use Rattle.image_laws.specs.Rows.{Writes, SameWords, same-part, same-below, same-float, writes-then, writes-word, writes-places, place-read-back, row-read-back, row-same}
+use Rattle.image_laws.specs.Layout.{Layout}
 
 -- ---- the salt: seven numbers
 abbrev pub saltNumbers : ElectrolyteParams → List Float
@@ -123,3 +124,23 @@ module _ (s : List ℕ) (e : ElectrolyteState) (k : EncodableElectrolyte e) wher
         pos,
         row-read-back 96 e5 16 (e .«c_e») (k .long) (rw l5 (omega (arith, h))) (k .places),
       )
+
+pub electrolyte-same : (s s' : List ℕ) → SameWords 0 112 s s' → electrolyteAt s' ≡ electrolyteAt s
+unfolding electrolyteAt
+electrolyte-same s s' p =
+    rw (
+      salt-same s s' (same-part (lit≤ tt) (lit≤ tt) p),
+      same-float p 7 (lit≤ tt) (lit≤ tt),
+      same-float p 8 (lit≤ tt) (lit≤ tt),
+      same-float p 9 (lit≤ tt) (lit≤ tt),
+      same-float p 10 (lit≤ tt) (lit≤ tt),
+      same-float p 11 (lit≤ tt) (lit≤ tt),
+      same-float p 12 (lit≤ tt) (lit≤ tt),
+      p .words 13 (lit≤ tt) (lit≤ tt),
+      p .words 14 (lit≤ tt) (lit≤ tt),
+      p .words 15 (lit≤ tt) (lit≤ tt),
+      row-same 96 s s' 16 (same-part (lit≤ tt) (lit≤ tt) p),
+    )
+
+pub electrolyte-layout : Layout 112 electrolyteAt putElectrolyte EncodableElectrolyte
+electrolyte-layout = record { same = electrolyte-same; writes = writes-electrolyte; read-back = electrolyte-read-back }

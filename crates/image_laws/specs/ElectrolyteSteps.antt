@@ -25,7 +25,8 @@ use Rattle.electrolyte_images.specs.Images.{saltAt, electrolyteAt}
 use Rattle.porous_calls.specs.Steps.{electrolyteNumber, electrolyteAfter}
 use Rattle.image_laws.specs.Accepted.{inputs-pass, accepted}
 use Rattle.image_laws.specs.Encodable.{EncodableRow, []ᵉ, _∷ᵉ_, first-encodable, max-fits, float-encodable, places-encodable, places-count}
-use Rattle.image_laws.specs.ElectrolyteImages.{saltNumbers, EncodableElectrolyte, writes-electrolyte, electrolyte-read-back}
+use Rattle.image_laws.specs.Layout.{Holds, holds-alone}
+use Rattle.image_laws.specs.ElectrolyteImages.{saltNumbers, EncodableElectrolyte, electrolyte-layout}
 
 -- ---- an electrolyte of an image
 pub saltAt-encodable : (s : List ℕ) → EncodableRow (saltNumbers (saltAt s))
@@ -83,10 +84,6 @@ module _ (s : List ℕ) (jNeg jPos dt t : Float) (a : List ℕ) (h : electrolyte
   stepped-electrolyte : EncodableElectrolyte after
   stepped-electrolyte = electrolyte-step-encodable (electrolyteAt s) jNeg jPos dt t (electrolyteAt-encodable s electrolyte-passes)
 
-  pub electrolyte-answer : 896 ≤ length a → electrolyteAt (electrolyteAfter s jNeg jPos dt t a) ≡ E.stepped (electrolyteAt s) jNeg jPos dt t .state
+  pub electrolyte-answer : 896 ≤ length a → Holds 112 electrolyteAt a (electrolyteAfter s jNeg jPos dt t a) (E.stepped (electrolyteAt s) jNeg jPos dt t .state)
   unfolding electrolyteAfter written
-  electrolyte-answer l = rw (eq-eqb (electrolyteNumber s jNeg jPos dt t) 0 h) (electrolyte-read-back a after stepped-electrolyte l)
-
-  pub electrolyte-answer-length : length (electrolyteAfter s jNeg jPos dt t a) ≡ length a
-  unfolding electrolyteAfter written
-  electrolyte-answer-length = rw (eq-eqb (electrolyteNumber s jNeg jPos dt t) 0 h) (writes-electrolyte a after stepped-electrolyte .size)
+  electrolyte-answer l = rw (eq-eqb (electrolyteNumber s jNeg jPos dt t) 0 h) (holds-alone electrolyte-layout a after stepped-electrolyte l)

@@ -1,13 +1,13 @@
 -- What an image can hold of a row: numbers of binary64, the NaN among them. Assumes nothing.
 use Prim.Native.Nat.{ℕ, zero, suc, _+_}
 use mathlib.Core.Path.{_≡_, _∙_}
-use mathlib.Core.Bool.{cond, _||_}
+use mathlib.Core.Bool.{Bool, true, cond, _&&_, _||_}
 use mathlib.Core.List.{List, [], _∷_}
 use lib.Dec.{T}
 use lib.ListN.{length, getD, set, replicate, length-replicate}
 use lib.Ieee.{Float, nan, inf, fin, isNan, lt, binary64, fits, ofBits}
 use lib.Ieee.Bits.{ofBits-fits}
-use lib.Ieee.Fits.{nan-fits, cond-fits}
+use lib.Ieee.Fits.{nan-fits, cond-fits, and-l, and-r}
 use Rattle.binary64.specs.Operators.{f64}
 use Rattle.choice.specs.Choice.{absOf, clampOf, maxOf}
 use Rattle.turns.specs.Turns.{firstBy, first-length}
@@ -15,7 +15,6 @@ use Rattle.places.specs.Places.{placesBy}
 use Rattle.codec.specs.Words.{floatAt, placesAt}
 
 infixr 40 _∷ᵉ_
-
 -- each place is a number that binary64 holds
 pub record EncodableRow (c : List Float) : Type 0 where
   pub place : (i : ℕ) → T (fits binary64 (getD c i nan))
@@ -29,6 +28,16 @@ _∷ᵉ_ {x} {c} f h = record { place = go }
     go : (i : ℕ) → T (fits binary64 (getD (x ∷ c) i nan))
     go zero = f
     go (suc i) = h .place i
+
+-- a row of closed numbers, by computation
+unfoldable pub allFit : List Float → Bool
+allFit [] = true
+allFit (x ∷ c) = fits binary64 x && allFit c
+
+pub closed-row : (c : List Float) → T (allFit c) → EncodableRow c
+unfolding allFit
+closed-row [] h = []ᵉ
+closed-row (x ∷ c) h = and-l (fits binary64 x) (allFit c) h ∷ᵉ closed-row c (and-r (fits binary64 x) (allFit c) h)
 
 -- ---- what is made of a row
 pub tail-encodable : {x : Float} {c : List Float} → EncodableRow (x ∷ c) → EncodableRow c
@@ -86,7 +95,8 @@ unfolding floatAt
 float-encodable s k = ofBits-fits binary64 _
 
 pub places-encodable : (n : ℕ) (s : List ℕ) (at : ℕ) → EncodableRow (placesAt n s at)
-places-encodable n s at = first-encodable n (λ k. floatAt s (at + k)) (replicate n (ofBits binary64 0)) (λ i. float-encodable s (at + i)) (copies-encodable n (ofBits binary64 0) (ofBits-fits binary64 0))
+places-encodable n s at =
+    first-encodable n (λ k. floatAt s (at + k)) (replicate n (ofBits binary64 0)) (λ i. float-encodable s (at + i)) (copies-encodable n (ofBits binary64 0) (ofBits-fits binary64 0))
 
 pub places-count : (n : ℕ) (s : List ℕ) (at : ℕ) → length (placesAt n s at) ≡ n
 places-count n s at = first-length (λ k. floatAt s (at + k)) (replicate n (ofBits binary64 0)) n ∙ length-replicate n (ofBits binary64 0)

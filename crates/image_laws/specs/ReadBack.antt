@@ -1,5 +1,6 @@
--- WHAT IS WRITTEN IS READ BACK, for each call from C that returns 0: the record, the report, the number or the solution in its answer is the one that the call's definition gives. That the
--- call returns 0 is the only premise: then its lengths are right. A number that an answer repeats is given by its 64 bits, as C gives it (`f64 bits`). Assumes nothing.
+-- WHAT IS WRITTEN IS READ BACK, for each call from C that returns 0: the record, the report, the number or the solution in its answer is the one that the
+-- call's definition gives. That the call returns 0 is the only premise: then its lengths are right. A number that an answer repeats is given by its 64 bits, as
+-- C gives it (`f64 bits`). Assumes nothing.
 use Prim.Native.Nat.{ℕ, _≤_, _<_, _^_}
 use mathlib.Core.Path.{sym, _≡_, refl, ap, _∙_}
 use mathlib.Core.Bool.{Bool, true, false}
@@ -39,13 +40,14 @@ use Rattle.boundary.specs.Runs as BR
 use Rattle.image_laws.specs.Accepted.{accepted, no-refusal, second-true}
 use Rattle.image_laws.specs.Encodable.{literal}
 use Rattle.image_laws.specs.Rows.{row-read-back}
+use Rattle.image_laws.specs.CellImages.{particleIn}
 use Rattle.image_laws.specs.Reports.{cellReportAt, dfnReportAt}
-use Rattle.image_laws.specs.CellSteps.{particle-answer, cell-answer-first, sub-steps-answer, report-answer}
-use Rattle.image_laws.specs.CellRuns.{run-answer-first, run-ending-answer, run-rows-answer}
+use Rattle.image_laws.specs.CellSteps.{particle-answer, cell-answer, sub-steps-answer, report-answer}
+use Rattle.image_laws.specs.CellRuns.{run-answer, run-ending-answer, run-rows-answer}
 use Rattle.image_laws.specs.CellBuilds.{particle-built, cell-build-number, cell-build-after, cell-built}
 use Rattle.image_laws.specs.ElectrolyteSteps.{electrolyte-answer}
-use Rattle.image_laws.specs.DfnSteps.{dfn-answer-first, dfn-report-answer}
-use Rattle.image_laws.specs.DfnRuns.{dfn-run-answer-first, dfn-run-ending-answer, dfn-run-rows-answer}
+use Rattle.image_laws.specs.DfnSteps.{dfn-answer, dfn-report-answer}
+use Rattle.image_laws.specs.DfnRuns.{dfn-run-answer, dfn-run-ending-answer, dfn-run-rows-answer}
 use Rattle.image_laws.specs.DfnBuilds.{electrolyte-built, dfn-built}
 use Rattle.image_laws.specs.ReadyRecords.{sheet-ready, salt-ready, params-ready}
 use Rattle.image_laws.specs.Numbers.{number-answered}
@@ -57,14 +59,14 @@ pub particle-step-read-back : (s : List ℕ) (j dt t : Float) (a : List ℕ) →
 unfolding B.particleNumber B.particleAfter
 particle-step-read-back s j dt t a h =
     let c = accepted s a 600 600 (CS.particleNumber s j dt t) (CS.particleAfter s j dt t a) h in
-    ap (λ (b : List ℕ). particleAt b 0) (c .writes) ∙ particle-answer s j dt t a (c .number) (rw (c .answer) (le-refl 600))
+    ap particleIn (c .writes) ∙ particle-answer s j dt t a (c .number) (rw (c .answer) (le-refl 600)) .whole
 
 pub cell-step-read-back : (s : List ℕ) (i dt t : Float) (a : List ℕ) → B.cellNumber s i dt t (length a) ≡ 0
     → cellAt (take 1256 (B.cellAfter s i dt t a)) ≡ S.stepped (cellAt s) i dt t .solver
 unfolding B.cellNumber B.cellAfter
 cell-step-read-back s i dt t a h =
     let c = accepted s a 1256 1328 (CS.cellNumber s i dt t) (CS.cellAfter s i dt t a) h in
-    ap (λ (b : List ℕ). cellAt (take 1256 b)) (c .writes) ∙ cell-answer-first s i dt t a (c .number) (c .answer)
+    ap (λ (b : List ℕ). cellAt (take 1256 b)) (c .writes) ∙ cell-answer s i dt t a (c .number) (c .answer) .first
 
 pub cell-report-read-back : (s : List ℕ) (bits : ℕ) (dt t : Float) (a : List ℕ) → B.cellNumber s (f64 bits) dt t (length a) ≡ 0
     → cellReportAt (B.cellAfter s (f64 bits) dt t a) ≡ S.stepped (cellAt s) (f64 bits) dt t .state
@@ -85,14 +87,14 @@ pub electrolyte-step-read-back : (s : List ℕ) (jNeg jPos dt t : Float) (a : Li
 unfolding B.electrolyteNumber B.electrolyteAfter
 electrolyte-step-read-back s jNeg jPos dt t a h =
     let c = accepted s a 896 896 (PS.electrolyteNumber s jNeg jPos dt t) (PS.electrolyteAfter s jNeg jPos dt t a) h in
-    ap electrolyteAt (c .writes) ∙ electrolyte-answer s jNeg jPos dt t a (c .number) (rw (c .answer) (le-refl 896))
+    ap electrolyteAt (c .writes) ∙ electrolyte-answer s jNeg jPos dt t a (c .number) (rw (c .answer) (le-refl 896)) .whole
 
 pub dfn-step-read-back : (s : List ℕ) (bits : ℕ) (dt : Float) (a : List ℕ) → B.dfnNumber s (f64 bits) dt (length a) ≡ 0
     → I.cellAt (take 9008 (B.dfnAfter s (f64 bits) dt a)) ≡ D.stepped (I.cellAt s) (f64 bits) dt .cell
 unfolding B.dfnNumber B.dfnAfter
 dfn-step-read-back s bits dt a h =
     let c = accepted s a 9008 9072 (PS.dfnNumber s (f64 bits) dt) (PS.dfnAfter s (f64 bits) dt a) h in
-    ap (λ (b : List ℕ). I.cellAt (take 9008 b)) (c .writes) ∙ dfn-answer-first s (f64 bits) dt a (literal bits) (c .number) (c .answer)
+    ap (λ (b : List ℕ). I.cellAt (take 9008 b)) (c .writes) ∙ dfn-answer s (f64 bits) dt a (literal bits) (c .number) (c .answer) .first
 
 pub dfn-report-read-back : (s : List ℕ) (bits : ℕ) (dt : Float) (a : List ℕ) → B.dfnNumber s (f64 bits) dt (length a) ≡ 0
     → dfnReportAt (B.dfnAfter s (f64 bits) dt a) ≡ D.stepped (I.cellAt s) (f64 bits) dt .report
@@ -114,9 +116,9 @@ unfolding BR.dischargeAfter
 discharge-read-back s i dt t limit places a m n h =
     let e : BR.dischargeAfter s i dt t limit places a ≡ CR.dischargeAfter s i dt t limit places a = rw (eq-eqb (length s) 1256 m, eq-eqb (length a) 1272 n) in
     record {
-      cell = ap (λ (b : List ℕ). cellAt (take 1256 b)) e ∙ run-answer-first s i dt t limit places a h n;
-      ending = ap (λ (b : List ℕ). wordAt b 157) e ∙ run-ending-answer s i dt t limit places a h n;
-      rows = λ l. ap (λ (b : List ℕ). wordAt b 158) e ∙ run-rows-answer s i dt t limit places a h n l;
+      cell = ap (λ (b : List ℕ). cellAt (take 1256 b)) e ∙ run-answer s i dt t limit places a n h .first;
+      ending = ap (λ (b : List ℕ). wordAt b 157) e ∙ run-ending-answer s i dt t limit places a n h;
+      rows = λ l. ap (λ (b : List ℕ). wordAt b 158) e ∙ run-rows-answer s i dt t limit places a n h l;
     }
 
 pub accepted-discharge-read-back : (s : List ℕ) (i dt t limit : Float) (places : ℕ) (a : List ℕ) → BR.dischargeNumber s i dt t limit places (length a) ≡ 0
@@ -140,9 +142,9 @@ galvanostatic-read-back s bits dt limit places a m n h =
     let i = f64 bits in
     let e : BR.galvanostaticAfter s i dt limit places a ≡ PR.galvanostaticAfter s i dt limit places a = rw (eq-eqb (length s) 9008 m, eq-eqb (length a) 9024 n) in
     record {
-      cell = ap (λ (b : List ℕ). I.cellAt (take 9008 b)) e ∙ dfn-run-answer-first s i dt limit places a (literal bits) h n;
-      ending = ap (λ (b : List ℕ). wordAt b 1126) e ∙ dfn-run-ending-answer s i dt limit places a (literal bits) h n;
-      rows = λ l. ap (λ (b : List ℕ). wordAt b 1127) e ∙ dfn-run-rows-answer s i dt limit places a (literal bits) h n l;
+      cell = ap (λ (b : List ℕ). I.cellAt (take 9008 b)) e ∙ dfn-run-answer s i dt limit places a n (literal bits) h .first;
+      ending = ap (λ (b : List ℕ). wordAt b 1126) e ∙ dfn-run-ending-answer s i dt limit places a n (literal bits) h;
+      rows = λ l. ap (λ (b : List ℕ). wordAt b 1127) e ∙ dfn-run-rows-answer s i dt limit places a n (literal bits) h l;
     }
 
 pub accepted-galvanostatic-read-back : (s : List ℕ) (bits : ℕ) (dt limit : Float) (places : ℕ) (a : List ℕ) → BR.galvanostaticNumber s (f64 bits) dt limit places (length a) ≡ 0
@@ -158,24 +160,24 @@ pub particle-build-read-back : (s a : List ℕ) → B.buildNumber 7 s (length a)
 unfolding B.buildNumber B.buildAfter buildLength builtLength
 particle-build-read-back s a h =
     let c = accepted s a 88 600 (newNumber 7 s) (newAfter 7 s a) h in
-    ap (λ (b : List ℕ). particleAt b 0) (c .writes) ∙ particle-built s a (c .number) (rw (c .answer) (le-refl 600))
+    ap particleIn (c .writes) ∙ particle-built s a (c .number) (rw (c .answer) (le-refl 600)) .whole
 
 pub cell-build-read-back : (call : ℕ) (s a : List ℕ) → 8 ≤ call → call ≤ 10 → B.buildNumber call s (length a) ≡ 0 → cellAt (B.buildAfter call s a) ≡ cellBuilt call s .solver
 cell-build-read-back call s a m n h =
     let c = accepted s a (buildLength call) 1256 (newNumber call s) (newAfter call s a) (sym (cell-build-number call s a m n) ∙ h) in
-    ap cellAt (cell-build-after call s a m n ∙ c .writes) ∙ cell-built call s a m n (c .number) (rw (c .answer) (le-refl 1256))
+    ap cellAt (cell-build-after call s a m n ∙ c .writes) ∙ cell-built call s a m n (c .number) (rw (c .answer) (le-refl 1256)) .whole
 
 pub electrolyte-build-read-back : (s a : List ℕ) → B.buildNumber 11 s (length a) ≡ 0 → electrolyteAt (B.buildAfter 11 s a) ≡ electrolyteBuilt s .state
 unfolding B.buildNumber B.buildAfter buildLength builtLength
 electrolyte-build-read-back s a h =
     let c = accepted s a 128 896 (newNumber 11 s) (newAfter 11 s a) h in
-    ap electrolyteAt (c .writes) ∙ electrolyte-built s a (c .number) (rw (c .answer) (le-refl 896))
+    ap electrolyteAt (c .writes) ∙ electrolyte-built s a (c .number) (rw (c .answer) (le-refl 896)) .whole
 
 pub dfn-build-read-back : (s a : List ℕ) → B.buildNumber 12 s (length a) ≡ 0 → I.cellAt (B.buildAfter 12 s a) ≡ dfnMade s .cell
 unfolding B.buildNumber B.buildAfter buildLength builtLength
 dfn-build-read-back s a h =
     let c = accepted s a 512 9008 (newNumber 12 s) (newAfter 12 s a) h in
-    ap I.cellAt (c .writes) ∙ dfn-built s a (c .number) (rw (c .answer) (le-refl 9008))
+    ap I.cellAt (c .writes) ∙ dfn-built s a (c .number) (rw (c .answer) (le-refl 9008)) .whole
 
 -- the ready records: 1 to 3 a sheet, 4 an electrolyte's parameters, 5 and 6 those of a Doyle-Fuller-Newman cell
 pub ready-sheet-read-back : (call : ℕ) (s a : List ℕ) → 1 ≤ call → call ≤ 3 → B.buildNumber call s (length a) ≡ 0 → sheetAt (B.buildAfter call s a) 0 ≡ readySheet call

@@ -22,9 +22,6 @@ pub record Writes (a b : ℕ) (s s' : List ℕ) : Type 0 where
 pub record SameWords (a b : ℕ) (s s' : List ℕ) : Type 0 where
   pub words : (k : ℕ) → a ≤ k → k < b → wordAt s' k ≡ wordAt s k
 
-pub same-trans : {a b : ℕ} {s s' s'' : List ℕ} → SameWords a b s s' → SameWords a b s' s'' → SameWords a b s s''
-same-trans p q = record { words = λ k l m. q .words k l m ∙ p .words k l m }
-
 pub same-part : {a b c d : ℕ} {s s' : List ℕ} → a ≤ c → d ≤ b → SameWords a b s s' → SameWords c d s s'
 same-part h l p = record { words = λ k m n. p .words k (omega (arith, h, m)) (omega (arith, l, n)) }
 
@@ -88,4 +85,3 @@ row-read-back n s at c e h f =
 -- rows of the same words
 pub row-same : (n : ℕ) (s s' : List ℕ) (at : ℕ) → SameWords at (at + n) s s' → placesAt n s' at ≡ placesAt n s at
 row-same n s s' at p = first-cong (λ k. floatAt s' (at + k)) (λ k. floatAt s (at + k)) (replicate n (ofBits binary64 0)) n (λ i l. same-float p (at + i) (omega arith) (omega (arith, l)))
-

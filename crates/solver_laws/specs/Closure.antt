@@ -9,7 +9,6 @@ use lib.Ieee.{Float, nan, le}
 use lib.Ieee.Bits.{is-true}
 use lib.Ieee.Fits.{and-l, and-r, and-i}
 use lib.ListN.{getD}
-use Rattle.fraction.specs.Fraction.{_≤F_}
 use Rattle.fraction.specs.Field.{≈F-sym, ≤F-of-≈F, ≤F-trans}
 use Rattle.fraction.specs.Certificate.{quote, le-by, _⊞_}
 use Rattle.binary64.specs.Operators.{_⊕_, _⊘_, f64, count}
