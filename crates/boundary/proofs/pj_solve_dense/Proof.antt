@@ -1,20 +1,17 @@
 -- `boundary::pj_solve_dense` meets its contract. Assumes nothing.
 use mathlib.Core.Path.{refl}
+use borrow.Author.Tests.{eq-eqb, ne-eqb}
 use Rattle.dense.specs.declared.Solved.{Solved}
 use Rattle.codec.specs.Words.{putRow}
 use Rattle.image_rows.specs.Written.{accepted, refused}
 use Rattle.boundary.specs.Calls.{met, denseNumber, denseAfter}
-use Rattle.boundary.proofs.Answers.{on, off}
 use borrow.Author.Needs.{needs}
 use Rattle.boundary.proofs.pj_solve_dense.Statement.{statement}
 use Rattle.boundary.proofs.pj_solve_dense.Tie as tie
 
-lengths-fit-requires : tie.Need-lengths-fit-requires
-lengths-fit-requires c κs = search needs
-
 returns : tie.Need-returns
 unfolding met denseNumber denseAfter
-returns c = rw (← c .before .lengths-fit .ensures, off (c .before .lengths-fit .result) (c .if1 .taken)) (refl, refl)
+returns c = rw (ne-eqb _ _ (c .if1 .taken)) (refl, refl)
 
 solve-dense-requires : tie.Need-solve-dense-requires
 solve-dense-requires c κs = search needs
@@ -27,20 +24,18 @@ same-length c = c .before .before .put-32 .kept .0
 
 returns-2 : tie.Need-returns-2
 unfolding met denseNumber denseAfter
-returns-2 c = rw (← c .before .before .before .before .before .before .before .before .lengths-fit .ensures, on (c .before .before .before .before .before .before .before .before .lengths-fit .result) (c .before .before .before .before .before .before .before .if1 .left)) (accepted (λ (t : Solved). t .refusal) (λ (t : Solved). putRow (c .before .before .before .before .before .before .before .before .before .before .before .before .args .answer .now) 0 (t .x)) _ _ _ (c .before .before .before .before .before .before .solve-dense .ensures) _ (c .before .before .before .before .before .if2 .taken) (c .before .before .put-32 .ensures))
+returns-2 c =
+    let called = c .before .before .before .before .before .before in
+    rw (eq-eqb _ _ (called .before .if1 .left))
+    (accepted (λ (t : Solved). t .refusal) (λ (t : Solved). putRow (called .before .before .before .before .before .args .answer .now) 0 (t .x)) _ _ _
+    (called .solve-dense .ensures) _ (c .before .before .before .before .before .if2 .taken) (c .before .before .put-32 .ensures))
 
 returns-3 : tie.Need-returns-3
 unfolding met denseNumber denseAfter
-returns-3 c = rw (← c .before .before .before .lengths-fit .ensures, on (c .before .before .before .lengths-fit .result) (c .before .before .if1 .left)) (refused (λ (t : Solved). t .refusal) (λ (t : Solved). putRow (c .before .before .before .before .before .before .before .args .answer .now) 0 (t .x)) _ _ _ (c .before .solve-dense .ensures) (c .if2 .left))
+returns-3 c =
+    let called = c .before in
+    rw (eq-eqb _ _ (called .before .if1 .left))
+    (refused (λ (t : Solved). t .refusal) (λ (t : Solved). putRow (called .before .before .before .before .before .args .answer .now) 0 (t .x)) _ _ _ (called .solve-dense .ensures) (c .if2 .left))
 
 pub pj-solve-dense-spec : {M : Type 1} → statement M
-pj-solve-dense-spec =
-    tie.close
-    (tie.spec
-    lengths-fit-requires
-    returns
-    solve-dense-requires
-    put-32-requires
-    same-length
-    returns-2
-    returns-3)
+pj-solve-dense-spec = tie.close (tie.spec returns solve-dense-requires put-32-requires same-length returns-2 returns-3)
