@@ -1,17 +1,16 @@
 -- Builds of C, `pj_build` 7 to 12: an accepted one replaces the record. Assumes nothing.
 use Prim.Native.Nat.{ℕ, _≤_}
 use mathlib.Core.Path.{_≡_, refl, sym, ap, _∙_}
-use mathlib.Core.Bool.{Bool, true, false, cond}
+use mathlib.Core.Bool.{cond}
 use mathlib.Core.List.{List}
-use native.Mathlib.Omega.{arith}
 use borrow.Author.Tests.{eq-eqb, ne-eqb}
 use lib.Dec.{eqb}
 use lib.ListN.{length}
-use Rattle.refusal.specs.Numbers as N
 use Rattle.cell_images.specs.Images.{cellAt}
 use Rattle.electrolyte_images.specs.Images.{electrolyteAt}
 use Rattle.porous_images.specs.Images as I
 use Rattle.image_builds.specs.Builds.{buildLength, builtLength, newNumber, particleMade, cellBuilt, electrolyteBuilt, dfnMade}
+use Rattle.image_laws.specs.Accepted.{met-both}
 use Rattle.image_laws.specs.CellImages.{particleIn}
 use Rattle.boundary.specs.Calls as B
 use Rattle.image_laws.specs.CellBuilds.{cell-build-number, cell-number}
@@ -84,12 +83,6 @@ module _ {C : Type 0} (n : ℕ) (new old : C) where
   unbuilt : (n ≡ 0 → ⊥) → replaced n new old ≡ old
   unbuilt h = rw (ne-eqb n 0 h)
 
--- the number that a build returns where it is accepted
-met-number : (b : Bool) (n : ℕ) → B.met b n ≡ 0 → n ≡ 0
-unfolding B.met
-met-number true n h = h
-met-number false n h = let z : N.badLength ≡ 0 = h in absurd (omega (arith, z))
-
 particle-build-returned : (s : List ℕ) (q : Build) (a : List ℕ) → particleBuilds .returned s q a ≡ B.met (particleBuilds .formed q a) (particleMade (q .image) .refusal)
 unfolding B.buildNumber buildLength builtLength newNumber
 particle-build-returned s q a = refl
@@ -102,7 +95,7 @@ particle-builds-implement =
       handed-is = λ s q a. refl;
       accepted-reads = λ s q a h.
           ap particleIn (whole 600 (particleBuilds .left s q a) (particle-build-length (q .image) a h)) ∙ particle-build-read-back (q .image) a h
-          ∙ sym (built _ _ (particleIn s) (met-number _ _ (sym (particle-build-returned s q a) ∙ h)));
+          ∙ sym (built _ _ (particleIn s) (met-both _ _ (sym (particle-build-returned s q a) ∙ h) .1));
       accepted-fills = λ s q a h. let l = particle-build-length (q .image) a h in ap length (whole 600 (particleBuilds .left s q a) l) ∙ l;
       refused-keeps = λ p q n. unbuilt _ _ p n;
     })
@@ -119,7 +112,7 @@ cell-builds-implement =
       handed-is = λ s q a. refl;
       accepted-reads = λ s q a h.
           ap cellAt (whole 1256 (cellBuilds .left s q a) (cell-build-length (q .call) (q .image) a (q .least) (q .most) h)) ∙ cell-build-read-back (q .call) (q .image) a (q .least) (q .most) h
-          ∙ sym (built _ _ (cellAt s) (met-number _ _ (sym (cell-build-returned s q a) ∙ h)));
+          ∙ sym (built _ _ (cellAt s) (met-both _ _ (sym (cell-build-returned s q a) ∙ h) .1));
       accepted-fills = λ s q a h. let l = cell-build-length (q .call) (q .image) a (q .least) (q .most) h in ap length (whole 1256 (cellBuilds .left s q a) l) ∙ l;
       refused-keeps = λ c q n. unbuilt _ _ c n;
     })
@@ -136,7 +129,7 @@ electrolyte-builds-implement =
       handed-is = λ s q a. refl;
       accepted-reads = λ s q a h.
           ap electrolyteAt (whole 896 (electrolyteBuilds .left s q a) (electrolyte-build-length (q .image) a h)) ∙ electrolyte-build-read-back (q .image) a h
-          ∙ sym (built _ _ (electrolyteAt s) (met-number _ _ (sym (electrolyte-build-returned s q a) ∙ h)));
+          ∙ sym (built _ _ (electrolyteAt s) (met-both _ _ (sym (electrolyte-build-returned s q a) ∙ h) .1));
       accepted-fills = λ s q a h. let l = electrolyte-build-length (q .image) a h in ap length (whole 896 (electrolyteBuilds .left s q a) l) ∙ l;
       refused-keeps = λ e q n. unbuilt _ _ e n;
     })
@@ -153,7 +146,7 @@ dfn-builds-implement =
       handed-is = λ s q a. refl;
       accepted-reads = λ s q a h.
           ap I.cellAt (whole 9008 (dfnBuilds .left s q a) (dfn-build-length (q .image) a h)) ∙ dfn-build-read-back (q .image) a h
-          ∙ sym (built _ _ (I.cellAt s) (met-number _ _ (sym (dfn-build-returned s q a) ∙ h)));
+          ∙ sym (built _ _ (I.cellAt s) (met-both _ _ (sym (dfn-build-returned s q a) ∙ h) .1));
       accepted-fills = λ s q a h. let l = dfn-build-length (q .image) a h in ap length (whole 9008 (dfnBuilds .left s q a) l) ∙ l;
       refused-keeps = λ d q n. unbuilt _ _ d n;
     })

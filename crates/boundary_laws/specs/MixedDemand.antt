@@ -1,37 +1,33 @@
 -- THEOREM 2 OF LISTS THAT MIX BUILDS, STEPS AND RUNS: the cell of the last image is the cell of the last accepted build (or of the first image) after a list of
 -- steps, those of the runs among them, and every node is within K·M / 2 ^ 49 of the exact one. Assumes nothing.
-use Prim.Native.Nat.{ℕ, _/_, _<_}
+use Prim.Native.Nat.{ℕ, _<_}
 use mathlib.Core.Path.{_≡_, refl, sym, ap, _∙_}
 use mathlib.Core.Bool.{Bool, true, false, cond}
 use mathlib.Core.Logic.{_⊎_, inl, inr}
 use mathlib.Core.List.{List, [], _∷_, _++_}
 use borrow.Author.Tests.{eqb-true}
 use lib.Dec.{eqb}
-use lib.ListN.{length, replicate}
+use lib.ListN.{length}
 use Rattle.fraction.specs.Fraction.{nat, pow2, _-F_, _*F_, _/F_, _within_}
-use Rattle.discharge_run.specs.declared.Feed.{Feed}
 use Rattle.discharge_run.specs.Discharge as DR
 use Rattle.solver.specs.declared.SpmSolver.{SpmSolver}
 use Rattle.solver.specs.Cell.{cellRefusal}
 use Rattle.solver_laws.specs.Electrodes.{Electrode, nodes-are}
 use Rattle.solver_laws.specs.Demand as SD
-use Rattle.solver_laws.specs.RunLists.{callOf, turnsMade, run-is-list}
+use Rattle.solver_laws.specs.RunLists.{callsOf, run-is-list}
 use Rattle.cell_images.specs.Images.{cellAt}
 use Rattle.image_builds.specs.Builds.{cellBuilt}
 use Rattle.boundary_laws.specs.CallLists.{CCall, imageAfter, wellFormed, recordAfter}
 use Rattle.boundary_laws.specs.StepLists.{current}
 use Rattle.boundary_laws.specs.BuildLists.{CellBuild}
-use Rattle.boundary_laws.specs.RunLists.{CellRun, discharge}
+use Rattle.boundary_laws.specs.RunLists.{CellRun}
 use Rattle.boundary_laws.specs.MixedLists.{cellCalls, cell-calls-simulate}
 use Rattle.boundary_laws.specs.Nodes.{nodeAt, mostAt, cell-nodes, node-below}
 use Rattle.boundary_laws.specs.BuiltCells.{cell-build-passes}
 
--- ---- a run as a list of steps: one for each turn, none where the run is refused as a whole
-abbrev feedOf : CellRun → Feed
-feedOf q = DR.feedOf (q .current) (q .dt) (q .temp) (q .limit)
-
-unfoldable pub turnsOf : SpmSolver → CellRun → List SD.Call
-turnsOf c q = cond (eqb (DR.runRefusal (feedOf q) c (q .places)) 0) (replicate (turnsMade (feedOf q) (q .places / 8) (DR.started (feedOf q) c)) (callOf (feedOf q))) []
+-- ---- a run as a list of steps: one for each row
+abbrev pub turnsOf : SpmSolver → CellRun → List SD.Call
+turnsOf c q = callsOf (DR.feedOf (q .current) (q .dt) (q .temp) (q .limit)) c (q .places)
 
 -- ---- the cell of the last accepted build, and the steps since then
 pub record SinceBuild : Type 0 where
@@ -58,15 +54,6 @@ unfolding SD.cellAfter
 after-append [] ys c = refl
 after-append (x ∷ xs) ys c = after-append xs ys (SD.answer c x .solver)
 
-run-turns : (c : SpmSolver) (q : CellRun) → discharge c q .solver ≡ SD.cellAfter c (turnsOf c q)
-unfolding turnsOf DR.discharged DR.allTurns DR.finishedRun DR.started SD.cellAfter
-run-turns c q = go (eqb (DR.runRefusal (feedOf q) c (q .places)) 0)
-  where
-    go : (b : Bool) → cond b (DR.allTurns (feedOf q) (DR.started (feedOf q) c) (q .places / 8)) (DR.refusedRun (DR.runRefusal (feedOf q) c (q .places)) c) .solver
-        ≡ SD.cellAfter c (cond b (replicate (turnsMade (feedOf q) (q .places / 8) (DR.started (feedOf q) c)) (callOf (feedOf q))) [])
-    go true = run-is-list (feedOf q) (q .places / 8) (DR.started (feedOf q) c)
-    go false = refl
-
 one-build : (t : Bool) (qs : List (CellBuild ⊎ (SD.Call ⊎ CellRun))) (a b : SpmSolver) (x y : SinceBuild) → recordAfter cellCalls a qs ≡ cellOf x → recordAfter cellCalls b qs ≡ cellOf y
     → recordAfter cellCalls (cond t a b) qs ≡ cellOf (cond t x y)
 one-build true qs a b x y p q = p
@@ -81,7 +68,7 @@ since-is (inl b ∷ qs) z =
 since-is (inr (inl q) ∷ qs) z =
     ap (λ (c : SpmSolver). recordAfter cellCalls c qs) (sym (after-append (z .steps) (q ∷ []) (z .start))) ∙ since-is qs (record { start = z .start; steps = z .steps ++ q ∷ [] })
 since-is (inr (inr r) ∷ qs) z =
-    ap (λ (c : SpmSolver). recordAfter cellCalls c qs) (run-turns (cellOf z) r ∙ sym (after-append (z .steps) (turnsOf (cellOf z) r) (z .start)))
+    ap (λ (c : SpmSolver). recordAfter cellCalls c qs) (run-is-list (DR.feedOf (r .current) (r .dt) (r .temp) (r .limit)) (cellOf z) (r .places) ∙ sym (after-append (z .steps) (turnsOf (cellOf z) r) (z .start)))
     ∙ since-is qs (record { start = z .start; steps = z .steps ++ turnsOf (cellOf z) r })
 
 -- THE CELL OF THE LAST IMAGE is the cell of the last accepted build after the steps since then

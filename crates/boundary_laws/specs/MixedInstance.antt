@@ -2,23 +2,19 @@
 -- of `Instance`, and among them a run without room for a row. Assumes nothing.
 use Prim.Native.Nat.{ℕ, _<_}
 use mathlib.Core.Path.{_≡_, ap, _∙_}
-use mathlib.Core.Bool.{false}
 use mathlib.Core.List.{List, [], _∷_}
 use mathlib.Core.Logic.{_⊎_, inl, inr}
 use native.Mathlib.Omega.{arith}
-use borrow.Author.Tests.{ne-eqb}
 use lib.Dec.{lit≤}
-use lib.ListN.{length}
 use Rattle.fraction.specs.Fraction.{nat, pow2, _-F_, _*F_, _/F_, _within_}
 use Rattle.elementary.specs.Exp.{one}
-use Rattle.refusal.specs.Numbers as N
-use Rattle.refusal.specs.Numbers.{refusalUnless, none-met}
 use Rattle.solver.specs.declared.SpmSolver.{SpmSolver}
 use Rattle.solver_laws.specs.Electrodes.{Electrode}
 use Rattle.solver_laws.specs.Demand as SD
 use Rattle.solver_laws.specs.Instance.{start, start-passes, two, three, draw, no-current, too-long, discharge, discharge-counted, discharge-kept}
 use Rattle.discharge_run.specs.declared.Feed.{Feed}
-use Rattle.discharge_run.specs.Discharge.{runRefusal}
+use Rattle.discharge_run.specs.Discharge.{discharged}
+use Rattle.image_laws.specs.CellRuns.{rows-most}
 use Rattle.cell_images.specs.Images.{cellAt}
 use Rattle.image_builds.specs.Builds.{cellBuilt, buildLength}
 use Rattle.boundary_laws.specs.CallLists.{CCall, imageAfter, wellFormed}
@@ -55,18 +51,12 @@ formed-calls : wellFormed cellCalls mixedCalls ≡ mixedFormed
 unfolding wellFormed buildLength
 formed-calls = rw config-length
 
--- a run without room is refused, and makes no step
-length-refused : refusalUnless false N.badLength ≡ 0 → ⊥
-unfolding refusalUnless
-length-refused h = let z : N.badLength ≡ 0 = h in omega (arith, z)
-
-no-room-refused : (w : Feed) (c : SpmSolver) → runRefusal w c 0 ≡ 0 → ⊥
-unfolding runRefusal
-no-room-refused w c h = length-refused (none-met _ _ (none-met _ _ h .1) .0)
+-- a run without room makes no step
+no-rows : (w : Feed) (c : SpmSolver) → discharged w c 0 .rows ≡ 0
+no-rows w c = let m = rows-most w c 0 in omega (arith, m)
 
 no-turns : (c : SpmSolver) → turnsOf c noRoom ≡ []
-unfolding turnsOf
-no-turns c = rw (ne-eqb (runRefusal _ c 0) 0 (no-room-refused _ c))
+no-turns c = rw (no-rows _ c)
 
 since-build : (c : SpmSolver) → sinceBuild (record { start = c; steps = [] }) mixedFormed ≡ record { start = cellBuilt 8 configImage .solver; steps = discharge }
 unfolding sinceBuild

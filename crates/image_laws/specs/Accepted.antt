@@ -28,6 +28,21 @@ module _ {A : Type 0} (number : A → ℕ) (k : ℕ) (x y : A) (e : number y ≡
   pub accepted-is : cond (eqb k 0) x y ≡ x
   accepted-is = rw (eq-eqb k 0 inputs-pass)
 
+-- a number that is 0 although a test has its say
+pub met-both : (b : Bool) (k : ℕ) → met b k ≡ 0 → (b ≡ true) × (k ≡ 0)
+unfolding met
+met-both true k h = (refl, h)
+met-both false k h = let z : N.badLength ≡ 0 = h in absurd (omega (arith, z))
+
+pub first-true : (x y : Bool) → x && y ≡ true → x ≡ true
+first-true true y e = refl
+first-true false y e = e
+
+pub second-true : (x y : Bool) → x && y ≡ true → y ≡ true
+second-true true y e = e
+second-true false true e = refl
+second-true false false e = e
+
 -- a call of the boundary that returns 0: image s of m bytes, answer a of n bytes, the number k, and `new` in the answer
 pub record Accepted (s a : List ℕ) (m n k : ℕ) (new : List ℕ) : Type 0 where
   pub image : length s ≡ m
@@ -36,19 +51,15 @@ pub record Accepted (s a : List ℕ) (m n k : ℕ) (new : List ℕ) : Type 0 whe
   pub writes : cond (lengths (length s) m (length a) n) new a ≡ new
 
 pub accepted : (s a : List ℕ) (m n k : ℕ) (new : List ℕ) → met (lengths (length s) m (length a) n) k ≡ 0 → Accepted s a m n k new
-unfolding met
-accepted s a m n k new = go (eqb (length s) m) (eqb (length a) n) refl refl
-  where
-    go : (x y : Bool) → eqb (length s) m ≡ x → eqb (length a) n ≡ y → met (lengths (length s) m (length a) n) k ≡ 0 → Accepted s a m n k new
-    go true true d e h = record { image = eqb-true _ _ d; answer = eqb-true _ _ e; number = rw (d, e) at h; writes = rw (d, e) }
-    go true false d e h = let z : N.badLength ≡ 0 = rw (d, e) at h in absurd (omega (arith, z))
-    go false y d e h = let z : N.badLength ≡ 0 = rw d at h in absurd (omega (arith, z))
+accepted s a m n k new h =
+    let c = met-both (lengths (length s) m (length a) n) k h in
+    record {
+      image = eqb-true (length s) m (first-true (eqb (length s) m) (eqb (length a) n) (c .0));
+      answer = eqb-true (length a) n (second-true (eqb (length s) m) (eqb (length a) n) (c .0));
+      number = c .1;
+      writes = rw (c .0);
+    }
 
 -- a run that returns 0 has written its answer
 pub no-refusal : (refusal rows : ℕ) → refusal ≡ 0 → T (told refusal rows)
 no-refusal refusal rows h = rw (eq-eqb refusal 0 h) tt
-
-pub second-true : (x y : Bool) → x && y ≡ true → y ≡ true
-second-true true y e = e
-second-true false true e = refl
-second-true false false e = e

@@ -1,11 +1,11 @@
 -- The answer of a run of a single-particle cell, where it is written, is read back as the cell after the run, its ending and its count of rows. Assumes nothing.
 use Prim.Native.Nat.{ℕ, zero, suc, _≤_, _<_, _+_, _/_, _^_}
-use mathlib.Core.Path.{_≡_, refl, sym, ap, _∙_}
+use mathlib.Core.Path.{_≡_, refl, ap, _∙_}
 use mathlib.Core.List.{List}
 use native.Mathlib.Omega.{arith}
 use native.Mathlib.Nat.{zero-lt-suc, le-refl}
 use lib.Dec.{T, lit≤, eqb, eqb·suc-zero}
-use lib.ListN.{length}
+use lib.ListN.{length, replicate}
 use lib.Ieee.{Float}
 use lib.Ieee.Bits.{is-true}
 use Rattle.matrix_rows.specs.Loops.{either}
@@ -15,7 +15,8 @@ use Rattle.runs.specs.Rows.{runAfter}
 use Rattle.solver.specs.declared.SpmSolver.{SpmSolver}
 use Rattle.solver.specs.Cell.{gridFits, cellFits, cellRefusal}
 use Rattle.solver.specs.Step.{stepped}
-use Rattle.solver_laws.specs.Closure.{step-refused}
+use Rattle.solver_laws.specs.Demand.{cellAfter}
+use Rattle.solver_laws.specs.RunLists.{callOf, run-is-list}
 use Rattle.discharge_run.specs.declared.Feed.{Feed}
 use Rattle.discharge_run.specs.declared.Run.{Run}
 use Rattle.discharge_run.specs.Discharge.{RunSaid, feedOf, started, followed, turned, overOf, lastRow, finishedRun, allTurns, runRefusal, refusedRun, discharged}
@@ -42,29 +43,16 @@ module _ (w : Feed) where
   unfolding turned followed
   turned-rows r = either (λ (x : Run). x .rows ≤ r .rows + 1) (eqb (stepped (r .solver) (w .«current_a») (w .dt) (w .«temp_k») .refusal) 0) _ _ (le-refl (r .rows + 1)) (omega arith)
 
-  -- a run without a row leaves the cell
-  turned-idle : (s : SpmSolver) (r : Run) → (r .rows ≡ 0 → r .solver ≡ s) → turned w r .rows ≡ 0 → turned w r .solver ≡ s
-  unfolding turned followed
-  turned-idle s r f = go (stepped (r .solver) (w .«current_a») (w .dt) (w .«temp_k») .refusal) refl
-    where
-      go : (k : ℕ) → stepped (r .solver) (w .«current_a») (w .dt) (w .«temp_k») .refusal ≡ k → turned w r .rows ≡ 0 → turned w r .solver ≡ s
-      go zero e z = let y : r .rows + 1 ≡ 0 = rw e at z in absurd (omega (arith, y))
-      go (suc k) e z =
-          let y : r .rows ≡ 0 = rw (e, eqb·suc-zero k) at z in
-          rw (e, eqb·suc-zero k)
-          (step-refused (r .solver) (w .«current_a») (w .dt) (w .«temp_k») (λ (x : stepped (r .solver) (w .«current_a») (w .dt) (w .«temp_k») .refusal ≡ 0). let v : suc k ≡ 0 = sym e ∙ x in omega (arith, v)) .0 ∙ f y)
-
   pub run-encodable : (s : SpmSolver) (places : ℕ) → EncodableCell s → EncodableCell (discharged w s places .solver)
   unfolding discharged allTurns finishedRun started
   run-encodable s places h =
       either (λ (x : RunSaid). EncodableCell (x .solver)) (eqb (runRefusal w s places) 0) (allTurns w (started w s) (places / 8)) (refusedRun (runRefusal w s places) s)
       (run-keeps overOf (turned w) lastRow (λ (r : Run). EncodableCell (r .solver)) turned-encodable (places / 8) (started w s) h) h
 
+  -- a run without a row leaves the cell
   pub run-idle : (s : SpmSolver) (places : ℕ) → discharged w s places .rows ≡ 0 → discharged w s places .solver ≡ s
-  unfolding discharged allTurns finishedRun started
-  run-idle s places =
-      either (λ (x : RunSaid). x .rows ≡ 0 → x .solver ≡ s) (eqb (runRefusal w s places) 0) (allTurns w (started w s) (places / 8)) (refusedRun (runRefusal w s places) s)
-      (run-keeps overOf (turned w) lastRow (λ (r : Run). r .rows ≡ 0 → r .solver ≡ s) (turned-idle s) (places / 8) (started w s) (λ z. refl)) (λ z. refl)
+  unfolding cellAfter
+  run-idle s places h = run-is-list w s places ∙ ap (λ (k : ℕ). cellAfter s (replicate k (callOf w))) h
 
   pub rows-most : (s : SpmSolver) (places : ℕ) → discharged w s places .rows ≤ places
   unfolding discharged allTurns finishedRun started

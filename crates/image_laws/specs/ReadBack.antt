@@ -37,7 +37,7 @@ use Rattle.image_numbers.specs.Numbers.{numberSaid, numberLength}
 use Rattle.image_builds.specs.Builds.{readySheet, readyParams, particleMade, cellBuilt, electrolyteBuilt, dfnMade, newNumber, newAfter, readyPut, buildLength, builtLength}
 use Rattle.boundary.specs.Calls as B
 use Rattle.boundary.specs.Runs as BR
-use Rattle.image_laws.specs.Accepted.{accepted, no-refusal, second-true}
+use Rattle.image_laws.specs.Accepted.{met-both, second-true, accepted, no-refusal}
 use Rattle.image_laws.specs.Encodable.{literal}
 use Rattle.image_laws.specs.Rows.{row-read-back}
 use Rattle.image_laws.specs.CellImages.{particleIn}
@@ -226,15 +226,9 @@ number-read-back call s x y a = go (B.listed call 19) (B.lengths (length s) (num
 -- ---- the solution of linear equations, whose right side is a row of doubles
 pub solution-read-back : (m : List Float) (bits : List ℕ) (n : ℕ) (a : List ℕ) → B.denseNumber m (map f64 bits) n (length a) ≡ 0
     → placesAt 32 (B.denseAfter m (map f64 bits) n a) 0 ≡ solved m (map f64 bits) n .x
-unfolding B.denseNumber B.denseAfter B.met written
-solution-read-back m bits n a = go (eqb (length a) 256) refl
-  where
-    go : (x : Bool) → eqb (length a) 256 ≡ x → B.denseNumber m (map f64 bits) n (length a) ≡ 0
-        → placesAt 32 (B.denseAfter m (map f64 bits) n a) 0 ≡ solved m (map f64 bits) n .x
-    go true e h =
-        let r = solved m (map f64 bits) n in
-        let l : length a ≡ 256 = eqb-true (length a) 256 e in
-        let z : r .refusal ≡ 0 = rw e at h in
-        let k = solved-encodable m (map f64 bits) n (doubles-encodable bits) in
-        rw (e, eq-eqb (r .refusal) 0 z) (row-read-back 32 a 0 (r .x) (k .count) (rw l (le-refl 256)) (k .places))
-    go false e h = let z : N.badLength ≡ 0 = rw e at h in absurd (omega (arith, z))
+unfolding B.denseNumber B.denseAfter written
+solution-read-back m bits n a h =
+    let r = solved m (map f64 bits) n in
+    let c = met-both (eqb (length a) 256) (r .refusal) h in
+    let k = solved-encodable m (map f64 bits) n (doubles-encodable bits) in
+    rw (c .0, eq-eqb (r .refusal) 0 (c .1)) (row-read-back 32 a 0 (r .x) (k .count) (rw (eqb-true (length a) 256 (c .0)) (le-refl 256)) (k .places))
