@@ -527,7 +527,7 @@ CALLS_DFN = [
     ("report: the stoichiometries exchanged", "s.theta_neg, s.theta_pos, s.delta", "s.theta_pos, s.theta_neg, s.delta"),
     ("run: the length is not asked", "        met.when(10, places < ROW);\n", ""),
     ("run: nine places at least", "places < ROW", "places <= ROW"),
-    ("run: the current is not asked", "        met.when(3, !load(current_a, MOST_CURRENT));\n", "", {"nth": 2, **FIRST_STEP}),
+    ("run: the current is not asked", "        met.when(3, !load(current_a, MOST_CURRENT));\n", "", nth(2)),
     ("run: the interval is not asked", "!interval(dt_s) || !max_time_s", "!max_time_s", FIRST_STEP),
     ("run: the limit is not asked", " || !max_time_s.is_finite()", ""),
     ("run: time is over after its limit", "cell.time_s >= max_time_s", "cell.time_s > max_time_s"),

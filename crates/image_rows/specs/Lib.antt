@@ -1,3 +1,3 @@
--- Which rows of numbers are copied as they are, and what a call leaves in its answer.
+-- Which rows of numbers are copied as they are, what a call leaves in its answer, and how a run ended.
 pub mod Rows
 pub mod Written

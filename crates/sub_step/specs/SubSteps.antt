@@ -1,4 +1,4 @@
--- The sub-step with what does not change within a call worked out once, and that it is the sub-step of `diffusion`. Definitions, then the law.
+-- The sub-step with what does not change within a call worked out once; which kind a node is, and that the surface comes last. `Same` shows that it is the sub-step of `diffusion`.
 use Prim.Native.Nat.{ℕ, _+_, _-_, _<_, _≤_}
 use mathlib.Core.Path.{_≡_, sym, ap₂, _∙_}
 use native.Mathlib.Omega.{arith}

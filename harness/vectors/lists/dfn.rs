@@ -119,6 +119,20 @@ fn breaking() -> Cell {
     Cell::new(params, config([3, 1, 2])).expect("parameters in range")
 }
 
+/// A cell without open-circuit voltage and with hardly a resistance: its voltage is the overpotentials, whose digits show.
+fn overpotentials(draw: &mut Draw) -> Cell {
+    let none = Coefficients::of(&[]);
+    let mut params = Params { ocv_neg: none, ocv_pos: none, ..Params::nmc_graphite() };
+    let drawn = [8, 9, 14, 15].map(|at| (at, draw.within(RANGES[at])));
+    let fixed = [(0, 1e-7), (1, 1e-7), (2, 1e-7), (16, draw.uniform(100.0, 1000.0)), (20, 100.0)];
+    for (at, to) in drawn.into_iter().chain(fixed) {
+        params.numbers[at] = to;
+    }
+    let mut cell = Cell::new(params, config([1, 1, 2])).expect("parameters in range");
+    cell.c_e[..3].fill(params.numbers[16] * draw.uniform(1.0, 3.0));
+    cell
+}
+
 pub fn step_cases(draw: &mut Draw) -> Vec<Vec<Slot>> {
     let mut all = Vec::new();
     let cell = random_cell(draw, Params::nmc_graphite(), config([2, 1, 3]));
@@ -151,6 +165,10 @@ pub fn step_cases(draw: &mut Draw) -> Vec<Vec<Slot>> {
             all.push(stepping(&cell, current, 1.0));
             cell = cell.step(current, 1.0).expect("a step in range").0;
         }
+    }
+    for turn in 0..120 {
+        let current = if turn % 6 == 0 { 0.0 } else { draw.within(range(1e-6, 1e3)) };
+        all.push(stepping(&overpotentials(draw), current, draw.within(range(1e-6, 1.0))));
     }
     all
 }
