@@ -318,11 +318,15 @@ pub fn by_exponents(draw: &mut Draw) -> (dfn::Cell, f64) {
 }
 
 /// A cell without open-circuit voltage, a current and an interval: its voltage is the overpotentials, so the digits of L show, and
-/// with a current those of H. L's last terms matter most just below 1.5.
+/// with a current those of H. L's last terms matter most just below 1.5, from where on it halves its argument.
 pub fn by_overpotentials(draw: &mut Draw) -> (dfn::Cell, [f64; 2]) {
     let mut params = dfn::Params { ocv_neg: Coefficients::of(&[]), ocv_pos: Coefficients::of(&[]), ..dfn_params(draw) };
     let config = dfn::Config { counts: [draw.count(1, 2), 1, 2], voltages: [-10.0, 10.0] };
-    let (c_e0, ratio) = (draw.uniform(100.0, 1000.0), if draw.below(2) == 0 { draw.uniform(1.48, 1.5) } else { power(draw, 0.0, 3.0) });
+    let (c_e0, ratio) = match draw.below(8) {
+        0 => (draw.pick(&[128.0, 256.0, 512.0]), draw.pick(&[1.5, 1.5f64.next_down(), 3.0])),
+        1..=3 => (draw.uniform(100.0, 1000.0), power(draw, 0.0, 3.0)),
+        _ => (draw.uniform(100.0, 1000.0), draw.uniform(1.48, 1.5)),
+    };
     let current = if draw.below(2) == 0 { draw.pick(&[0.0, -0.0]) } else { params.numbers[3] * power(draw, -30.0, 10.0) };
     for (at, to) in [(0, 1e-7), (1, 1e-7), (2, 1e-7), (9, draw.within(dfn::RANGES[9])), (15, draw.within(dfn::RANGES[15])), (16, c_e0), (20, 100.0)] {
         params.numbers[at] = to;
