@@ -135,7 +135,7 @@ module _ (p : ParticleDiffusion) (h : particleRefusal p ≡ 0) where
       let a = le-val x high f (ends .high-fine) (theta-in .high) in
       let o = ≤F-trans one-least (le-val one M (ends .one-fine) g (within-ge most-range one tt tt tt)) in
       let w : val x *F val M within val M =
-          within-by (val x ∷ val M ∷ val high ∷ []) 127 (num 128 ⊠ (up a ⊠ m) ⊞ up high-most ⊠ m ⊞ m) (num 128 ⊠ (n ⊠ m) ⊞ num 128 ⊠ m) (search quote depth 24) tt tt in
+      within-by (val x ∷ val M ∷ val high ∷ []) 127 (num 128 ⊠ (up a ⊠ m) ⊞ up high-most ⊠ m ⊞ m) (num 128 ⊠ (n ⊠ m) ⊞ num 128 ⊠ m) (search quote depth 24) tt tt in
       let e = rounding-error (mul-rounds x M f g) w (size-wider 1022 1023 (within-scaled most-range 0 17 tt tt .size) (lit≤ tt) (lit≤ tt)) .near in
       rounds-le (held least (ends .least-fine) (ofBits-fits binary64 0x3f70_0000_0000_0000)) (sub-rounds M c g (surface-range .0 .fine))
       (le-by (val x ∷ val M ∷ val c ∷ u ∷ val least ∷ val high ∷ []) 255
