@@ -193,8 +193,7 @@ pub extern "C" fn pj_solve_dense(a: &[f64], b: &[f64], n: usize, answer: &mut [u
     let out = dense::solve_dense(a, b, n);
     let refusal = out.refusal;
     if refusal == 0 {
-        let x = out.x;
-        image_rows::put_32(answer, 0, x);
+        image_rows::write_places(answer, 0, &out.x);
     }
     refusal
 }

@@ -10,7 +10,7 @@ ghost use Prim.Native.Nat.{_+_, _*_, _≤_};
 ghost use lib.Dec.{T};
 ghost use lib.ListN.{length};
 ghost use Rattle.turns.specs.Turns.{firstBy};
-ghost use Rattle.codec.specs.Words.{floatAt, putPlaces, putRow};
+ghost use Rattle.codec.specs.Words.{floatAt, putPlaces};
 ghost use Rattle.image_rows.specs.Rows.{finitePattern, finiteWords, noNan};
 ghost use Rattle.image_rows.specs.Written.{putEnding};
 
@@ -133,14 +133,6 @@ pub fn write_places(s: &mut [u8], at: usize, c: &[f64])
         }
     }
     write_any(s, at, c);
-}
-
-// The same for a whole array of 32, by value.
-pub fn put_32(s: &mut [u8], at: usize, c: [f64; 32])
-    requires { ⌜ at ≤ 4096 ⌝ }
-    ensures { λ _. ⌜ now (s .exit) ≡ putRow (now (s .entry)) at c ⌝ }
-{
-    write_places(s, at, &c);
 }
 
 // Writes how a run ended and its count of rows as the words from `at` on.

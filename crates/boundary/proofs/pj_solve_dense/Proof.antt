@@ -16,19 +16,19 @@ returns c = rw (ne-eqb _ _ (c .if1 .taken)) (refl, refl)
 solve-dense-requires : tie.Need-solve-dense-requires
 solve-dense-requires c κs = search needs
 
-put-32-requires : tie.Need-put-32-requires
-put-32-requires c κs = search needs
+write-places-requires : tie.Need-write-places-requires
+write-places-requires c κs = search needs
 
 same-length : tie.Need-same-length
-same-length c = c .before .before .put-32 .kept .0
+same-length c = c .before .before .write-places .kept .0
 
 returns-2 : tie.Need-returns-2
 unfolding met denseNumber denseAfter
 returns-2 c =
-    let called = c .before .before .before .before .before .before in
+    let called = c .before .before .before .before .before .before .before .before in
     rw (eq-eqb _ _ (called .before .if1 .left))
     (accepted (λ (t : Solved). t .refusal) (λ (t : Solved). putRow (called .before .before .before .before .before .args .answer .now) 0 (t .x)) _ _ _
-    (called .solve-dense .ensures) _ (c .before .before .before .before .before .if2 .taken) (c .before .before .put-32 .ensures))
+    (called .solve-dense .ensures) _ (c .before .before .before .before .before .before .before .if2 .taken) (c .before .before .write-places .ensures))
 
 returns-3 : tie.Need-returns-3
 unfolding met denseNumber denseAfter
@@ -38,4 +38,4 @@ returns-3 c =
     (refused (λ (t : Solved). t .refusal) (λ (t : Solved). putRow (called .before .before .before .before .before .args .answer .now) 0 (t .x)) _ _ _ (called .solve-dense .ensures) (c .if2 .left))
 
 pub pj-solve-dense-spec : {M : Type 1} → statement M
-pj-solve-dense-spec = tie.close (tie.spec returns solve-dense-requires put-32-requires same-length returns-2 returns-3)
+pj-solve-dense-spec = tie.close (tie.spec returns solve-dense-requires write-places-requires same-length returns-2 returns-3)
