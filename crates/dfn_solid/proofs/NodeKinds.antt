@@ -1,5 +1,5 @@
 -- Which kind of node stands where, and what a particle's last place is put by. Assumes nothing.
-use mathlib.Core.Path.{_≡_, refl}
+use mathlib.Core.Path.{_≡_}
 use mathlib.Core.List.{List}
 use Prim.Native.Nat.{ℕ, suc, _+_, _-_, _<_, _≤_}
 use native.Mathlib.Omega.{arith}
@@ -7,7 +7,7 @@ use borrow.Author.Tests.{ne-eqb, lt-ltb, le-ltb}
 use lib.ListN.{set}
 use lib.Ieee.{Float}
 use Rattle.places.specs.Places.{placesBy}
-use Rattle.dfn_solid.specs.Solid.{centreWith, innerWith, surfaceWith, nodeWith, heldNode, particleWith}
+use Rattle.dfn_solid.specs.Solid.{innerWith, surfaceWith, nodeWith, heldNode, particleWith}
 use Rattle.dfn_solid.specs.declared.Grain.{Grain}
 
 pub one-place : (base : ℕ) (f : ℕ → Float) (l : List Float) → set l base (f 0) ≡ placesBy base 1 f l
@@ -19,10 +19,6 @@ unfolding placesBy
 next-place base n m f l e = rw e
 
 module _ (v : Grain) (c d : List Float) (base : ℕ) where
-  pub centre-is : nodeWith v c d base 0 ≡ centreWith v c d base
-  unfolding nodeWith
-  centre-is = refl
-
   pub inner-is : (i : ℕ) → 1 ≤ i → i < v .n - 1 → nodeWith v c d base i ≡ innerWith v c d (base + i) i
   unfolding nodeWith
   inner-is i h k =

@@ -4,7 +4,7 @@ use mathlib.Core.Path.{_≡_, refl, sym, ap, _∙_, subst}
 use mathlib.Core.Logic.{_⊎_, inl, inr}
 use mathlib.Core.List.{[], _∷_}
 use mathlib.Core.Bool.{Bool, true, false, _||_, Bool·beq}
-use Prim.Native.Nat.{ℕ, zero, suc, _+_, _-_, _*_, _^_, _≤_, _<_}
+use Prim.Native.Nat.{ℕ, zero, suc, _+_, _-_, _*_, _^_, _≤_}
 use native.Mathlib.Nat.{le-trans, le-suc, le-of-eq, zero-lt-suc, add-zero, add-suc}
 use native.Mathlib.Omega.{arith}
 use lib.Dec.{T, eqb, eqb→eq, lit≤}
@@ -13,18 +13,18 @@ use lib.Ieee.{Float, nan, inf, fin, binary64, up, down, le, eq, fits, ofBits, ne
 use lib.Ieee.Fits.{add-fits, and-l, and-r}
 use lib.Ieee.Positive.{num, den, den-pos}
 use lib.Ieee.Scale.{finite, round-same}
-use Rattle.fraction.specs.Fraction.{Fraction, whole, nat, negF, _≈F_, _≤F_, _<F_}
-use Rattle.fraction.specs.Field.{≈F-sym, ≤F-of-≈F, ≤F-trans}
-use Rattle.fraction.specs.Order.{≤F-antisym, lt-le-trans, nat-lt}
+use Rattle.fraction.specs.Fraction.{nat, _≤F_, _<F_}
+use Rattle.fraction.specs.Field.{≈F-sym, ≤F-of-≈F}
+use Rattle.fraction.specs.Order.{lt-le-trans, nat-lt}
 use Rattle.fraction.specs.Certificate.{quote, le-by}
-use Rattle.binary64.specs.Operators.{_⊕_, _⊗_, _⊘_, f64, count, negative}
+use Rattle.binary64.specs.Operators.{_⊕_, _⊗_, _⊘_, count, negative}
 use Rattle.binary64.specs.Held.{own-round}
 use Rattle.binary64.specs.Order.{le→below}
 use Rattle.binary64.specs.OrderLaws.{add-le, mul-le, mul-ge, div-le}
-use Rattle.binary64.specs.Range.{Most, Within, Sized, most-wider, least-wider}
+use Rattle.binary64.specs.Range.{Most, Within, Sized, most-wider}
 use Rattle.binary64.specs.RangeOps.{mul-most, div-count, add-over}
 use Rattle.binary64.specs.RangeTests.{tested-sized, literal, most-le, within-ge}
-use Rattle.binary64.specs.Value.{ratio, signed, val, val-is, ratio-nn, le-val, val-le, int-val}
+use Rattle.binary64.specs.Value.{ratio, val, val-is, ratio-nn, int-val}
 use Rattle.elementary.specs.Exp.{one, series}
 use Rattle.elementary.specs.LastTerms.{startLow, startHigh, lastTerms, MeetAtSeries, eighth, withinEighth}
 use Rattle.elementary.specs.declared.Bracket.{Bracket}

@@ -17,7 +17,7 @@ ghost use Rattle.turns.specs.Turns.{times};
 ghost use Rattle.diffusion.specs.SubStep.{subStep};
 ghost use Rattle.particle.specs.Checks.{fieldsFit, particleRefusal};
 ghost use Rattle.particle.specs.Particle.{particleOf, SpacingOf, driveWith, surfaceTheta, surfacePotential, StableStepOf, average, averageTheta};
-ghost use Rattle.particle.specs.Calls.{fresh, noParticle, made, stepRefusal, accepted, stepped, dtStable, thetaSurface, thetaAvg, cAvg, ocpSurface};
+ghost use Rattle.particle.specs.Calls.{noParticle, made, stepRefusal, accepted, stepped, dtStable, thetaSurface, thetaAvg, cAvg, ocpSurface};
 
 pub struct ParticleDiffusion {
     pub params: ElectrodeParams,

@@ -2,7 +2,7 @@
 // translation of src/battery/p2d/electrode.rs (`ParticleDiffusion::step`).
 
 ghost use mathlib.Core.Path.{_≡_};
-ghost use Prim.Native.Nat.{ℕ, _≤_, _<_, _-_};
+ghost use Prim.Native.Nat.{_≤_, _-_};
 ghost use Rattle.binary64.specs.Operators.{count};
 ghost use Rattle.turns.specs.Turns.{times};
 ghost use Rattle.sub_step.specs.SubSteps.{prepared, inverseRadii, centreBy, shellBy, movedBy, subStepBy};

@@ -1,13 +1,13 @@
 -- `dfn_solid::move_particle` meets its contract: i nodes are new after i - 1 turns, the centre being put before the first. Assumes nothing.
 use Prim.Native.Nat.{_≤_, _-_}
-use mathlib.Core.Path.{_≡_, refl, sym, _∙_}
+use mathlib.Core.Path.{_≡_}
 use mathlib.Core.List.{List}
 use native.Mathlib.Omega.{arith}
 use native.Mathlib.Numerals.{add-one}
 use lib.Ieee.{Float}
 use Rattle.places.specs.Places.{placesBy}
 use Rattle.dfn_solid.specs.Solid.{nodeWith, heldNode}
-use Rattle.dfn_solid.proofs.NodeKinds.{one-place, centre-is, inner-is, surface-is, last-place}
+use Rattle.dfn_solid.proofs.NodeKinds.{one-place, inner-is, surface-is, last-place}
 use borrow.Author.Needs.{needs}
 use Rattle.dfn_solid.proofs.move_particle.Statement.{statement}
 use Rattle.dfn_solid.proofs.move_particle.Tie as tie

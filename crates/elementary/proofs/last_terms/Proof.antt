@@ -5,7 +5,6 @@ use lib.Ieee.{Float}
 use borrow.Author.Needs.{needs}
 use Rattle.elementary.specs.Exp.{series}
 use Rattle.elementary.specs.LastTerms.{startLow, startHigh}
-use Rattle.elementary.specs.declared.Bracket.{Bracket}
 use Rattle.elementary.proofs.ExpLaws.{series-end, series-step}
 use Rattle.elementary.proofs.last_terms.Statement.{statement}
 use Rattle.elementary.proofs.last_terms.Tie as tie

@@ -1,6 +1,6 @@
 -- `solver_step::follow` meets its contract. Assumes nothing.
 use Prim.Native.Nat.{ℕ}
-use mathlib.Core.Path.{_≡_, ap₂, sym, _∙_}
+use mathlib.Core.Path.{_≡_, ap₂, _∙_}
 use mathlib.Core.Bool.{Bool, cond, _&&_}
 use mathlib.Core.List.{List}
 use lib.Ieee.{Float}
@@ -17,7 +17,7 @@ use Rattle.solver_report.specs.declared.SpmState.{SpmState}
 use Rattle.solver_step.specs.declared.SpmParts.{SpmParts}
 use Rattle.solver_report.specs.declared.Wall.{Wall}
 use Rattle.solver_report.specs.Report.{wallOf, reportWith, finiteWith}
-use Rattle.solver_step.specs.Moves.{profileAfter, Lent, lent, refusedMove, negAfter, posAfter, reportOn, finiteOn, finishedOn, followedOn}
+use Rattle.solver_step.specs.Moves.{profileAfter, lent, refusedMove, negAfter, posAfter, reportOn, finiteOn, finishedOn, followedOn}
 use borrow.Author.Needs.{needs}
 use Rattle.solver_step.proofs.follow.Statement.{statement}
 use Rattle.solver_step.proofs.follow.Tie as tie
