@@ -323,7 +323,7 @@ pub fn by_overpotentials(draw: &mut Draw) -> (dfn::Cell, [f64; 2]) {
     let mut params = dfn::Params { ocv_neg: Coefficients::of(&[]), ocv_pos: Coefficients::of(&[]), ..dfn_params(draw) };
     let config = dfn::Config { counts: [draw.count(1, 2), 1, 2], voltages: [-10.0, 10.0] };
     let (c_e0, ratio) = match draw.below(8) {
-        0 => (draw.pick(&[128.0, 256.0, 512.0]), draw.pick(&[1.5, 1.5f64.next_down(), 3.0])),
+        0 => draw.pick(&[(128.0, 1.5f64.next_down()), (16.0, 12.0), (16.0, 24.0)]),
         1..=3 => (draw.uniform(100.0, 1000.0), power(draw, 0.0, 3.0)),
         _ => (draw.uniform(100.0, 1000.0), draw.uniform(1.48, 1.5)),
     };

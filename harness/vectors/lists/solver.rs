@@ -278,6 +278,8 @@ pub fn run_cases(draw: &mut Draw) -> Vec<Vec<Slot>> {
         all.push(running(&cell, numbers, draw.count(8, 120)));
     }
     all.extend(alike_counts().iter().map(|cell| running(cell, [3.0, 1.0, 298.15, 2.0], 24)));
+    // no step is due, and each fault is refused all the same
+    all.extend(one_fault(&run_base(&lfp, [3.0, 1.0, 298.15, 0.0], 16)));
     all
 }
 
