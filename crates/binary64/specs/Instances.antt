@@ -14,7 +14,7 @@ use Rattle.binary64.specs.Operators.{_⊕_, _⊖_, _⊗_, _⊘_, f64, co
 use Rattle.binary64.specs.Bounds.{Scaled}
 use Rattle.binary64.specs.Error.{u, Close, rounding-error}
 use Rattle.binary64.specs.Near.{Near, fair, near-own, near-count, near-mul, near-div}
-use Rattle.binary64.specs.OrderLaws.{Kept, stays, mul-le}
+use Rattle.binary64.specs.OrderLaws.{InBounds, stays, mul-le}
 use Rattle.binary64.specs.Range.{exact, Within}
 use Rattle.binary64.specs.RangeOps.{mul-between, sub-over, literal, tested-within}
 use Rattle.binary64.specs.Rounds.{add-rounds, div-rounds}
@@ -99,8 +99,8 @@ unfolding ofBits add val whole _+F_ _*F_ negF u
 not-free h = lt-not-le (lit<F tt) (h .error .lo)
 
 -- ---- what binary64 holds: the largest value and the smallest, and not 2 ^ 53 + 1, 1/3, 2 ^ 1024 or 2 ^ -1075
-held-ends : T (exact ((2 ^ 53 - 1) * 2 ^ 971) 1) × T (exact 1 (2 ^ 1074))
-held-ends = (tt, tt)
+representable-ends : T (exact ((2 ^ 53 - 1) * 2 ^ 971) 1) × T (exact 1 (2 ^ 1074))
+representable-ends = (tt, tt)
 
 digits-missing : T (exact (2 ^ 53 + 1) 1) → ⊥
 digits-missing t = t
@@ -123,9 +123,9 @@ unfolding ofBits
 rest-range x h k = sub-over (literal one 1 1 1 1 tt tt tt tt tt) (tested-within (f64 0x3f50_624d_d2f1_a9fc) x one tt tt h k .0) 2 1 0 1 tt tt tt tt tt
 
 -- ---- order: 1/3 rounds to a value from 0 to 1; and a product by 3
-third-kept : Kept zero (one ⊘ three) one
+third-in-bounds : InBounds zero (one ⊘ three) one
 unfolding ofBits val whole _*F_ inv turned fits
-third-kept = stays zero one (div-rounds one three tt tt (lit< tt)) tt tt tt tt (lit≤F tt) (lit≤F tt)
+third-in-bounds = stays zero one (div-rounds one three tt tt (lit< tt)) tt tt tt tt (lit≤F tt) (lit≤F tt)
 
 tripled : (x y : Float) → T (finite x) → T (finite y) → T (le x y) → T (le (x ⊗ three) (y ⊗ three))
 unfolding ofBits val whole

@@ -39,7 +39,7 @@ pub mod Range
 pub mod RangeTests
 pub mod RangeOps
 pub mod Nearest
-pub mod Held
+pub mod Representable
 pub mod Monotone
 pub mod Value
 pub mod Rounds

@@ -18,7 +18,7 @@ use Rattle.fraction.specs.Order.{≤F-refl, ≤F-resp, lt-le-trans}
 use Rattle.binary64.specs.Operators.{_⊕_, _⊖_, _⊗_, _⊘_, negative}
 use Rattle.binary64.specs.Monotone.{round-below}
 use Rattle.binary64.specs.Order.{between-finite}
-use Rattle.binary64.specs.Rounds.{Rounds, held, add-rounds, sub-rounds, mul-rounds, div-rounds}
+use Rattle.binary64.specs.Rounds.{Rounds, representable, add-rounds, sub-rounds, mul-rounds, div-rounds}
 use Rattle.binary64.specs.Value.{signed, val, val-is, ratio-same, signed-cong, signed→below, le-val}
 
 -- ---- the order
@@ -28,24 +28,24 @@ rounds-le h k l =
     (signed→below (h .sign) (k .sign) (h .top) (h .bottom) (k .top) (k .bottom) (h .above) (k .above) (≤F-resp (≈F-sym (h .same)) (≈F-sym (k .same)) l)))
 
 -- ---- what the format holds is not crossed
-pub record Kept (lo r hi : Float) : Type 0 where
+pub record InBounds (lo r hi : Float) : Type 0 where
   pub fine : T (finite r)
   pub above : val lo ≤F val r
   pub below : val r ≤F val hi
 
-pub stays : {Q : Fraction} {r : Float} (lo hi : Float) → Rounds Q r → T (finite lo) → T (finite hi) → T (fits binary64 lo) → T (fits binary64 hi) → val lo ≤F Q → Q ≤F val hi → Kept lo r hi
+pub stays : {Q : Fraction} {r : Float} (lo hi : Float) → Rounds Q r → T (finite lo) → T (finite hi) → T (fits binary64 lo) → T (fits binary64 hi) → val lo ≤F Q → Q ≤F val hi → InBounds lo r hi
 stays {Q} {r} lo hi h p q s t a b =
-    let x = rounds-le (held lo p s) h a in
-    let y = rounds-le h (held hi q t) b in
+    let x = rounds-le (representable lo p s) h a in
+    let y = rounds-le h (representable hi q t) b in
     let f = between-finite lo r hi p q x y in
     record { fine = f; above = le-val lo r p f x; below = le-val r hi f q y }
 
 -- one side of a finite result
 pub stays-above : {Q : Fraction} {r : Float} (lo : Float) → Rounds Q r → T (finite r) → T (finite lo) → T (fits binary64 lo) → val lo ≤F Q → val lo ≤F val r
-stays-above {r = r} lo h f p t l = le-val lo r p f (rounds-le (held lo p t) h l)
+stays-above {r = r} lo h f p t l = le-val lo r p f (rounds-le (representable lo p t) h l)
 
 pub stays-below : {Q : Fraction} {r : Float} (hi : Float) → Rounds Q r → T (finite r) → T (finite hi) → T (fits binary64 hi) → Q ≤F val hi → val r ≤F val hi
-stays-below {r = r} hi h f p t l = le-val r hi f p (rounds-le h (held hi p t) l)
+stays-below {r = r} hi h f p t l = le-val r hi f p (rounds-le h (representable hi p t) l)
 
 -- ---- signs
 abbrev +0 : Float

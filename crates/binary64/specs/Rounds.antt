@@ -13,7 +13,7 @@ use Rattle.fraction.specs.Fraction.{Fraction, whole, nat, _+F_, negF, _-F_, _*F
 use Rattle.fraction.specs.Field.{≈F-refl, ≈F-sym, ≈F-trans, +F-cong, *F-cong}
 use Rattle.fraction.specs.Certificate.{quote, eq-by, _·_, _&_}
 use Rattle.binary64.specs.Operators.{_⊕_, _⊖_, _⊗_, _⊘_, negative}
-use Rattle.binary64.specs.Held.{own-round}
+use Rattle.binary64.specs.Representable.{own-round}
 use Rattle.binary64.specs.Opened.{mul-is, div-is, sub-is, plus, minus, add-summed}
 use Rattle.binary64.specs.Sign.{neg-finite}
 use Rattle.binary64.specs.Value.{ratio, signed, val, val-is, val-neg, ratio-same, signed-cong}
@@ -119,5 +119,5 @@ pub sub-rounds : (x y : Float) → T (finite x) → T (finite y) → Rounds (val
 sub-rounds x y p q = rounds-resp (+F-cong ≈F-refl (val-neg y)) (subst (λ (z : Float). Rounds (val x +F val (neg y)) z) (sym (sub-is binary64 x y)) (add-rounds x (neg y) p (rw (neg-finite y) q)))
 
 -- a float that the format holds is its own value rounded
-pub held : (x : Float) → T (finite x) → T (fits binary64 x) → Rounds (val x) x
-held x p t = record { sign = negative x; top = num x; bottom = den x; above = den-pos x; is = own-round binary64 x p t; same = rw (val-is x p) ≈F-refl }
+pub representable : (x : Float) → T (finite x) → T (fits binary64 x) → Rounds (val x) x
+representable x p t = record { sign = negative x; top = num x; bottom = den x; above = den-pos x; is = own-round binary64 x p t; same = rw (val-is x p) ≈F-refl }

@@ -4,7 +4,7 @@ use mathlib.Core.Path.{_≡_, refl, sym}
 use mathlib.Core.Bool.{Bool, true, false, not}
 use mathlib.Core.List.{List, [], _∷_}
 use lib.Ieee.{Float}
-use Rattle.refusal.specs.Answers.{Said}
+use Rattle.refusal.specs.Answers.{Outcome}
 use Rattle.codec.specs.Words.{putRow, putPlaces, putFloat}
 
 -- the branches of a test that is turned round
@@ -17,10 +17,10 @@ off true h = sym h
 off false h = refl
 
 -- a number
-pub value-told : (v : Float) (s : Said) (last a : List ℕ) → record { number = 0; values = v ∷ [] } ≡ s → last ≡ putFloat a 0 v → (0 ≡ s .number) × (last ≡ putRow a 0 (s .values))
+pub value-answered : (v : Float) (s : Outcome) (last a : List ℕ) → record { refusal = 0; values = v ∷ [] } ≡ s → last ≡ putFloat a 0 v → (0 ≡ s .refusal) × (last ≡ putRow a 0 (s .values))
 unfolding putPlaces
-value-told v s last a e l = rw (← e) (refl, l)
+value-answered v s last a e l = rw (← e) (refl, l)
 
-pub refusal-told : (k : ℕ) (s : Said) (a : List ℕ) → record { number = k; values = [] } ≡ s → (k ≡ s .number) × (a ≡ putRow a 0 (s .values))
+pub refusal-answered : (k : ℕ) (s : Outcome) (a : List ℕ) → record { refusal = k; values = [] } ≡ s → (k ≡ s .refusal) × (a ≡ putRow a 0 (s .values))
 unfolding putPlaces
-refusal-told k s a e = rw (← e) (refl, refl)
+refusal-answered k s a e = rw (← e) (refl, refl)

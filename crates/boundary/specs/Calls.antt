@@ -8,14 +8,14 @@ use lib.Dec.{eqb, leb}
 use lib.ListN.{length}
 use lib.Ieee.{Float}
 use Rattle.refusal.specs.Numbers as N
-use Rattle.refusal.specs.Answers.{Said}
+use Rattle.refusal.specs.Answers.{Outcome}
 use Rattle.codec.specs.Words.{putRow}
 use Rattle.dense.specs.Solve.{solved}
-use Rattle.image_numbers.specs.Numbers.{numberSaid, numberLength}
+use Rattle.image_numbers.specs.Numbers.{numberOutcome, numberLength}
 use Rattle.image_rows.specs.Written.{written}
-use Rattle.image_builds.specs.Builds.{readyPut, newNumber, newAfter, buildLength, builtLength}
+use Rattle.image_builds.specs.Builds.{readyPut, newReturn, newAfter, buildLength, builtLength}
 use Rattle.cell_calls.specs.Steps as C
-use Rattle.porous_calls.specs.Steps as P
+use Rattle.dfn_calls.specs.Steps as P
 
 -- whether a call is listed: 1 to n
 abbrev pub listed : ℕ → ℕ → Bool
@@ -26,23 +26,23 @@ abbrev pub lengths : ℕ → ℕ → ℕ → ℕ → Bool
 lengths image m answer n = eqb image m && eqb answer n
 
 -- the number of a call whose lengths are right or not
-unfoldable pub met : Bool → ℕ → ℕ
-met fits n = cond fits n N.badLength
+unfoldable pub afterLengths : Bool → ℕ → ℕ
+afterLengths fits n = cond fits n N.badLength
 
 -- ---- numbers
 
-unfoldable pub numberCall : ℕ → List ℕ → Float → Float → ℕ → Said
+unfoldable pub numberCall : ℕ → List ℕ → Float → Float → ℕ → Outcome
 numberCall call s x y answer =
     cond (listed call 19)
-    (cond (lengths (length s) (numberLength call) answer 8) (numberSaid call s x y) (record { number = N.badLength; values = [] }))
-    (record { number = N.sheet; values = [] })
+    (cond (lengths (length s) (numberLength call) answer 8) (numberOutcome call s x y) (record { refusal = N.badLength; values = [] }))
+    (record { refusal = N.sheet; values = [] })
 
 -- ---- records
 
-unfoldable pub buildNumber : ℕ → List ℕ → ℕ → ℕ
-buildNumber call s answer =
+unfoldable pub buildReturn : ℕ → List ℕ → ℕ → ℕ
+buildReturn call s answer =
     cond (listed call 12)
-    (met (lengths (length s) (buildLength call) answer (builtLength call)) (cond (leb call 6) 0 (newNumber call s)))
+    (afterLengths (lengths (length s) (buildLength call) answer (builtLength call)) (cond (leb call 6) 0 (newReturn call s)))
     N.sheet
 
 unfoldable pub buildAfter : ℕ → List ℕ → List ℕ → List ℕ
@@ -53,34 +53,34 @@ buildAfter call s a =
 
 -- ---- steps
 
-unfoldable pub particleNumber : List ℕ → Float → Float → Float → ℕ → ℕ
-particleNumber s j dt t answer = met (lengths (length s) 600 answer 600) (C.particleNumber s j dt t)
+unfoldable pub particleReturn : List ℕ → Float → Float → Float → ℕ → ℕ
+particleReturn s j dt t answer = afterLengths (lengths (length s) 600 answer 600) (C.particleReturn s j dt t)
 
 unfoldable pub particleAfter : List ℕ → Float → Float → Float → List ℕ → List ℕ
 particleAfter s j dt t a = cond (lengths (length s) 600 (length a) 600) (C.particleAfter s j dt t a) a
 
-unfoldable pub cellNumber : List ℕ → Float → Float → Float → ℕ → ℕ
-cellNumber s i dt t answer = met (lengths (length s) 1256 answer 1328) (C.cellNumber s i dt t)
+unfoldable pub cellReturn : List ℕ → Float → Float → Float → ℕ → ℕ
+cellReturn s i dt t answer = afterLengths (lengths (length s) 1256 answer 1328) (C.cellReturn s i dt t)
 
 unfoldable pub cellAfter : List ℕ → Float → Float → Float → List ℕ → List ℕ
 cellAfter s i dt t a = cond (lengths (length s) 1256 (length a) 1328) (C.cellAfter s i dt t a) a
 
-unfoldable pub electrolyteNumber : List ℕ → Float → Float → Float → Float → ℕ → ℕ
-electrolyteNumber s jNeg jPos dt t answer = met (lengths (length s) 896 answer 896) (P.electrolyteNumber s jNeg jPos dt t)
+unfoldable pub electrolyteReturn : List ℕ → Float → Float → Float → Float → ℕ → ℕ
+electrolyteReturn s jNeg jPos dt t answer = afterLengths (lengths (length s) 896 answer 896) (P.electrolyteReturn s jNeg jPos dt t)
 
 unfoldable pub electrolyteAfter : List ℕ → Float → Float → Float → Float → List ℕ → List ℕ
 electrolyteAfter s jNeg jPos dt t a = cond (lengths (length s) 896 (length a) 896) (P.electrolyteAfter s jNeg jPos dt t a) a
 
-unfoldable pub dfnNumber : List ℕ → Float → Float → ℕ → ℕ
-dfnNumber s i dt answer = met (lengths (length s) 9008 answer 9072) (P.dfnNumber s i dt)
+unfoldable pub dfnReturn : List ℕ → Float → Float → ℕ → ℕ
+dfnReturn s i dt answer = afterLengths (lengths (length s) 9008 answer 9072) (P.dfnReturn s i dt)
 
 unfoldable pub dfnAfter : List ℕ → Float → Float → List ℕ → List ℕ
 dfnAfter s i dt a = cond (lengths (length s) 9008 (length a) 9072) (P.dfnAfter s i dt a) a
 
 -- ---- equations
 
-unfoldable pub denseNumber : List Float → List Float → ℕ → ℕ → ℕ
-denseNumber a b n answer = met (eqb answer 256) (solved a b n .refusal)
+unfoldable pub denseReturn : List Float → List Float → ℕ → ℕ → ℕ
+denseReturn a b n answer = afterLengths (eqb answer 256) (solved a b n .refusal)
 
 unfoldable pub denseAfter : List Float → List Float → ℕ → List ℕ → List ℕ
 denseAfter a b n s = cond (eqb (length s) 256) (written (solved a b n .refusal) (putRow s 0 (solved a b n .x)) s) s

@@ -5,13 +5,13 @@ use mathlib.Core.List.{List}
 use lib.ListN.{length}
 use lib.Ieee.{Float}
 use Rattle.cell_calls.specs.Runs as C
-use Rattle.porous_calls.specs.Runs as P
-use Rattle.boundary.specs.Calls.{lengths, met}
+use Rattle.dfn_calls.specs.Runs as P
+use Rattle.boundary.specs.Calls.{lengths, afterLengths}
 
 -- ---- a single-particle cell
 
-unfoldable pub dischargeNumber : List ℕ → Float → Float → Float → Float → ℕ → ℕ → ℕ
-dischargeNumber s i dt t limit places answer = met (lengths (length s) 1256 answer 1272) (C.dischargeNumber s i dt t limit places)
+unfoldable pub dischargeReturn : List ℕ → Float → Float → Float → Float → ℕ → ℕ → ℕ
+dischargeReturn s i dt t limit places answer = afterLengths (lengths (length s) 1256 answer 1272) (C.dischargeReturn s i dt t limit places)
 
 unfoldable pub dischargeRows : List ℕ → Float → Float → Float → Float → List Float → ℕ → List Float
 dischargeRows s i dt t limit l answer = cond (lengths (length s) 1256 answer 1272) (C.dischargeRows s i dt t limit l) l
@@ -21,8 +21,8 @@ dischargeAfter s i dt t limit places a = cond (lengths (length s) 1256 (length a
 
 -- ---- a Doyle-Fuller-Newman cell
 
-unfoldable pub galvanostaticNumber : List ℕ → Float → Float → Float → ℕ → ℕ → ℕ
-galvanostaticNumber s i dt limit places answer = met (lengths (length s) 9008 answer 9024) (P.galvanostaticNumber s i dt limit places)
+unfoldable pub galvanostaticReturn : List ℕ → Float → Float → Float → ℕ → ℕ → ℕ
+galvanostaticReturn s i dt limit places answer = afterLengths (lengths (length s) 9008 answer 9024) (P.galvanostaticReturn s i dt limit places)
 
 unfoldable pub galvanostaticRows : List ℕ → Float → Float → Float → List Float → ℕ → List Float
 galvanostaticRows s i dt limit l answer = cond (lengths (length s) 9008 answer 9024) (P.galvanostaticRows s i dt limit l) l

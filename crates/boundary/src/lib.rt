@@ -10,8 +10,8 @@ use refusal::Answer;
 ghost use mathlib.Core.Path.{_≡_};
 ghost use lib.ListN.{length};
 ghost use Rattle.codec.specs.Words.{putRow};
-ghost use Rattle.boundary.specs.Calls.{listed, lengths, numberCall, buildNumber, buildAfter, particleNumber, particleAfter, cellNumber, cellAfter, electrolyteNumber, electrolyteAfter, dfnNumber, dfnAfter, denseNumber, denseAfter};
-ghost use Rattle.boundary.specs.Runs.{dischargeNumber, dischargeRows, dischargeAfter, galvanostaticNumber, galvanostaticRows, galvanostaticAfter};
+ghost use Rattle.boundary.specs.Calls.{listed, lengths, numberCall, buildReturn, buildAfter, particleReturn, particleAfter, cellReturn, cellAfter, electrolyteReturn, electrolyteAfter, dfnReturn, dfnAfter, denseReturn, denseAfter};
+ghost use Rattle.boundary.specs.Runs.{dischargeReturn, dischargeRows, dischargeAfter, galvanostaticReturn, galvanostaticRows, galvanostaticAfter};
 
 // Whether a call is listed: 1 to n.
 fn is_listed(call: u64, n: u64) -> bool
@@ -30,7 +30,7 @@ fn lengths_fit(image: usize, m: usize, answer: usize, n: usize) -> bool
 // A number from an image: numbers 1 to 19.
 #[no_mangle]
 pub extern "C" fn pj_number(call: u64, image: &[u8], x: f64, y: f64, answer: &mut [u8]) -> u64
-    ensures number { λ r. ⌜ r ≡ numberCall call (now (image .entry)) x y (length (now (answer .entry))) .number ⌝ }
+    ensures number { λ r. ⌜ r ≡ numberCall call (now (image .entry)) x y (length (now (answer .entry))) .refusal ⌝ }
     ensures written { λ _. ⌜ now (answer .exit) ≡ putRow (now (answer .entry)) 0 (numberCall call (now (image .entry)) x y (length (now (answer .entry))) .values) ⌝ }
 {
     if !is_listed(call, 19) {
@@ -39,8 +39,8 @@ pub extern "C" fn pj_number(call: u64, image: &[u8], x: f64, y: f64, answer: &mu
     if !lengths_fit(image.len(), number_length(call), answer.len(), 8) {
         return refusal::LENGTH;
     }
-    let said = number_of(call, image, x, y);
-    match said {
+    let outcome = number_of(call, image, x, y);
+    match outcome {
         Answer::Value(v) => {
             codec::write_f64(answer, 0, v);
             0
@@ -52,7 +52,7 @@ pub extern "C" fn pj_number(call: u64, image: &[u8], x: f64, y: f64, answer: &mu
 // A ready or a new record: numbers 1 to 12.
 #[no_mangle]
 pub extern "C" fn pj_build(call: u64, image: &[u8], answer: &mut [u8]) -> u64
-    ensures number { λ r. ⌜ r ≡ buildNumber call (now (image .entry)) (length (now (answer .entry))) ⌝ }
+    ensures number { λ r. ⌜ r ≡ buildReturn call (now (image .entry)) (length (now (answer .entry))) ⌝ }
     ensures written { λ _. ⌜ now (answer .exit) ≡ buildAfter call (now (image .entry)) (now (answer .entry)) ⌝ }
 {
     if !is_listed(call, 12) {
@@ -82,7 +82,7 @@ pub extern "C" fn pj_particle_step(
     temp_k: f64,
     answer: &mut [u8],
 ) -> u64
-    ensures number { λ r. ⌜ r ≡ particleNumber (now (particle .entry)) «j_n» dt «temp_k» (length (now (answer .entry))) ⌝ }
+    ensures number { λ r. ⌜ r ≡ particleReturn (now (particle .entry)) «j_n» dt «temp_k» (length (now (answer .entry))) ⌝ }
     ensures written { λ _. ⌜ now (answer .exit) ≡ particleAfter (now (particle .entry)) «j_n» dt «temp_k» (now (answer .entry)) ⌝ }
 {
     if !lengths_fit(particle.len(), 600, answer.len(), 600) {
@@ -100,7 +100,7 @@ pub extern "C" fn pj_cell_step(
     temp_k: f64,
     answer: &mut [u8],
 ) -> u64
-    ensures number { λ r. ⌜ r ≡ cellNumber (now (cell .entry)) «current_a» dt «temp_k» (length (now (answer .entry))) ⌝ }
+    ensures number { λ r. ⌜ r ≡ cellReturn (now (cell .entry)) «current_a» dt «temp_k» (length (now (answer .entry))) ⌝ }
     ensures written { λ _. ⌜ now (answer .exit) ≡ cellAfter (now (cell .entry)) «current_a» dt «temp_k» (now (answer .entry)) ⌝ }
 {
     if !lengths_fit(cell.len(), 1256, answer.len(), 1328) {
@@ -119,25 +119,25 @@ pub extern "C" fn pj_electrolyte_step(
     temp_k: f64,
     answer: &mut [u8],
 ) -> u64
-    ensures number { λ r. ⌜ r ≡ electrolyteNumber (now (electrolyte .entry)) «j_n_neg» «j_n_pos» dt «temp_k» (length (now (answer .entry))) ⌝ }
+    ensures number { λ r. ⌜ r ≡ electrolyteReturn (now (electrolyte .entry)) «j_n_neg» «j_n_pos» dt «temp_k» (length (now (answer .entry))) ⌝ }
     ensures written { λ _. ⌜ now (answer .exit) ≡ electrolyteAfter (now (electrolyte .entry)) «j_n_neg» «j_n_pos» dt «temp_k» (now (answer .entry)) ⌝ }
 {
     if !lengths_fit(electrolyte.len(), 896, answer.len(), 896) {
         return refusal::LENGTH;
     }
-    porous_calls::electrolyte_step(electrolyte, j_n_neg, j_n_pos, dt, temp_k, answer)
+    dfn_calls::electrolyte_step(electrolyte, j_n_neg, j_n_pos, dt, temp_k, answer)
 }
 
 // A step of a Doyle-Fuller-Newman cell.
 #[no_mangle]
 pub extern "C" fn pj_dfn_step(cell: &[u8], current_a: f64, dt_s: f64, answer: &mut [u8]) -> u64
-    ensures number { λ r. ⌜ r ≡ dfnNumber (now (cell .entry)) «current_a» «dt_s» (length (now (answer .entry))) ⌝ }
+    ensures number { λ r. ⌜ r ≡ dfnReturn (now (cell .entry)) «current_a» «dt_s» (length (now (answer .entry))) ⌝ }
     ensures written { λ _. ⌜ now (answer .exit) ≡ dfnAfter (now (cell .entry)) «current_a» «dt_s» (now (answer .entry)) ⌝ }
 {
     if !lengths_fit(cell.len(), 9008, answer.len(), 9072) {
         return refusal::LENGTH;
     }
-    porous_calls::dfn_step(cell, current_a, dt_s, answer)
+    dfn_calls::dfn_step(cell, current_a, dt_s, answer)
 }
 
 // A run of a single-particle cell. The answer is written unless the run is refused before its first row.
@@ -151,7 +151,7 @@ pub extern "C" fn pj_simulate_discharge(
     rows: &mut [f64],
     answer: &mut [u8],
 ) -> u64
-    ensures number { λ r. ⌜ r ≡ dischargeNumber (now (cell .entry)) «current_a» dt «temp_k» «max_time_s» (length (now (rows .entry))) (length (now (answer .entry))) ⌝ }
+    ensures number { λ r. ⌜ r ≡ dischargeReturn (now (cell .entry)) «current_a» dt «temp_k» «max_time_s» (length (now (rows .entry))) (length (now (answer .entry))) ⌝ }
     ensures rows { λ _. ⌜ now (rows .exit) ≡ dischargeRows (now (cell .entry)) «current_a» dt «temp_k» «max_time_s» (now (rows .entry)) (length (now (answer .entry))) ⌝ }
     ensures written { λ _. ⌜ now (answer .exit) ≡ dischargeAfter (now (cell .entry)) «current_a» dt «temp_k» «max_time_s» (length (now (rows .entry))) (now (answer .entry)) ⌝ }
 {
@@ -171,20 +171,20 @@ pub extern "C" fn pj_run_galvanostatic(
     rows: &mut [f64],
     answer: &mut [u8],
 ) -> u64
-    ensures number { λ r. ⌜ r ≡ galvanostaticNumber (now (cell .entry)) «current_a» «dt_s» «max_time_s» (length (now (rows .entry))) (length (now (answer .entry))) ⌝ }
+    ensures number { λ r. ⌜ r ≡ galvanostaticReturn (now (cell .entry)) «current_a» «dt_s» «max_time_s» (length (now (rows .entry))) (length (now (answer .entry))) ⌝ }
     ensures rows { λ _. ⌜ now (rows .exit) ≡ galvanostaticRows (now (cell .entry)) «current_a» «dt_s» «max_time_s» (now (rows .entry)) (length (now (answer .entry))) ⌝ }
     ensures written { λ _. ⌜ now (answer .exit) ≡ galvanostaticAfter (now (cell .entry)) «current_a» «dt_s» «max_time_s» (length (now (rows .entry))) (now (answer .entry)) ⌝ }
 {
     if !lengths_fit(cell.len(), 9008, answer.len(), 9024) {
         return refusal::LENGTH;
     }
-    porous_calls::run_galvanostatic(cell, current_a, dt_s, max_time_s, rows, answer)
+    dfn_calls::run_galvanostatic(cell, current_a, dt_s, max_time_s, rows, answer)
 }
 
 // The solution of n equations.
 #[no_mangle]
 pub extern "C" fn pj_solve_dense(a: &[f64], b: &[f64], n: usize, answer: &mut [u8]) -> u64
-    ensures number { λ r. ⌜ r ≡ denseNumber (now (a .entry)) (now (b .entry)) n (length (now (answer .entry))) ⌝ }
+    ensures number { λ r. ⌜ r ≡ denseReturn (now (a .entry)) (now (b .entry)) n (length (now (answer .entry))) ⌝ }
     ensures written { λ _. ⌜ now (answer .exit) ≡ denseAfter (now (a .entry)) (now (b .entry)) n (now (answer .entry)) ⌝ }
 {
     if answer.len() != 256 {

@@ -8,12 +8,12 @@ use lib.Dec.{eqb}
 use lib.ListN.{length}
 use Rattle.cell_images.specs.Images.{cellAt}
 use Rattle.electrolyte_images.specs.Images.{electrolyteAt}
-use Rattle.porous_images.specs.Images as I
-use Rattle.image_builds.specs.Builds.{buildLength, builtLength, newNumber, particleMade, cellBuilt, electrolyteBuilt, dfnMade}
-use Rattle.image_laws.specs.Accepted.{met-both}
+use Rattle.dfn_images.specs.Images as I
+use Rattle.image_builds.specs.Builds.{buildLength, builtLength, newReturn, particleMade, cellBuilt, electrolyteBuilt, dfnMade}
+use Rattle.image_laws.specs.Accepted.{after-lengths}
 use Rattle.image_laws.specs.CellImages.{particleIn}
 use Rattle.boundary.specs.Calls as B
-use Rattle.image_laws.specs.CellBuilds.{cell-build-number, cell-number}
+use Rattle.image_laws.specs.CellBuilds.{cell-build-return, cell-return}
 use Rattle.image_laws.specs.AnswerLengths.{particle-build-length, cell-build-length, electrolyte-build-length, dfn-build-length}
 use Rattle.image_laws.specs.ReadBack.{particle-build-read-back, cell-build-read-back, electrolyte-build-read-back, dfn-build-read-back}
 use Rattle.boundary_laws.specs.CallLists.{Calls, Implements, plain-implements}
@@ -38,40 +38,40 @@ replaced n new old = cond (eqb n 0) new old
 abbrev pub particleBuilds : Calls 600 particleIn Build
 particleBuilds = record {
   formed = λ q a. B.lengths (length (q .image)) 88 (length a) 600;
-  returned = λ s q a. B.buildNumber 7 (q .image) (length a);
+  returned = λ s q a. B.buildReturn 7 (q .image) (length a);
   left = λ s q a. B.buildAfter 7 (q .image) a;
-  handed = λ s q a. eqb (B.buildNumber 7 (q .image) (length a)) 0;
-  number = λ p q. particleMade (q .image) .refusal;
+  handed = λ s q a. eqb (B.buildReturn 7 (q .image) (length a)) 0;
+  refusal = λ p q. particleMade (q .image) .refusal;
   next = λ p q. replaced (particleMade (q .image) .refusal) (particleMade (q .image) .particle) p;
 }
 
 abbrev pub cellBuilds : Calls 1256 cellAt CellBuild
 cellBuilds = record {
   formed = λ q a. B.lengths (length (q .image)) (buildLength (q .call)) (length a) 1256;
-  returned = λ s q a. B.buildNumber (q .call) (q .image) (length a);
+  returned = λ s q a. B.buildReturn (q .call) (q .image) (length a);
   left = λ s q a. B.buildAfter (q .call) (q .image) a;
-  handed = λ s q a. eqb (B.buildNumber (q .call) (q .image) (length a)) 0;
-  number = λ c q. cellBuilt (q .call) (q .image) .refusal;
+  handed = λ s q a. eqb (B.buildReturn (q .call) (q .image) (length a)) 0;
+  refusal = λ c q. cellBuilt (q .call) (q .image) .refusal;
   next = λ c q. replaced (cellBuilt (q .call) (q .image) .refusal) (cellBuilt (q .call) (q .image) .solver) c;
 }
 
 abbrev pub electrolyteBuilds : Calls 896 electrolyteAt Build
 electrolyteBuilds = record {
   formed = λ q a. B.lengths (length (q .image)) 128 (length a) 896;
-  returned = λ s q a. B.buildNumber 11 (q .image) (length a);
+  returned = λ s q a. B.buildReturn 11 (q .image) (length a);
   left = λ s q a. B.buildAfter 11 (q .image) a;
-  handed = λ s q a. eqb (B.buildNumber 11 (q .image) (length a)) 0;
-  number = λ e q. electrolyteBuilt (q .image) .refusal;
+  handed = λ s q a. eqb (B.buildReturn 11 (q .image) (length a)) 0;
+  refusal = λ e q. electrolyteBuilt (q .image) .refusal;
   next = λ e q. replaced (electrolyteBuilt (q .image) .refusal) (electrolyteBuilt (q .image) .state) e;
 }
 
 abbrev pub dfnBuilds : Calls 9008 I.cellAt Build
 dfnBuilds = record {
   formed = λ q a. B.lengths (length (q .image)) 512 (length a) 9008;
-  returned = λ s q a. B.buildNumber 12 (q .image) (length a);
+  returned = λ s q a. B.buildReturn 12 (q .image) (length a);
   left = λ s q a. B.buildAfter 12 (q .image) a;
-  handed = λ s q a. eqb (B.buildNumber 12 (q .image) (length a)) 0;
-  number = λ d q. dfnMade (q .image) .refusal;
+  handed = λ s q a. eqb (B.buildReturn 12 (q .image) (length a)) 0;
+  refusal = λ d q. dfnMade (q .image) .refusal;
   next = λ d q. replaced (dfnMade (q .image) .refusal) (dfnMade (q .image) .cell) d;
 }
 
@@ -83,8 +83,8 @@ module _ {C : Type 0} (n : ℕ) (new old : C) where
   unbuilt : (n ≡ 0 → ⊥) → replaced n new old ≡ old
   unbuilt h = rw (ne-eqb n 0 h)
 
-particle-build-returned : (s : List ℕ) (q : Build) (a : List ℕ) → particleBuilds .returned s q a ≡ B.met (particleBuilds .formed q a) (particleMade (q .image) .refusal)
-unfolding B.buildNumber buildLength builtLength newNumber
+particle-build-returned : (s : List ℕ) (q : Build) (a : List ℕ) → particleBuilds .returned s q a ≡ B.afterLengths (particleBuilds .formed q a) (particleMade (q .image) .refusal)
+unfolding B.buildReturn buildLength builtLength newReturn
 particle-build-returned s q a = refl
 
 pub particle-builds-implement : Implements particleBuilds
@@ -95,14 +95,14 @@ particle-builds-implement =
       handed-is = λ s q a. refl;
       accepted-reads = λ s q a h.
           ap particleIn (whole 600 (particleBuilds .left s q a) (particle-build-length (q .image) a h)) ∙ particle-build-read-back (q .image) a h
-          ∙ sym (built _ _ (particleIn s) (met-both _ _ (sym (particle-build-returned s q a) ∙ h) .1));
+          ∙ sym (built _ _ (particleIn s) (after-lengths _ _ (sym (particle-build-returned s q a) ∙ h) .1));
       accepted-fills = λ s q a h. let l = particle-build-length (q .image) a h in ap length (whole 600 (particleBuilds .left s q a) l) ∙ l;
       refused-keeps = λ p q n. unbuilt _ _ p n;
     })
 
-cell-build-returned : (s : List ℕ) (q : CellBuild) (a : List ℕ) → cellBuilds .returned s q a ≡ B.met (cellBuilds .formed q a) (cellBuilt (q .call) (q .image) .refusal)
+cell-build-returned : (s : List ℕ) (q : CellBuild) (a : List ℕ) → cellBuilds .returned s q a ≡ B.afterLengths (cellBuilds .formed q a) (cellBuilt (q .call) (q .image) .refusal)
 cell-build-returned s q a =
-    cell-build-number (q .call) (q .image) a (q .least) (q .most) ∙ ap (B.met (cellBuilds .formed q a)) (cell-number (q .call) (q .image) a (q .least) (q .most))
+    cell-build-return (q .call) (q .image) a (q .least) (q .most) ∙ ap (B.afterLengths (cellBuilds .formed q a)) (cell-return (q .call) (q .image) a (q .least) (q .most))
 
 pub cell-builds-implement : Implements cellBuilds
 cell-builds-implement =
@@ -112,13 +112,13 @@ cell-builds-implement =
       handed-is = λ s q a. refl;
       accepted-reads = λ s q a h.
           ap cellAt (whole 1256 (cellBuilds .left s q a) (cell-build-length (q .call) (q .image) a (q .least) (q .most) h)) ∙ cell-build-read-back (q .call) (q .image) a (q .least) (q .most) h
-          ∙ sym (built _ _ (cellAt s) (met-both _ _ (sym (cell-build-returned s q a) ∙ h) .1));
+          ∙ sym (built _ _ (cellAt s) (after-lengths _ _ (sym (cell-build-returned s q a) ∙ h) .1));
       accepted-fills = λ s q a h. let l = cell-build-length (q .call) (q .image) a (q .least) (q .most) h in ap length (whole 1256 (cellBuilds .left s q a) l) ∙ l;
       refused-keeps = λ c q n. unbuilt _ _ c n;
     })
 
-electrolyte-build-returned : (s : List ℕ) (q : Build) (a : List ℕ) → electrolyteBuilds .returned s q a ≡ B.met (electrolyteBuilds .formed q a) (electrolyteBuilt (q .image) .refusal)
-unfolding B.buildNumber buildLength builtLength newNumber
+electrolyte-build-returned : (s : List ℕ) (q : Build) (a : List ℕ) → electrolyteBuilds .returned s q a ≡ B.afterLengths (electrolyteBuilds .formed q a) (electrolyteBuilt (q .image) .refusal)
+unfolding B.buildReturn buildLength builtLength newReturn
 electrolyte-build-returned s q a = refl
 
 pub electrolyte-builds-implement : Implements electrolyteBuilds
@@ -129,13 +129,13 @@ electrolyte-builds-implement =
       handed-is = λ s q a. refl;
       accepted-reads = λ s q a h.
           ap electrolyteAt (whole 896 (electrolyteBuilds .left s q a) (electrolyte-build-length (q .image) a h)) ∙ electrolyte-build-read-back (q .image) a h
-          ∙ sym (built _ _ (electrolyteAt s) (met-both _ _ (sym (electrolyte-build-returned s q a) ∙ h) .1));
+          ∙ sym (built _ _ (electrolyteAt s) (after-lengths _ _ (sym (electrolyte-build-returned s q a) ∙ h) .1));
       accepted-fills = λ s q a h. let l = electrolyte-build-length (q .image) a h in ap length (whole 896 (electrolyteBuilds .left s q a) l) ∙ l;
       refused-keeps = λ e q n. unbuilt _ _ e n;
     })
 
-dfn-build-returned : (s : List ℕ) (q : Build) (a : List ℕ) → dfnBuilds .returned s q a ≡ B.met (dfnBuilds .formed q a) (dfnMade (q .image) .refusal)
-unfolding B.buildNumber buildLength builtLength newNumber
+dfn-build-returned : (s : List ℕ) (q : Build) (a : List ℕ) → dfnBuilds .returned s q a ≡ B.afterLengths (dfnBuilds .formed q a) (dfnMade (q .image) .refusal)
+unfolding B.buildReturn buildLength builtLength newReturn
 dfn-build-returned s q a = refl
 
 pub dfn-builds-implement : Implements dfnBuilds
@@ -146,7 +146,7 @@ dfn-builds-implement =
       handed-is = λ s q a. refl;
       accepted-reads = λ s q a h.
           ap I.cellAt (whole 9008 (dfnBuilds .left s q a) (dfn-build-length (q .image) a h)) ∙ dfn-build-read-back (q .image) a h
-          ∙ sym (built _ _ (I.cellAt s) (met-both _ _ (sym (dfn-build-returned s q a) ∙ h) .1));
+          ∙ sym (built _ _ (I.cellAt s) (after-lengths _ _ (sym (dfn-build-returned s q a) ∙ h) .1));
       accepted-fills = λ s q a h. let l = dfn-build-length (q .image) a h in ap length (whole 9008 (dfnBuilds .left s q a) l) ∙ l;
       refused-keeps = λ d q n. unbuilt _ _ d n;
     })

@@ -5,7 +5,7 @@ use mathlib.Core.List.{List}
 use lib.Dec.{eqb}
 use Rattle.matrix_rows.specs.Loops.{either}
 use Rattle.electrode.specs.Sheet.{graphiteAnode, lfpCathode, nmcCathode}
-use Rattle.solver.specs.declared.SpmAnswer.{SpmAnswer}
+use Rattle.solver.specs.declared.SpmBuildAnswer.{SpmBuildAnswer}
 use Rattle.solver.specs.Cell as S
 use Rattle.solver_laws.specs.Build.{build-passes}
 use Rattle.sheet_images.specs.Images.{sheetAt, configAt}
@@ -17,7 +17,7 @@ use Rattle.image_laws.specs.CellBuilds.{graphite-encodable, lfp-encodable, nmc-
 pub cell-build-passes : (call : ℕ) (s : List ℕ) → cellBuilt call s .refusal ≡ 0 → S.cellRefusal (cellBuilt call s .solver) ≡ 0
 unfolding cellBuilt
 cell-build-passes call s =
-    let P : SpmAnswer → Type 0 = λ x. x .refusal ≡ 0 → S.cellRefusal (x .solver) ≡ 0 in
+    let P : SpmBuildAnswer → Type 0 = λ x. x .refusal ≡ 0 → S.cellRefusal (x .solver) ≡ 0 in
     either P (eqb call 8) (S.ready (configAt s) lfpCathode) _ (build-passes (configAt s) graphiteAnode lfpCathode (graphite-encodable .place 2) (lfp-encodable .place 2))
     (either P (eqb call 9) (S.ready (configAt s) nmcCathode) (S.built (configAt s) (sheetAt s 6) (sheetAt s 16))
     (build-passes (configAt s) graphiteAnode nmcCathode (graphite-encodable .place 2) (nmc-encodable .place 2))

@@ -10,7 +10,7 @@ use borrow.Author.Tests.{eqb-true, eqb-false}
 use lib.Dec.{eqb}
 use lib.ListN.{length, take}
 use Rattle.refusal.specs.Numbers as N
-use Rattle.boundary.specs.Calls.{met}
+use Rattle.boundary.specs.Calls.{afterLengths}
 
 -- A kind of call on images of `size` bytes that `read` reads as a record. What C sees, by the definitions that the contracts cite: what a call returns, what it
 -- leaves in its answer, and whether that begins with a new image. What the call is: its number and the next record, by the record.
@@ -19,7 +19,7 @@ pub record Calls {C : Type 0} (size : ℕ) (read : List ℕ → C) (Q : Type 0) 
   pub returned : List ℕ → Q → List ℕ → ℕ
   pub left : List ℕ → Q → List ℕ → List ℕ
   pub handed : List ℕ → Q → List ℕ → Bool
-  pub number : C → Q → ℕ
+  pub refusal : C → Q → ℕ
   pub next : C → Q → C
 
 -- a call with the answer that it lends, any bytes of any length
@@ -60,7 +60,7 @@ module _ {C Q : Type 0} {size : ℕ} {read : List ℕ → C} (b : Calls size rea
 
   unfoldable pub accepted : C → List Q → List Q
   accepted c [] = []
-  accepted c (q ∷ qs) = cond (eqb (b .number c q) 0) (q ∷ accepted (b .next c q) qs) (accepted (b .next c q) qs)
+  accepted c (q ∷ qs) = cond (eqb (b .refusal c q) 0) (q ∷ accepted (b .next c q) qs) (accepted (b .next c q) qs)
 
   unfoldable pub total : (C → Q → ℕ) → C → List Q → ℕ
   total W c [] = 0
@@ -69,7 +69,7 @@ module _ {C Q : Type 0} {size : ℕ} {read : List ℕ → C} (b : Calls size rea
   -- ---- what is to be shown of a kind of call
   pub record Implements : Type 0 where
     pub malformed : (s : List ℕ) (q : Q) (a : List ℕ) → length s ≡ size → b .formed q a ≡ false → (b .returned s q a ≡ N.badLength) × (b .handed s q a ≡ false)
-    pub returns : (s : List ℕ) (q : Q) (a : List ℕ) → length s ≡ size → b .formed q a ≡ true → b .returned s q a ≡ b .number (read s) q
+    pub returns : (s : List ℕ) (q : Q) (a : List ℕ) → length s ≡ size → b .formed q a ≡ true → b .returned s q a ≡ b .refusal (read s) q
     pub reads : (s : List ℕ) (q : Q) (a : List ℕ) → length s ≡ size → b .formed q a ≡ true → b .handed s q a ≡ true → read (take size (b .left s q a)) ≡ b .next (read s) q
     pub fills : (s : List ℕ) (q : Q) (a : List ℕ) → length s ≡ size → b .formed q a ≡ true → b .handed s q a ≡ true → length (take size (b .left s q a)) ≡ size
     pub keeps : (s : List ℕ) (q : Q) (a : List ℕ) → length s ≡ size → b .formed q a ≡ true → b .handed s q a ≡ false → b .next (read s) q ≡ read s
@@ -125,7 +125,7 @@ module _ {C Q : Type 0} {size : ℕ} {read : List ℕ → C} (b : Calls size rea
     -- WHAT THE ANSWERS REPORT is what the calls make: w of an answer that is accepted is W, and W of a refused call is 0
     module _ (w : List ℕ → ℕ) (W : C → Q → ℕ)
         (one : (s : List ℕ) (q : Q) (a : List ℕ) → b .returned s q a ≡ 0 → w (b .left s q a) ≡ W (read s) q)
-        (none : (c : C) (q : Q) → (b .number c q ≡ 0 → ⊥) → W c q ≡ 0) where
+        (none : (c : C) (q : Q) → (b .refusal c q ≡ 0 → ⊥) → W c q ≡ 0) where
       reported-one : (s : List ℕ) (q : CCall Q) → length s ≡ size → b .formed (q .call) (q .answer) ≡ true
           → cond (eqb (b .returned s (q .call) (q .answer)) 0) (w (b .left s (q .call) (q .answer))) 0 ≡ W (read s) (q .call)
       reported-one s q l e = go (eqb (b .returned s (q .call) (q .answer)) 0) refl
@@ -163,7 +163,7 @@ module _ {C Q Q' : Type 0} {size : ℕ} {read : List ℕ → C} (b : Calls size 
     returned = λ s q a. ⊎-elim (λ p. b .returned s p a) (λ p. b' .returned s p a) q;
     left = λ s q a. ⊎-elim (λ p. b .left s p a) (λ p. b' .left s p a) q;
     handed = λ s q a. ⊎-elim (λ p. b .handed s p a) (λ p. b' .handed s p a) q;
-    number = λ c q. ⊎-elim (λ p. b .number c p) (λ p. b' .number c p) q;
+    refusal = λ c q. ⊎-elim (λ p. b .refusal c p) (λ p. b' .refusal c p) q;
     next = λ c q. ⊎-elim (λ p. b .next c p) (λ p. b' .next c p) q;
   }
 
@@ -174,7 +174,7 @@ module _ {C Q Q' : Type 0} {size : ℕ} {read : List ℕ → C} (b : Calls size 
       malformed s (inl p) a l e = f .malformed s p a l e
       malformed s (inr p) a l e = g .malformed s p a l e
 
-      returns : (s : List ℕ) (q : Q ⊎ Q') (a : List ℕ) → length s ≡ size → orElse .formed q a ≡ true → orElse .returned s q a ≡ orElse .number (read s) q
+      returns : (s : List ℕ) (q : Q ⊎ Q') (a : List ℕ) → length s ≡ size → orElse .formed q a ≡ true → orElse .returned s q a ≡ orElse .refusal (read s) q
       returns s (inl p) a l e = f .returns s p a l e
       returns s (inr p) a l e = g .returns s p a l e
 
@@ -194,22 +194,22 @@ module _ {C Q Q' : Type 0} {size : ℕ} {read : List ℕ → C} (b : Calls size 
 module _ {C Q : Type 0} {size : ℕ} {read : List ℕ → C} (b : Calls size read Q) where
   pub record Plain : Type 0 where
     -- the number is `length` where the lengths are wrong
-    pub returned-is : (s : List ℕ) (q : Q) (a : List ℕ) → length s ≡ size → b .returned s q a ≡ met (b .formed q a) (b .number (read s) q)
+    pub returned-is : (s : List ℕ) (q : Q) (a : List ℕ) → length s ≡ size → b .returned s q a ≡ afterLengths (b .formed q a) (b .refusal (read s) q)
     pub handed-is : (s : List ℕ) (q : Q) (a : List ℕ) → b .handed s q a ≡ eqb (b .returned s q a) 0
     pub accepted-reads : (s : List ℕ) (q : Q) (a : List ℕ) → b .returned s q a ≡ 0 → read (take size (b .left s q a)) ≡ b .next (read s) q
     pub accepted-fills : (s : List ℕ) (q : Q) (a : List ℕ) → b .returned s q a ≡ 0 → length (take size (b .left s q a)) ≡ size
-    pub refused-keeps : (c : C) (q : Q) → (b .number c q ≡ 0 → ⊥) → b .next c q ≡ c
+    pub refused-keeps : (c : C) (q : Q) → (b .refusal c q ≡ 0 → ⊥) → b .next c q ≡ c
 
   pub plain-implements : Plain → Implements b
   plain-implements p = record { malformed = malformed; returns = returns; reads = reads; fills = fills; keeps = keeps }
     where
       malformed : (s : List ℕ) (q : Q) (a : List ℕ) → length s ≡ size → b .formed q a ≡ false → (b .returned s q a ≡ N.badLength) × (b .handed s q a ≡ false)
       malformed s q a l e =
-          let z : b .returned s q a ≡ N.badLength = unfold met in rw e at (p .returned-is s q a l) in
+          let z : b .returned s q a ≡ N.badLength = unfold afterLengths in rw e at (p .returned-is s q a l) in
           (z, p .handed-is s q a ∙ rw z)
 
-      returns : (s : List ℕ) (q : Q) (a : List ℕ) → length s ≡ size → b .formed q a ≡ true → b .returned s q a ≡ b .number (read s) q
-      returns s q a l e = unfold met in rw e at (p .returned-is s q a l)
+      returns : (s : List ℕ) (q : Q) (a : List ℕ) → length s ≡ size → b .formed q a ≡ true → b .returned s q a ≡ b .refusal (read s) q
+      returns s q a l e = unfold afterLengths in rw e at (p .returned-is s q a l)
 
       zero-returned : (s : List ℕ) (q : Q) (a : List ℕ) → b .handed s q a ≡ true → b .returned s q a ≡ 0
       zero-returned s q a h = eqb-true (b .returned s q a) 0 (sym (p .handed-is s q a) ∙ h)

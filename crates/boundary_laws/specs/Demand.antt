@@ -10,7 +10,7 @@ use Rattle.image_laws.specs.CellImages.{particleIn}
 use Rattle.fraction.specs.Fraction.{nat, pow2, _+F_, _-F_, _*F_, _/F_, _≤F_, _within_}
 use Rattle.binary64.specs.Value.{val}
 use Rattle.diffusion.specs.Calls as DF
-use Rattle.diffusion.specs.Premises.{Kept}
+use Rattle.diffusion.specs.Premises.{StepConditions}
 use Rattle.diffusion.specs.Run.{Each, Both}
 use Rattle.particle.specs.Checks.{particleRefusal, nodes-of}
 use Rattle.particle_laws.specs.Demand as PD
@@ -25,11 +25,11 @@ use Rattle.boundary_laws.specs.Nodes.{nodeOf, nodeAt, mostAt, particle-n
 
 -- ---- a particle: lists of `pj_particle_step`
 -- the calls that return 0 keep the demand's two conditions
-abbrev pub ParticleKept : List ℕ → List (CCall PD.Call) → Type 0
-ParticleKept s qs = Each (λ q. Kept (PD.numbersOf (particleIn s) q)) (acceptedCalls particleSteps s qs)
+abbrev pub ParticleStepConditions : List ℕ → List (CCall PD.Call) → Type 0
+ParticleStepConditions s qs = Each (λ q. StepConditions (PD.numbersOf (particleIn s) q)) (acceptedCalls particleSteps s qs)
 
 -- THEOREM 1. Every node of the last image is within K·M / 2 ^ 49 of the exact one, K the number of calls that return 0.
-pub particle-images-near : (s : List ℕ) (qs : List (CCall PD.Call)) → length s ≡ 600 → particleRefusal (particleIn s) ≡ 0 → ParticleKept s qs
+pub particle-images-near : (s : List ℕ) (qs : List (CCall PD.Call)) → length s ≡ 600 → particleRefusal (particleIn s) ≡ 0 → ParticleStepConditions s qs
     → (i : ℕ) → i < particleIn s .«n_nodes»
     → nodeOf (imageAfter particleSteps s qs) i -F PD.exactPlace (particleIn s) (wellFormed particleSteps qs) i
     within nat (length (acceptedCalls particleSteps s qs)) *F val (particleIn s .params .«c_s_max») /F pow2 49
@@ -39,26 +39,26 @@ particle-images-near s qs l h ks i m =
     let f = particle-simulates qs s l in
     let n = nodes-of p h .1 in
     rw (← particle-nodes (imageAfter particleSteps s qs) (DF.after (PD.steps p) p w) (f .particle) i (omega (arith, m, n)), f .calls)
-    (PD.particle-near p w h (subst (Each (λ q. Kept (PD.numbersOf p q))) (f .calls) ks) i m)
+    (PD.particle-near p w h (subst (Each (λ q. StepConditions (PD.numbersOf p q))) (f .calls) ks) i m)
 
 -- after any list the image's particle passes the checks
 pub particle-images-pass : (s : List ℕ) (qs : List (CCall PD.Call)) → length s ≡ 600 → particleRefusal (particleIn s) ≡ 0 → particleRefusal (particleIn (imageAfter particleSteps s qs)) ≡ 0
 particle-images-pass s qs l h = rw (particle-simulates qs s l .particle) (PD.after-passes (particleIn s) (wellFormed particleSteps qs) h)
 
 -- ---- a cell: lists of `pj_cell_step`
-abbrev pub CellKept : Electrode → List ℕ → List (CCall SD.Call) → Type 0
-CellKept e s qs = Each (λ q. Kept (SD.numbersAt e (cellAt s) q)) (acceptedCalls cellSteps s qs)
+abbrev pub CellStepConditions : Electrode → List ℕ → List (CCall SD.Call) → Type 0
+CellStepConditions e s qs = Each (λ q. StepConditions (SD.numbersAt e (cellAt s) q)) (acceptedCalls cellSteps s qs)
 
 -- THEOREM 2. Every node of the electrode e in the last image is within K·M / 2 ^ 49 of the exact one, K the sub-steps that the answers report. Nothing is asked
 -- of the other electrode.
-pub cell-images-near : (e : Electrode) (s : List ℕ) (qs : List (CCall SD.Call)) → length s ≡ 1256 → cellRefusal (cellAt s) ≡ 0 → CellKept e s qs
+pub cell-images-near : (e : Electrode) (s : List ℕ) (qs : List (CCall SD.Call)) → length s ≡ 1256 → cellRefusal (cellAt s) ≡ 0 → CellStepConditions e s qs
     → (i : ℕ) → i < cellAt s .config .«n_nodes»
     → nodeAt e (imageAfter cellSteps s qs) i -F SD.exactPlace e (cellAt s) (wellFormed cellSteps qs) i within nat (reportedSubSteps s qs) *F mostAt e (cellAt s) /F pow2 49
 cell-images-near e s qs l h ks i m =
     let w = wellFormed cellSteps qs in
     let f = cell-simulates qs s l in
     rw (← cell-nodes e (imageAfter cellSteps s qs) (SD.cellAfter (cellAt s) w) (f .cell) i (node-below (cellAt s) h i m), f .count)
-    (SD.solver-near e (cellAt s) w h (subst (Each (λ q. Kept (SD.numbersAt e (cellAt s) q))) (f .calls) ks) i (rw (nodes-are (cellAt s) h e) m))
+    (SD.solver-near e (cellAt s) w h (subst (Each (λ q. StepConditions (SD.numbersAt e (cellAt s) q))) (f .calls) ks) i (rw (nodes-are (cellAt s) h e) m))
 
 -- after any list the image's cell passes the checks
 pub cell-images-pass : (s : List ℕ) (qs : List (CCall SD.Call)) → length s ≡ 1256 → cellRefusal (cellAt s) ≡ 0 → cellRefusal (cellAt (imageAfter cellSteps s qs)) ≡ 0
@@ -77,15 +77,15 @@ pub record RankedImages (s s' : List ℕ) (qs qs' : List (CCall SD.Call)) : Type
       ≤F nodeAt Electrode.anode (imageAfter cellSteps s qs) i +F nat 2 *F nat (reportedSubSteps s qs) *F mostAt Electrode.anode (cellAt s) /F pow2 49
 
 pub cell-images-ranked : (s s' : List ℕ) (qs qs' : List (CCall SD.Call)) → length s ≡ 1256 → length s' ≡ 1256 → cellRefusal (cellAt s) ≡ 0 → cellRefusal (cellAt s') ≡ 0
-    → Twins (cellAt s) (cellAt s') → ((e : Electrode) → CellKept e s qs) → ((e : Electrode) → CellKept e s' qs')
+    → Twins (cellAt s) (cellAt s') → ((e : Electrode) → CellStepConditions e s qs) → ((e : Electrode) → CellStepConditions e s' qs')
     → Both Paired (acceptedCalls cellSteps s qs) (acceptedCalls cellSteps s' qs') → RankedImages s s' qs qs'
 cell-images-ranked s s' qs qs' l l' h h' t ks ks' ps =
     let w = wellFormed cellSteps qs in
     let w' = wellFormed cellSteps qs' in
     let f = cell-simulates qs s l in
     let f' = cell-simulates qs' s' l' in
-    let kept : (e : Electrode) → SD.KeptAt e (cellAt s) w = λ e. subst (Each (λ q. Kept (SD.numbersAt e (cellAt s) q))) (f .calls) (ks e) in
-    let kept' : (e : Electrode) → SD.KeptAt e (cellAt s') w' = λ e. subst (Each (λ q. Kept (SD.numbersAt e (cellAt s') q))) (f' .calls) (ks' e) in
+    let kept : (e : Electrode) → SD.StepConditionsAt e (cellAt s) w = λ e. subst (Each (λ q. StepConditions (SD.numbersAt e (cellAt s) q))) (f .calls) (ks e) in
+    let kept' : (e : Electrode) → SD.StepConditionsAt e (cellAt s') w' = λ e. subst (Each (λ q. StepConditions (SD.numbersAt e (cellAt s') q))) (f' .calls) (ks' e) in
     let pairs : Both Paired (SD.taken (cellAt s) w) (SD.taken (cellAt s') w') = rw (f .calls, f' .calls) at ps in
     let r : Ranked (cellAt s) (cellAt s') w w' = solver-ranking (cellAt s) (cellAt s') w w' h h' t kept kept' pairs in
     let c = SD.cellAfter (cellAt s) w in

@@ -17,20 +17,20 @@ use Rattle.solver.specs.Cell as S
 use Rattle.solver_laws.specs.Electrodes.{Electrode}
 use Rattle.solver_laws.specs.Demand as SD
 use Rattle.solver_laws.specs.Ranking.{Twins}
-use Rattle.solver_laws.specs.Instance.{config, start, later, start-is, start-passes, later-passes, twins, two, three, four, draw, no-current, too-long, discharge, stronger, discharge-taken, discharge-counted, discharge-kept, stronger-taken, stronger-kept, stronger-paired}
+use Rattle.solver_laws.specs.Instance.{config, start, later, start-is, start-passes, later-passes, twins, two, three, four, draw, no-current, too-long, discharge, stronger, discharge-taken, discharge-counted, discharge-conditions, stronger-taken, stronger-conditions, stronger-paired}
 use Rattle.sheet_images.specs.Images.{configAt, putConfig}
 use Rattle.cell_images.specs.Images.{cellAt, putCell}
 use Rattle.image_builds.specs.Builds.{cellBuilt, buildLength}
 use Rattle.boundary.specs.Calls as B
 use Rattle.image_laws.specs.Encodable.{[]ᵉ, _∷ᵉ_, literal}
 use Rattle.image_laws.specs.CellImages.{EncodableSheet, EncodableConfig, EncodableCell, writes-config, config-read-back, writes-cell, cell-read-back}
-use Rattle.image_laws.specs.CellBuilds.{cell-build-number, cell-number, fresh-encodable, graphite-encodable, lfp-encodable}
+use Rattle.image_laws.specs.CellBuilds.{cell-build-return, cell-return, fresh-encodable, graphite-encodable, lfp-encodable}
 use Rattle.image_laws.specs.AnswerLengths.{cell-build-length}
 use Rattle.image_laws.specs.ReadBack.{cell-build-read-back}
 use Rattle.boundary_laws.specs.CallLists.{CCall, imageAfter, acceptedCalls, wellFormed}
 use Rattle.boundary_laws.specs.StepLists.{cellSteps, reportedSubSteps, cell-simulates}
 use Rattle.boundary_laws.specs.Nodes.{nodeAt, mostAt}
-use Rattle.boundary_laws.specs.Demand.{CellKept, cell-images-near, RankedImages, cell-images-ranked}
+use Rattle.boundary_laws.specs.Demand.{CellStepConditions, cell-images-near, RankedImages, cell-images-ranked}
 
 abbrev pub zeros : ℕ → List ℕ
 zeros n = replicate n 0
@@ -85,11 +85,11 @@ pub build-is : cellBuilt 8 configImage .solver ≡ start
 unfolding cellBuilt
 build-is = ap (λ (c : SpmConfig). S.ready c lfpCathode .solver) config-is ∙ start-is .1
 
-pub build-returns : B.buildNumber 8 configImage (length (zeros 1256)) ≡ 0
-unfolding buildLength B.met
+pub build-returns : B.buildReturn 8 configImage (length (zeros 1256)) ≡ 0
+unfolding buildLength B.afterLengths
 build-returns =
-    cell-build-number 8 configImage (zeros 1256) (lit≤ tt) (lit≤ tt)
-    ∙ rw config-length (cell-number 8 configImage (zeros 1256) (lit≤ tt) (lit≤ tt) ∙ build-accepted)
+    cell-build-return 8 configImage (zeros 1256) (lit≤ tt) (lit≤ tt)
+    ∙ rw config-length (cell-return 8 configImage (zeros 1256) (lit≤ tt) (lit≤ tt) ∙ build-accepted)
 
 pub image-length : length image ≡ 1256
 unfolding image
@@ -129,7 +129,7 @@ module _ (s : List ℕ) (c : SpmSolver) (l : length s ≡ 1256) (is : cellAt s �
   counted-are : reportedSubSteps s qs ≡ SD.K c w
   counted-are = cell-simulates qs s l .count ∙ ap (λ (x : SpmSolver). SD.K x (wellFormed cellSteps qs)) is ∙ ap (SD.K c) f
 
-  conditions-hold : (e : Electrode) → SD.KeptAt e c w → CellKept e s qs
+  conditions-hold : (e : Electrode) → SD.StepConditionsAt e c w → CellStepConditions e s qs
   conditions-hold e k = rw (accepted-are, is) k
 
 formed-calls : wellFormed cellSteps calls ≡ discharge
@@ -149,11 +149,11 @@ stronger-accepted = accepted-are laterImage later later-length later-cell strong
 pub calls-counted : reportedSubSteps image calls ≡ 3
 calls-counted = counted-are image start image-length image-cell calls discharge formed-calls ∙ discharge-counted
 
-calls-kept : (e : Electrode) → CellKept e image calls
-calls-kept e = conditions-hold image start image-length image-cell calls discharge formed-calls e (discharge-kept e)
+calls-conditions : (e : Electrode) → CellStepConditions e image calls
+calls-conditions e = conditions-hold image start image-length image-cell calls discharge formed-calls e (discharge-conditions e)
 
-stronger-calls-kept : (e : Electrode) → CellKept e laterImage strongerCalls
-stronger-calls-kept e = conditions-hold laterImage later later-length later-cell strongerCalls stronger formed-stronger e (stronger-kept e)
+stronger-calls-conditions : (e : Electrode) → CellStepConditions e laterImage strongerCalls
+stronger-calls-conditions e = conditions-hold laterImage later later-length later-cell strongerCalls stronger formed-stronger e (stronger-conditions e)
 
 image-passes : S.cellRefusal (cellAt image) ≡ 0
 image-passes = rw image-cell start-passes
@@ -167,10 +167,10 @@ image-twins = rw (image-cell, later-cell) twins
 -- ---- THEOREM 2 for the words of the last image, K = 3
 pub image-near : (e : Electrode) (i : ℕ) → i < 11
     → nodeAt e (imageAfter cellSteps image calls) i -F SD.exactPlace e start discharge i within nat 3 *F mostAt e start /F pow2 49
-image-near e i l = rw (image-cell, formed-calls, calls-counted) at (cell-images-near e image calls image-length image-passes (calls-kept e) i (rw image-cell l))
+image-near e i l = rw (image-cell, formed-calls, calls-counted) at (cell-images-near e image calls image-length image-passes (calls-conditions e) i (rw image-cell l))
 
 -- ---- THEOREM 3 for these calls and the stronger ones
 pub image-ranked : RankedImages image laterImage calls strongerCalls
 image-ranked =
-    cell-images-ranked image laterImage calls strongerCalls image-length later-length image-passes later-image-passes image-twins calls-kept stronger-calls-kept
+    cell-images-ranked image laterImage calls strongerCalls image-length later-length image-passes later-image-passes image-twins calls-conditions stronger-calls-conditions
     (rw (calls-accepted, stronger-accepted) (Both.more (stronger-paired two) (Both.more (stronger-paired one) Both.none)))

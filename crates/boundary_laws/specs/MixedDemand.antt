@@ -27,7 +27,7 @@ use Rattle.boundary_laws.specs.BuiltCells.{cell-build-passes}
 
 -- ---- a run as a list of steps: one for each row
 abbrev pub turnsOf : SpmSolver → CellRun → List SD.Call
-turnsOf c q = callsOf (DR.feedOf (q .current) (q .dt) (q .temp) (q .limit)) c (q .places)
+turnsOf c q = callsOf (DR.runSettings (q .current) (q .dt) (q .temp) (q .limit)) c (q .places)
 
 -- ---- the cell of the last accepted build, and the steps since then
 pub record SinceBuild : Type 0 where
@@ -68,7 +68,7 @@ since-is (inl b ∷ qs) z =
 since-is (inr (inl q) ∷ qs) z =
     ap (λ (c : SpmSolver). recordAfter cellCalls c qs) (sym (after-append (z .steps) (q ∷ []) (z .start))) ∙ since-is qs (record { start = z .start; steps = z .steps ++ q ∷ [] })
 since-is (inr (inr r) ∷ qs) z =
-    ap (λ (c : SpmSolver). recordAfter cellCalls c qs) (run-is-list (DR.feedOf (r .current) (r .dt) (r .temp) (r .limit)) (cellOf z) (r .places) ∙ sym (after-append (z .steps) (turnsOf (cellOf z) r) (z .start)))
+    ap (λ (c : SpmSolver). recordAfter cellCalls c qs) (run-is-list (DR.runSettings (r .current) (r .dt) (r .temp) (r .limit)) (cellOf z) (r .places) ∙ sym (after-append (z .steps) (turnsOf (cellOf z) r) (z .start)))
     ∙ since-is qs (record { start = z .start; steps = z .steps ++ turnsOf (cellOf z) r })
 
 -- THE CELL OF THE LAST IMAGE is the cell of the last accepted build after the steps since then
@@ -98,7 +98,7 @@ mixed-start-passes s qs h = start-passes (wellFormed cellCalls qs) (record { sta
 -- THEOREM 2. Where the accepted steps since the last build keep the two conditions at e, every node of e in the last image is within K·M / 2 ^ 49 of the exact
 -- one, K their sub-steps.
 pub mixed-images-near : (e : Electrode) (s : List ℕ) (qs : List (CCall (CellBuild ⊎ (SD.Call ⊎ CellRun)))) → length s ≡ 1256 → cellRefusal (sinceBuildIn s qs .start) ≡ 0
-    → SD.KeptAt e (sinceBuildIn s qs .start) (sinceBuildIn s qs .steps) → (i : ℕ) → i < sinceBuildIn s qs .start .config .«n_nodes»
+    → SD.StepConditionsAt e (sinceBuildIn s qs .start) (sinceBuildIn s qs .steps) → (i : ℕ) → i < sinceBuildIn s qs .start .config .«n_nodes»
     → nodeAt e (imageAfter cellCalls s qs) i -F SD.exactPlace e (sinceBuildIn s qs .start) (sinceBuildIn s qs .steps) i
     within nat (SD.K (sinceBuildIn s qs .start) (sinceBuildIn s qs .steps)) *F mostAt e (sinceBuildIn s qs .start) /F pow2 49
 mixed-images-near e s qs l h ks i m =

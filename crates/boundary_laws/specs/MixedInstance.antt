@@ -11,8 +11,8 @@ use Rattle.elementary.specs.Exp.{one}
 use Rattle.solver.specs.declared.SpmSolver.{SpmSolver}
 use Rattle.solver_laws.specs.Electrodes.{Electrode}
 use Rattle.solver_laws.specs.Demand as SD
-use Rattle.solver_laws.specs.Instance.{start, start-passes, two, three, draw, no-current, too-long, discharge, discharge-counted, discharge-kept}
-use Rattle.discharge_run.specs.declared.Feed.{Feed}
+use Rattle.solver_laws.specs.Instance.{start, start-passes, two, three, draw, no-current, too-long, discharge, discharge-counted, discharge-conditions}
+use Rattle.discharge_run.specs.declared.RunSettings.{RunSettings}
 use Rattle.discharge_run.specs.Discharge.{discharged}
 use Rattle.image_laws.specs.CellRuns.{rows-most}
 use Rattle.cell_images.specs.Images.{cellAt}
@@ -52,7 +52,7 @@ unfolding wellFormed buildLength
 formed-calls = rw config-length
 
 -- a run without room makes no step
-no-rows : (w : Feed) (c : SpmSolver) → discharged w c 0 .rows ≡ 0
+no-rows : (w : RunSettings) (c : SpmSolver) → discharged w c 0 .rows ≡ 0
 no-rows w c = let m = rows-most w c 0 in omega (arith, m)
 
 no-turns : (c : SpmSolver) → turnsOf c noRoom ≡ []
@@ -70,4 +70,4 @@ pub mixed-image-near : (e : Electrode) (i : ℕ) → i < 11
     → nodeAt e (imageAfter cellCalls (zeros 1256) mixedCalls) i -F SD.exactPlace e start discharge i within nat 3 *F mostAt e start /F pow2 49
 mixed-image-near e i l =
     rw (mixed-since, discharge-counted) at
-    (mixed-images-near e (zeros 1256) mixedCalls (zeros-length 1256) (rw mixed-since start-passes) (rw mixed-since (discharge-kept e)) i (rw mixed-since l))
+    (mixed-images-near e (zeros 1256) mixedCalls (zeros-length 1256) (rw mixed-since start-passes) (rw mixed-since (discharge-conditions e)) i (rw mixed-since l))

@@ -10,7 +10,7 @@ use Rattle.particle_laws.specs.Demand as PD
 use Rattle.solver_laws.specs.Demand as SD
 use Rattle.cell_images.specs.Images.{cellAt}
 use Rattle.electrolyte_images.specs.Images.{electrolyteAt}
-use Rattle.porous_images.specs.Images as I
+use Rattle.dfn_images.specs.Images as I
 use Rattle.boundary_laws.specs.CallLists.{Calls, CCall, Simulates, simulates, orElse, both-implement}
 use Rattle.boundary_laws.specs.StepLists.{ElectrolyteCall, DfnCall, particleSteps, cellSteps, electrolyteSteps, dfnSteps, particle-steps-implement, cell-steps-implement, electrolyte-steps-implement, dfn-steps-implement}
 use Rattle.boundary_laws.specs.BuildLists.{Build, CellBuild, particleBuilds, cellBuilds, electrolyteBuilds, dfnBuilds, particle-builds-implement, cell-builds-implement, electrolyte-builds-implement, dfn-builds-implement}

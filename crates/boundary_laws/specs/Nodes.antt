@@ -10,7 +10,7 @@ use Rattle.image_laws.specs.CellImages.{particleIn}
 use Rattle.fraction.specs.Fraction.{Fraction}
 use Rattle.binary64.specs.Operators.{f64}
 use Rattle.binary64.specs.Value.{val}
-use Rattle.turns.specs.Turns.{first-below}
+use Rattle.iterate.specs.Iterate.{first-below}
 use Rattle.particle.specs.declared.ParticleDiffusion.{ParticleDiffusion}
 use Rattle.particle.specs.Checks.{nodes-of}
 use Rattle.particle.specs.Particle.{placeOf}

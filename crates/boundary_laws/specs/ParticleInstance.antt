@@ -9,17 +9,17 @@ use lib.ListN.{length}
 use lib.Ieee.{le, ofBits}
 use Rattle.fraction.specs.Fraction.{nat, pow2, _-F_, _*F_, _/F_, _within_}
 use Rattle.binary64.specs.Value.{val}
-use Rattle.refusal.specs.Numbers.{firstMet, refusalUnless}
+use Rattle.refusal.specs.Numbers.{firstRefusal, refusalUnless}
 use Rattle.electrode.specs.declared.ElectrodeParams.{ElectrodeParams}
 use Rattle.electrode.specs.Sheet.{graphiteAnode}
 use Rattle.particle.specs.declared.ParticleDiffusion.{ParticleDiffusion}
 use Rattle.particle.specs.declared.ParticleAnswer.{ParticleAnswer}
 use Rattle.particle.specs.Calls as P
 use Rattle.particle_laws.specs.Demand as PD
-use Rattle.particle_laws.specs.Instance.{start, start-passes, sheet-is, nodes-are, draw, no-flux, no-time, discharge, discharge-taken, discharge-keeps}
+use Rattle.particle_laws.specs.Instance.{start, start-passes, sheet-is, nodes-are, draw, no-flux, no-time, discharge, discharge-taken, discharge-conditions-hold}
 use Rattle.codec.specs.Words.{wordAt, putWord}
 use Rattle.sheet_images.specs.Images.{sheetAt, putSheet}
-use Rattle.image_builds.specs.Builds.{particleMade, newNumber, buildLength, builtLength}
+use Rattle.image_builds.specs.Builds.{particleMade, newReturn, buildLength, builtLength}
 use Rattle.boundary.specs.Calls as B
 use Rattle.image_laws.specs.Words.{word-read-back}
 use Rattle.image_laws.specs.Rows.{writes-word, same-below}
@@ -30,7 +30,7 @@ use Rattle.image_laws.specs.ReadBack.{particle-build-read-back}
 use Rattle.boundary_laws.specs.CallLists.{CCall, imageAfter, acceptedCalls, wellFormed}
 use Rattle.boundary_laws.specs.StepLists.{particleSteps, particle-simulates}
 use Rattle.boundary_laws.specs.Nodes.{nodeOf}
-use Rattle.boundary_laws.specs.Demand.{ParticleKept, particle-images-near}
+use Rattle.boundary_laws.specs.Demand.{ParticleStepConditions, particle-images-near}
 use Rattle.boundary_laws.specs.Instance.{zeros, zeros-length, calls}
 
 -- ---- the image
@@ -74,11 +74,11 @@ unfolding particleMade
 made-is = ap (λ (p : ElectrodeParams). P.made p (wordAt sheetImage 10)) sheet-read ∙ ap (P.made graphiteAnode) nodes-read
 
 made-accepted : P.made graphiteAnode 11 .refusal ≡ 0
-unfolding P.made P.newRefusal firstMet refusalUnless graphiteAnode le ofBits
+unfolding P.made P.newRefusal firstRefusal refusalUnless graphiteAnode le ofBits
 made-accepted = refl
 
-pub particle-build-returns : B.buildNumber 7 sheetImage (length (zeros 600)) ≡ 0
-unfolding B.buildNumber buildLength builtLength newNumber B.met
+pub particle-build-returns : B.buildReturn 7 sheetImage (length (zeros 600)) ≡ 0
+unfolding B.buildReturn buildLength builtLength newReturn B.afterLengths
 particle-build-returns = rw image-bytes (ap (λ (a : ParticleAnswer). a .refusal) made-is ∙ made-accepted)
 
 pub particle-image-length : length particleImage ≡ 600
@@ -99,8 +99,8 @@ particle-calls-accepted =
     particle-simulates particleCallList particleImage particle-image-length .calls
     ∙ ap (λ (p : ParticleDiffusion). PD.taken p (wellFormed particleSteps particleCallList)) particle-image-is ∙ ap (PD.taken start) formed-calls ∙ discharge-taken
 
-calls-kept : ParticleKept particleImage particleCallList
-calls-kept = rw (particle-calls-accepted, particle-image-is) (rw discharge-taken at discharge-keeps)
+calls-conditions : ParticleStepConditions particleImage particleCallList
+calls-conditions = rw (particle-calls-accepted, particle-image-is) (rw discharge-taken at discharge-conditions-hold)
 
 -- ---- THEOREM 1 for the words of the last image, K = 3
 pub particle-image-near : (i : ℕ) → i < 11
@@ -108,4 +108,4 @@ pub particle-image-near : (i : ℕ) → i < 11
 particle-image-near i l =
     subst (λ (p : ElectrodeParams). nodeOf (imageAfter particleSteps particleImage particleCallList) i -F PD.exactPlace start discharge i within nat 3 *F val (p .«c_s_max») /F pow2 49) sheet-is
     (rw (particle-calls-accepted, particle-image-is, formed-calls) at
-    (particle-images-near particleImage particleCallList particle-image-length (rw particle-image-is start-passes) calls-kept i (rw (particle-image-is, nodes-are) l)))
+    (particle-images-near particleImage particleCallList particle-image-length (rw particle-image-is start-passes) calls-conditions i (rw (particle-image-is, nodes-are) l)))

@@ -10,15 +10,15 @@ use lib.Seq.{length-take-le}
 use lib.Ieee.{Float}
 use Rattle.binary64.specs.Operators.{f64}
 use Rattle.refusal.specs.Numbers as N
-use Rattle.runs.specs.Told.{told}
+use Rattle.runs.specs.RunAnswers.{writesAnswer}
 use Rattle.solver.specs.declared.SpmSolver.{SpmSolver}
 use Rattle.dfn.specs.declared.DfnSolver.{DfnSolver}
 use Rattle.discharge_run.specs.Discharge as DR
 use Rattle.galvanostatic_run.specs.Galvanostatic as GR
 use Rattle.cell_images.specs.Images.{cellAt}
-use Rattle.porous_images.specs.Images as I
+use Rattle.dfn_images.specs.Images as I
 use Rattle.cell_calls.specs.Runs as CR
-use Rattle.porous_calls.specs.Runs as PR
+use Rattle.dfn_calls.specs.Runs as PR
 use Rattle.boundary.specs.Calls as B
 use Rattle.boundary.specs.Runs as BR
 use Rattle.image_laws.specs.CellRuns.{run-idle}
@@ -42,35 +42,35 @@ pub record DfnRun : Type 0 where
   pub places : ℕ
 
 -- what a run gives
-abbrev pub discharge : SpmSolver → CellRun → DR.RunSaid
-discharge c q = DR.discharged (DR.feedOf (q .current) (q .dt) (q .temp) (q .limit)) c (q .places)
+abbrev pub discharge : SpmSolver → CellRun → DR.RunOutcome
+discharge c q = DR.discharged (DR.runSettings (q .current) (q .dt) (q .temp) (q .limit)) c (q .places)
 
-abbrev pub galvanostatic : DfnSolver → DfnRun → GR.RunSaid
+abbrev pub galvanostatic : DfnSolver → DfnRun → GR.RunOutcome
 galvanostatic d q = GR.galvanostatic d (f64 (q .bits)) (q .dt) (q .limit) (q .places)
 
 abbrev pub cellRuns : Calls 1256 cellAt CellRun
 cellRuns = record {
   formed = λ q a. eqb (length a) 1272;
-  returned = λ s q a. BR.dischargeNumber s (q .current) (q .dt) (q .temp) (q .limit) (q .places) (length a);
+  returned = λ s q a. BR.dischargeReturn s (q .current) (q .dt) (q .temp) (q .limit) (q .places) (length a);
   left = λ s q a. BR.dischargeAfter s (q .current) (q .dt) (q .temp) (q .limit) (q .places) a;
-  handed = λ s q a. B.lengths (length s) 1256 (length a) 1272 && told (discharge (cellAt s) q .ended .refusal) (discharge (cellAt s) q .rows);
-  number = λ c q. discharge c q .ended .refusal;
+  handed = λ s q a. B.lengths (length s) 1256 (length a) 1272 && writesAnswer (discharge (cellAt s) q .ended .refusal) (discharge (cellAt s) q .rows);
+  refusal = λ c q. discharge c q .ended .refusal;
   next = λ c q. discharge c q .solver;
 }
 
 abbrev pub dfnRuns : Calls 9008 I.cellAt DfnRun
 dfnRuns = record {
   formed = λ q a. eqb (length a) 9024;
-  returned = λ s q a. BR.galvanostaticNumber s (f64 (q .bits)) (q .dt) (q .limit) (q .places) (length a);
+  returned = λ s q a. BR.galvanostaticReturn s (f64 (q .bits)) (q .dt) (q .limit) (q .places) (length a);
   left = λ s q a. BR.galvanostaticAfter s (f64 (q .bits)) (q .dt) (q .limit) (q .places) a;
-  handed = λ s q a. B.lengths (length s) 9008 (length a) 9024 && told (galvanostatic (I.cellAt s) q .ended .refusal) (galvanostatic (I.cellAt s) q .rows);
-  number = λ d q. galvanostatic d q .ended .refusal;
+  handed = λ s q a. B.lengths (length s) 9008 (length a) 9024 && writesAnswer (galvanostatic (I.cellAt s) q .ended .refusal) (galvanostatic (I.cellAt s) q .rows);
+  refusal = λ d q. galvanostatic d q .ended .refusal;
   next = λ d q. galvanostatic d q .cell;
 }
 
 -- ---- each run implements its definition
 -- an answer that is not written is that of a run without a row
-no-row : (refusal rows : ℕ) → told refusal rows ≡ false → rows ≡ 0
+no-row : (refusal rows : ℕ) → writesAnswer refusal rows ≡ false → rows ≡ 0
 no-row refusal rows h = go (eqb refusal 0) (eqb rows 0) refl h
   where
     go : (x y : Bool) → eqb rows 0 ≡ y → x || not y ≡ false → rows ≡ 0
@@ -81,15 +81,15 @@ no-row refusal rows h = go (eqb refusal 0) (eqb rows 0) refl h
 module _ (s : List ℕ) (q : CellRun) (a : List ℕ) (l : length s ≡ 1256) where
   module _ (e : eqb (length a) 1272 ≡ false) where
     cell-run-malformed : (cellRuns .returned s q a ≡ N.badLength) × (cellRuns .handed s q a ≡ false)
-    unfolding BR.dischargeNumber B.met
+    unfolding BR.dischargeReturn B.afterLengths
     cell-run-malformed = (rw (eq-eqb (length s) 1256 l, e), rw (eq-eqb (length s) 1256 l, e))
 
   module _ (e : eqb (length a) 1272 ≡ true) where
-    cell-run-returns : cellRuns .returned s q a ≡ cellRuns .number (cellAt s) q
-    unfolding BR.dischargeNumber CR.dischargeNumber B.met
+    cell-run-returns : cellRuns .returned s q a ≡ cellRuns .refusal (cellAt s) q
+    unfolding BR.dischargeReturn CR.dischargeReturn B.afterLengths
     cell-run-returns = rw (eq-eqb (length s) 1256 l, e)
 
-    cell-run-handed : cellRuns .handed s q a ≡ told (discharge (cellAt s) q .ended .refusal) (discharge (cellAt s) q .rows)
+    cell-run-handed : cellRuns .handed s q a ≡ writesAnswer (discharge (cellAt s) q .ended .refusal) (discharge (cellAt s) q .rows)
     cell-run-handed = rw (eq-eqb (length s) 1256 l, e)
 
     cell-run-reads : cellRuns .handed s q a ≡ true → cellAt (take 1256 (cellRuns .left s q a)) ≡ cellRuns .next (cellAt s) q
@@ -103,7 +103,7 @@ module _ (s : List ℕ) (q : CellRun) (a : List ℕ) (l : length s ≡ 1256) whe
 
     cell-run-keeps : cellRuns .handed s q a ≡ false → cellRuns .next (cellAt s) q ≡ cellAt s
     cell-run-keeps h =
-        run-idle (DR.feedOf (q .current) (q .dt) (q .temp) (q .limit)) (cellAt s) (q .places)
+        run-idle (DR.runSettings (q .current) (q .dt) (q .temp) (q .limit)) (cellAt s) (q .places)
         (no-row (discharge (cellAt s) q .ended .refusal) (discharge (cellAt s) q .rows) (sym cell-run-handed ∙ h))
 
 pub cell-runs-implement : Implements cellRuns
@@ -112,15 +112,15 @@ cell-runs-implement = record { malformed = cell-run-malformed; returns = cell-ru
 module _ (s : List ℕ) (q : DfnRun) (a : List ℕ) (l : length s ≡ 9008) where
   module _ (e : eqb (length a) 9024 ≡ false) where
     dfn-run-malformed : (dfnRuns .returned s q a ≡ N.badLength) × (dfnRuns .handed s q a ≡ false)
-    unfolding BR.galvanostaticNumber B.met
+    unfolding BR.galvanostaticReturn B.afterLengths
     dfn-run-malformed = (rw (eq-eqb (length s) 9008 l, e), rw (eq-eqb (length s) 9008 l, e))
 
   module _ (e : eqb (length a) 9024 ≡ true) where
-    dfn-run-returns : dfnRuns .returned s q a ≡ dfnRuns .number (I.cellAt s) q
-    unfolding BR.galvanostaticNumber PR.galvanostaticNumber B.met
+    dfn-run-returns : dfnRuns .returned s q a ≡ dfnRuns .refusal (I.cellAt s) q
+    unfolding BR.galvanostaticReturn PR.galvanostaticReturn B.afterLengths
     dfn-run-returns = rw (eq-eqb (length s) 9008 l, e)
 
-    dfn-run-handed : dfnRuns .handed s q a ≡ told (galvanostatic (I.cellAt s) q .ended .refusal) (galvanostatic (I.cellAt s) q .rows)
+    dfn-run-handed : dfnRuns .handed s q a ≡ writesAnswer (galvanostatic (I.cellAt s) q .ended .refusal) (galvanostatic (I.cellAt s) q .rows)
     dfn-run-handed = rw (eq-eqb (length s) 9008 l, e)
 
     dfn-run-reads : dfnRuns .handed s q a ≡ true → I.cellAt (take 9008 (dfnRuns .left s q a)) ≡ dfnRuns .next (I.cellAt s) q

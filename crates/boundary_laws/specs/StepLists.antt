@@ -24,9 +24,9 @@ use Rattle.dfn.specs.Step as D
 use Rattle.codec.specs.Words.{wordAt}
 use Rattle.cell_images.specs.Images.{cellAt}
 use Rattle.electrolyte_images.specs.Images.{electrolyteAt}
-use Rattle.porous_images.specs.Images as I
+use Rattle.dfn_images.specs.Images as I
 use Rattle.cell_calls.specs.Steps as CS
-use Rattle.porous_calls.specs.Steps as PS
+use Rattle.dfn_calls.specs.Steps as PS
 use Rattle.image_laws.specs.CellImages.{particleIn}
 use Rattle.boundary.specs.Calls as B
 use Rattle.image_laws.specs.DfnRuns.{dfn-step-refused}
@@ -54,40 +54,40 @@ current q = f64 (q .bits)
 abbrev pub particleSteps : Calls 600 particleIn PD.Call
 particleSteps = record {
   formed = λ q a. eqb (length a) 600;
-  returned = λ s q a. B.particleNumber s (q .flux) (q .dt) (q .temp) (length a);
+  returned = λ s q a. B.particleReturn s (q .flux) (q .dt) (q .temp) (length a);
   left = λ s q a. B.particleAfter s (q .flux) (q .dt) (q .temp) a;
-  handed = λ s q a. eqb (B.particleNumber s (q .flux) (q .dt) (q .temp) (length a)) 0;
-  number = λ p q. PD.answer p q .refusal;
+  handed = λ s q a. eqb (B.particleReturn s (q .flux) (q .dt) (q .temp) (length a)) 0;
+  refusal = λ p q. PD.answer p q .refusal;
   next = λ p q. PD.answer p q .particle;
 }
 
 abbrev pub cellSteps : Calls 1256 cellAt SD.Call
 cellSteps = record {
   formed = λ q a. eqb (length a) 1328;
-  returned = λ s q a. B.cellNumber s (q .current) (q .dt) (q .temp) (length a);
+  returned = λ s q a. B.cellReturn s (q .current) (q .dt) (q .temp) (length a);
   left = λ s q a. B.cellAfter s (q .current) (q .dt) (q .temp) a;
-  handed = λ s q a. eqb (B.cellNumber s (q .current) (q .dt) (q .temp) (length a)) 0;
-  number = λ c q. SD.answer c q .refusal;
+  handed = λ s q a. eqb (B.cellReturn s (q .current) (q .dt) (q .temp) (length a)) 0;
+  refusal = λ c q. SD.answer c q .refusal;
   next = λ c q. SD.answer c q .solver;
 }
 
 abbrev pub electrolyteSteps : Calls 896 electrolyteAt ElectrolyteCall
 electrolyteSteps = record {
   formed = λ q a. eqb (length a) 896;
-  returned = λ s q a. B.electrolyteNumber s (q .j_neg) (q .j_pos) (q .dt) (q .temp) (length a);
+  returned = λ s q a. B.electrolyteReturn s (q .j_neg) (q .j_pos) (q .dt) (q .temp) (length a);
   left = λ s q a. B.electrolyteAfter s (q .j_neg) (q .j_pos) (q .dt) (q .temp) a;
-  handed = λ s q a. eqb (B.electrolyteNumber s (q .j_neg) (q .j_pos) (q .dt) (q .temp) (length a)) 0;
-  number = λ e q. E.stepped e (q .j_neg) (q .j_pos) (q .dt) (q .temp) .refusal;
+  handed = λ s q a. eqb (B.electrolyteReturn s (q .j_neg) (q .j_pos) (q .dt) (q .temp) (length a)) 0;
+  refusal = λ e q. E.stepped e (q .j_neg) (q .j_pos) (q .dt) (q .temp) .refusal;
   next = λ e q. E.stepped e (q .j_neg) (q .j_pos) (q .dt) (q .temp) .state;
 }
 
 abbrev pub dfnSteps : Calls 9008 I.cellAt DfnCall
 dfnSteps = record {
   formed = λ q a. eqb (length a) 9072;
-  returned = λ s q a. B.dfnNumber s (current q) (q .dt) (length a);
+  returned = λ s q a. B.dfnReturn s (current q) (q .dt) (length a);
   left = λ s q a. B.dfnAfter s (current q) (q .dt) a;
-  handed = λ s q a. eqb (B.dfnNumber s (current q) (q .dt) (length a)) 0;
-  number = λ d q. D.stepped d (current q) (q .dt) .refusal;
+  handed = λ s q a. eqb (B.dfnReturn s (current q) (q .dt) (length a)) 0;
+  refusal = λ d q. D.stepped d (current q) (q .dt) .refusal;
   next = λ d q. D.stepped d (current q) (q .dt) .cell;
 }
 
@@ -100,8 +100,8 @@ positive : (k : ℕ) → (k ≡ 0 → ⊥) → 0 < k
 positive zero n = absurd (n refl)
 positive (suc k) n = zero-lt-suc k
 
-particle-returned : (s : List ℕ) (q : PD.Call) (a : List ℕ) → length s ≡ 600 → particleSteps .returned s q a ≡ B.met (eqb (length a) 600) (PD.answer (particleIn s) q .refusal)
-unfolding B.particleNumber CS.particleNumber
+particle-returned : (s : List ℕ) (q : PD.Call) (a : List ℕ) → length s ≡ 600 → particleSteps .returned s q a ≡ B.afterLengths (eqb (length a) 600) (PD.answer (particleIn s) q .refusal)
+unfolding B.particleReturn CS.particleReturn
 particle-returned s q a l = rw (eq-eqb (length s) 600 l)
 
 pub particle-steps-implement : Implements particleSteps
@@ -118,8 +118,8 @@ particle-steps-implement =
       refused-keeps = λ p q n. PC.step-refused p (q .flux) (q .dt) (q .temp) n;
     })
 
-cell-returned : (s : List ℕ) (q : SD.Call) (a : List ℕ) → length s ≡ 1256 → cellSteps .returned s q a ≡ B.met (eqb (length a) 1328) (SD.answer (cellAt s) q .refusal)
-unfolding B.cellNumber CS.cellNumber
+cell-returned : (s : List ℕ) (q : SD.Call) (a : List ℕ) → length s ≡ 1256 → cellSteps .returned s q a ≡ B.afterLengths (eqb (length a) 1328) (SD.answer (cellAt s) q .refusal)
+unfolding B.cellReturn CS.cellReturn
 cell-returned s q a l = rw (eq-eqb (length s) 1256 l)
 
 pub cell-steps-implement : Implements cellSteps
@@ -134,8 +134,8 @@ cell-steps-implement =
     })
 
 electrolyte-returned : (s : List ℕ) (q : ElectrolyteCall) (a : List ℕ) → length s ≡ 896
-    → electrolyteSteps .returned s q a ≡ B.met (eqb (length a) 896) (electrolyteSteps .number (electrolyteAt s) q)
-unfolding B.electrolyteNumber PS.electrolyteNumber
+    → electrolyteSteps .returned s q a ≡ B.afterLengths (eqb (length a) 896) (electrolyteSteps .refusal (electrolyteAt s) q)
+unfolding B.electrolyteReturn PS.electrolyteReturn
 electrolyte-returned s q a l = rw (eq-eqb (length s) 896 l)
 
 pub electrolyte-steps-implement : Implements electrolyteSteps
@@ -153,8 +153,8 @@ electrolyte-steps-implement =
       refused-keeps = λ e q n. step-kept e (q .j_neg) (q .j_pos) (q .dt) (q .temp) (positive _ n);
     })
 
-dfn-returned : (s : List ℕ) (q : DfnCall) (a : List ℕ) → length s ≡ 9008 → dfnSteps .returned s q a ≡ B.met (eqb (length a) 9072) (dfnSteps .number (I.cellAt s) q)
-unfolding B.dfnNumber PS.dfnNumber
+dfn-returned : (s : List ℕ) (q : DfnCall) (a : List ℕ) → length s ≡ 9008 → dfnSteps .returned s q a ≡ B.afterLengths (eqb (length a) 9072) (dfnSteps .refusal (I.cellAt s) q)
+unfolding B.dfnReturn PS.dfnReturn
 dfn-returned s q a l = rw (eq-eqb (length s) 9008 l)
 
 pub dfn-steps-implement : Implements dfnSteps
@@ -237,14 +237,14 @@ cell-simulates qs s l =
 
 -- ---- on an image of another length every call is refused, and the image stays
 particle-refused : (s : List ℕ) (q : PD.Call) (a : List ℕ) → eqb (length s) 600 ≡ false → particleSteps .handed s q a ≡ false
-unfolding B.particleNumber B.met
+unfolding B.particleReturn B.afterLengths
 particle-refused s q a n = rw n
 
 pub particle-image-stays : (qs : List (CCall PD.Call)) (s : List ℕ) → eqb (length s) 600 ≡ false → imageAfter particleSteps s qs ≡ s
 particle-image-stays = image-stays particleSteps particle-refused
 
 cell-refused : (s : List ℕ) (q : SD.Call) (a : List ℕ) → eqb (length s) 1256 ≡ false → cellSteps .handed s q a ≡ false
-unfolding B.cellNumber B.met
+unfolding B.cellReturn B.afterLengths
 cell-refused s q a n = rw n
 
 pub cell-image-stays : (qs : List (CCall SD.Call)) (s : List ℕ) → eqb (length s) 1256 ≡ false → imageAfter cellSteps s qs ≡ s

@@ -4,24 +4,24 @@ use Prim.Native.Nat.{ℕ}
 use mathlib.Core.Bool.{cond}
 use mathlib.Core.List.{List}
 use lib.Ieee.{Float}
-use Rattle.runs.specs.Told.{told}
+use Rattle.runs.specs.RunAnswers.{writesAnswer}
 use Rattle.discharge_run.specs.Discharge as S
 use Rattle.cell_images.specs.Images.{cellAt, putCell}
 use Rattle.image_rows.specs.Written.{putEnding}
 
-abbrev discharge : List ℕ → Float → Float → Float → Float → ℕ → S.RunSaid
-discharge s i dt t limit places = S.discharged (S.feedOf i dt t limit) (cellAt s) places
+abbrev discharge : List ℕ → Float → Float → Float → Float → ℕ → S.RunOutcome
+discharge s i dt t limit places = S.discharged (S.runSettings i dt t limit) (cellAt s) places
 
-unfoldable pub dischargeNumber : List ℕ → Float → Float → Float → Float → ℕ → ℕ
-dischargeNumber s i dt t limit places = discharge s i dt t limit places .ended .refusal
+unfoldable pub dischargeReturn : List ℕ → Float → Float → Float → Float → ℕ → ℕ
+dischargeReturn s i dt t limit places = discharge s i dt t limit places .ended .refusal
 
 unfoldable pub dischargeRows : List ℕ → Float → Float → Float → Float → List Float → List Float
-dischargeRows s i dt t limit l = S.dischargedRows (S.feedOf i dt t limit) (cellAt s) l
+dischargeRows s i dt t limit l = S.dischargedRows (S.runSettings i dt t limit) (cellAt s) l
 
 unfoldable pub dischargeAfter : List ℕ → Float → Float → Float → Float → ℕ → List ℕ → List ℕ
 dischargeAfter s i dt t limit places a =
     cond
-    (told (discharge s i dt t limit places .ended .refusal) (discharge s i dt t limit places .rows))
+    (writesAnswer (discharge s i dt t limit places .ended .refusal) (discharge s i dt t limit places .rows))
     (putEnding
     (putCell a (discharge s i dt t limit places .solver))
     157

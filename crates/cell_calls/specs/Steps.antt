@@ -9,7 +9,7 @@ use Rattle.particle.specs.Particle.{particleOf}
 use Rattle.particle.specs.Calls as P
 use Rattle.solver_step.specs.declared.SpmParts.{SpmParts}
 use Rattle.solver_report.specs.declared.SpmState.{SpmState}
-use Rattle.solver.specs.declared.SpmStep.{SpmStep}
+use Rattle.solver.specs.declared.SpmStepAnswer.{SpmStepAnswer}
 use Rattle.solver.specs.Step as S
 use Rattle.cell_images.specs.Images.{cellAt, putCell, putReport}
 use Rattle.sheet_images.specs.Images.{particleAt, putParticle, putConfig}
@@ -19,23 +19,23 @@ use Rattle.sheet_images.specs.Images.{particleAt, putParticle, putConfig}
 abbrev particleStep : List ℕ → Float → Float → Float → ParticleAnswer
 particleStep s j dt t = P.stepped (particleAt s 0) j dt t
 
-unfoldable pub particleNumber : List ℕ → Float → Float → Float → ℕ
-particleNumber s j dt t = particleStep s j dt t .refusal
+unfoldable pub particleReturn : List ℕ → Float → Float → Float → ℕ
+particleReturn s j dt t = particleStep s j dt t .refusal
 
 unfoldable pub particleAfter : List ℕ → Float → Float → Float → List ℕ → List ℕ
-particleAfter s j dt t a = written (particleNumber s j dt t) (putParticle a 0 (particleStep s j dt t .particle)) a
+particleAfter s j dt t a = written (particleReturn s j dt t) (putParticle a 0 (particleStep s j dt t .particle)) a
 
 -- ---- a single-particle cell
 
-abbrev cellStep : List ℕ → Float → Float → Float → SpmStep
+abbrev cellStep : List ℕ → Float → Float → Float → SpmStepAnswer
 cellStep s i dt t = S.stepped (cellAt s) i dt t
 
-unfoldable pub cellNumber : List ℕ → Float → Float → Float → ℕ
-cellNumber s i dt t = cellStep s i dt t .refusal
+unfoldable pub cellReturn : List ℕ → Float → Float → Float → ℕ
+cellReturn s i dt t = cellStep s i dt t .refusal
 
 unfoldable pub cellAfter : List ℕ → Float → Float → Float → List ℕ → List ℕ
 cellAfter s i dt t a =
-    written (cellNumber s i dt t)
+    written (cellReturn s i dt t)
     (putReport (putCell a (cellStep s i dt t .solver)) (cellStep s i dt t .state) (cellStep s i dt t .«sub_steps»))
     a
 

@@ -8,12 +8,12 @@ use solver_report::SpmState;
 use solver_step::SpmParts;
 ghost use mathlib.Core.Path.{_≡_};
 ghost use lib.ListN.{length};
-ghost use Rattle.cell_calls.specs.Steps.{particleNumber, particleAfter, putStepped, cellNumber, cellAfter};
-ghost use Rattle.cell_calls.specs.Runs.{dischargeNumber, dischargeRows, dischargeAfter};
+ghost use Rattle.cell_calls.specs.Steps.{particleReturn, particleAfter, putStepped, cellReturn, cellAfter};
+ghost use Rattle.cell_calls.specs.Runs.{dischargeReturn, dischargeRows, dischargeAfter};
 
 // A step of a particle.
 pub fn particle_step(particle: &[u8], j_n: f64, dt: f64, temp_k: f64, answer: &mut [u8]) -> u64
-    ensures number { λ r. ⌜ r ≡ particleNumber (now (particle .entry)) «j_n» dt «temp_k» ⌝ }
+    ensures number { λ r. ⌜ r ≡ particleReturn (now (particle .entry)) «j_n» dt «temp_k» ⌝ }
     ensures written { λ _. ⌜ now (answer .exit) ≡ particleAfter (now (particle .entry)) «j_n» dt «temp_k» (now (answer .entry)) ⌝ }
 {
     let out = sheet_images::particle_at(particle, 0).step(j_n, dt, temp_k);
@@ -46,7 +46,7 @@ fn put_stepped<'a>(
 
 // A step of a single-particle cell, on its parts: the record of the cell is not built.
 pub fn cell_step(cell: &[u8], current_a: f64, dt: f64, temp_k: f64, answer: &mut [u8]) -> u64
-    ensures number { λ r. ⌜ r ≡ cellNumber (now (cell .entry)) «current_a» dt «temp_k» ⌝ }
+    ensures number { λ r. ⌜ r ≡ cellReturn (now (cell .entry)) «current_a» dt «temp_k» ⌝ }
     ensures written { λ _. ⌜ now (answer .exit) ≡ cellAfter (now (cell .entry)) «current_a» dt «temp_k» (now (answer .entry)) ⌝ }
 {
     let q = cell_images::parts_at(cell);
@@ -54,7 +54,7 @@ pub fn cell_step(cell: &[u8], current_a: f64, dt: f64, temp_k: f64, answer: &mut
     fill_64(cell, 17, &mut c_neg);
     let mut c_pos = [0.0; 64];
     fill_64(cell, 92, &mut c_pos);
-    let out = solver::step_lent(q, &mut c_neg, &mut c_pos, current_a, dt, temp_k);
+    let out = solver::step_in_place(q, &mut c_neg, &mut c_pos, current_a, dt, temp_k);
     let refusal = out.refusal;
     if refusal == 0 {
         let state = out.state;
@@ -81,7 +81,7 @@ pub fn simulate_discharge(
     rows: &mut [f64],
     answer: &mut [u8],
 ) -> u64
-    ensures number { λ r. ⌜ r ≡ dischargeNumber (now (cell .entry)) «current_a» dt «temp_k» «max_time_s» (length (now (rows .entry))) ⌝ }
+    ensures number { λ r. ⌜ r ≡ dischargeReturn (now (cell .entry)) «current_a» dt «temp_k» «max_time_s» (length (now (rows .entry))) ⌝ }
     ensures rows { λ _. ⌜ now (rows .exit) ≡ dischargeRows (now (cell .entry)) «current_a» dt «temp_k» «max_time_s» (now (rows .entry)) ⌝ }
     ensures written { λ _. ⌜ now (answer .exit) ≡ dischargeAfter (now (cell .entry)) «current_a» dt «temp_k» «max_time_s» (length (now (rows .entry))) (now (answer .entry)) ⌝ }
 {

@@ -5,7 +5,7 @@ use mathlib.Core.List.{List}
 use lib.Dec.{leb}
 use lib.ListN.{length, getD, set, replicate}
 use lib.Ieee.{Float, nan, binary64, ofBits, toBits}
-use Rattle.turns.specs.Turns.{firstBy}
+use Rattle.iterate.specs.Iterate.{firstBy}
 
 -- the number of the k + 1 bytes from place a on
 unfoldable pub bytesAt : ℕ → List ℕ → ℕ → ℕ

@@ -5,7 +5,7 @@ use lib.Dec.{eqb}
 use lib.Ieee.{Float, neg}
 use Rattle.binary64.specs.Operators.{_⊕_, _⊖_, _⊗_, _⊘_, f64}
 use Rattle.elementary.specs.Exp.{one, expOf}
-use Rattle.choice.specs.Choice.{clampOf}
+use Rattle.min_max.specs.MinMax.{clampOf}
 use Rattle.elementary.specs.Power.{powfOf, squareOf, cubeOf, fourthOf}
 
 -- 0.7222 + 0.1387 x + 0.029 x^0.5 - 0.0172 / x + 0.0019 / x^1.5 + 0.2808 exp(-0.9 / x) - 0.7984 exp(0.4465 x - 0.4108)

@@ -17,7 +17,7 @@ fn ocp_graphite(x: f64) -> f64
 fn ocp_lfp(x0: f64) -> f64
     ensures { λ r. ⌜ r ≡ lfpCurve x0 ⌝ }
 {
-    let x = choice::clamp(x0, 0.01, 0.99);
+    let x = min_max::clamp(x0, 0.01, 0.99);
     let backbone = 3.414 + 0.12 * elementary::square(x) - 0.17 * elementary::cube(x)
         + 0.05 * elementary::fourth(x);
     let low_soc = 0.20 / (1.0 + elementary::exp(80.0 * (x - 0.08)));
@@ -29,7 +29,7 @@ fn ocp_lfp(x0: f64) -> f64
 fn ocp_nmc(x0: f64) -> f64
     ensures { λ r. ⌜ r ≡ nmcCurve x0 ⌝ }
 {
-    let x = choice::clamp(x0, 0.1, 0.9);
+    let x = min_max::clamp(x0, 0.1, 0.9);
     4.20 - 1.50 * x + 1.20 * elementary::square(x) - 0.60 * elementary::cube(x)
         + 0.08 / (1.0 + elementary::exp(30.0 * (x - 0.85)))
 }
@@ -38,7 +38,7 @@ fn ocp_nmc(x0: f64) -> f64
 pub fn open_circuit(chemistry: u64, theta: f64) -> f64
     ensures { λ r. ⌜ r ≡ chemistryCurve chemistry theta ⌝ }
 {
-    let x = choice::clamp(theta, 0.01, 0.99);
+    let x = min_max::clamp(theta, 0.01, 0.99);
     match chemistry {
         1 => ocp_graphite(x),
         2 => ocp_lfp(x),
@@ -51,6 +51,6 @@ pub fn open_circuit(chemistry: u64, theta: f64) -> f64
 pub fn open_circuit_slope(chemistry: u64, theta: f64) -> f64
     ensures { λ r. ⌜ r ≡ chemistrySlope chemistry theta ⌝ }
 {
-    let t = choice::clamp(theta, 1e-4, 1.0 - 1e-4);
+    let t = min_max::clamp(theta, 1e-4, 1.0 - 1e-4);
     (open_circuit(chemistry, t + 1e-4) - open_circuit(chemistry, t - 1e-4)) / (2.0 * 1e-4)
 }

@@ -15,7 +15,7 @@ use Rattle.binary64.specs.Operators.{_⊘_, count, negative}
 use Rattle.binary64.specs.Opened.{div-is}
 use Rattle.binary64.specs.Order.{int-value, value-finite, value-sign, value-cross}
 use Rattle.binary64.specs.Decimal.{decimal}
-use Rattle.turns.specs.Turns.{allBelow, all-at}
+use Rattle.iterate.specs.Iterate.{allBelow, all-at}
 use Rattle.decimals.specs.Nearest.{tens}
 
 -- above 0, and the whole number n

@@ -10,10 +10,10 @@ use lib.Seq.{getD-set-other}
 use lib.Ieee.{Float, nan, ofBits}
 use borrow.Author.Tests.{ne-eqb}
 use Rattle.binary64.specs.Operators.{f64}
-use Rattle.choice.specs.Choice.{absOf}
-use Rattle.refusal.specs.Numbers.{none-met, passed}
+use Rattle.min_max.specs.MinMax.{absOf}
+use Rattle.refusal.specs.Numbers.{neither-refused, passed}
 use Rattle.refusal.specs.Ranges.{finite}
-use Rattle.turns.specs.Turns.{firstBy, first-above, all-at}
+use Rattle.iterate.specs.Iterate.{firstBy, first-above, all-at}
 use Rattle.matrix_rows.specs.Loops.{Tried, either, range-keeps, try-keeps}
 use Rattle.matrix_rows.specs.Places.{at, entry, zeros, firstFinite}
 use Rattle.matrix_rows.specs.Rows.{swapped}
@@ -82,7 +82,7 @@ refused a b n h = rw (ne-eqb _ _ h)
 -- a solution that is handed out has passed the test for 8
 solution-finite : (a b : List Float) (n : ℕ) → solved a b n .refusal ≡ 0 → T (firstFinite 32 (solution a b n .value))
 unfolding solved answer solutionRefusal
-solution-finite a b n e = passed _ _ (omega arith) (none-met _ _ (none-met _ _ (none-met _ _ e .1) .1) .1)
+solution-finite a b n e = passed _ _ (omega arith) (neither-refused _ _ (neither-refused _ _ (neither-refused _ _ e .1) .1) .1)
 
 answer-finite : (number : ℕ) (x : List Float) (i : ℕ) → i < 32 → (number ≡ 0 → T (firstFinite 32 x)) → T (finite (at (answer number x .x) i))
 unfolding answer firstFinite ofBits

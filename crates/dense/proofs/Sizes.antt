@@ -8,7 +8,7 @@ use lib.Dec.{eqb, leb, eqb→eq, leb→le}
 use lib.ListN.{length}
 use lib.Ieee.{Float}
 use lib.Ieee.Fits.{and-l, and-r}
-use Rattle.refusal.specs.Numbers.{none-met, passed}
+use Rattle.refusal.specs.Numbers.{neither-refused, passed}
 use Rattle.dense.specs.Solve.{inputRefusal}
 
 pub row-fits : (row n : ℕ) → row < n → row * n + n ≤ n * n
@@ -17,11 +17,11 @@ row-fits row n l = rw (← suc-mul) (mul-le-mul-right n l)
 pub square-fits : (n : ℕ) → n ≤ 32 → n * n ≤ 1024
 square-fits n l = mul-le-mul l l
 
-pub input-met : (a b : List Float) (n : ℕ) → inputRefusal a b n ≡ 0 → (n ≤ 32) × ((length a ≡ n * n) × (length b ≡ n))
+pub input-valid : (a b : List Float) (n : ℕ) → inputRefusal a b n ≡ 0 → (n ≤ 32) × ((length a ≡ n * n) × (length b ≡ n))
 unfolding inputRefusal
-input-met a b n e =
-    let order = none-met _ _ e in
-    let lengths = passed _ _ (omega arith) (none-met _ _ (order .1) .0) in (
+input-valid a b n e =
+    let order = neither-refused _ _ e in
+    let lengths = passed _ _ (omega arith) (neither-refused _ _ (order .1) .0) in (
       leb→le n 32 (passed _ _ (omega arith) (order .0)),
       (
         eqb→eq _ _ (and-l (eqb (length a) (n * n)) (eqb (length b) n) lengths),

@@ -6,8 +6,8 @@ use lib.Dec.{eqb, leb}
 use lib.ListN.{length, set}
 use lib.Ieee.{Float}
 use Rattle.refusal.specs.Numbers as Numbers
-use Rattle.refusal.specs.Numbers.{grid, sheet, notFinite, refusalUnless, firstMet}
-use Rattle.turns.specs.Turns.{firstBy}
+use Rattle.refusal.specs.Numbers.{grid, sheet, notFinite, refusalUnless, firstRefusal}
+use Rattle.iterate.specs.Iterate.{firstBy}
 use Rattle.matrix_rows.specs.Loops.{forRange, Tried}
 use Rattle.matrix_rows.specs.Places.{at, place, zeros, firstFinite, allFinite}
 use Rattle.matrix_columns.specs.Columns.{System, system}
@@ -42,15 +42,15 @@ solution a b n = substituted (reduced a b n .value .matrix) n (reduced a b n .va
 -- of what is handed in: the order, the lengths, the entries of both sides
 unfoldable pub inputRefusal : List Float → List Float → ℕ → ℕ
 inputRefusal a b n =
-    firstMet (refusalUnless (leb n 32) grid)
-    (firstMet (refusalUnless (eqb (length a) (n * n) && eqb (length b) n) Numbers.badLength)
+    firstRefusal (refusalUnless (leb n 32) grid)
+    (firstRefusal (refusalUnless (eqb (length a) (n * n) && eqb (length b) n) Numbers.badLength)
     (refusalUnless (allFinite a && allFinite b) sheet))
 
 -- of the solution: 9 says that there is none, 8 looks at one that there is
 unfoldable pub solutionRefusal : List Float → List Float → ℕ → ℕ
 solutionRefusal a b n =
-    firstMet (reduced a b n .refusal)
-    (firstMet (solution a b n .refusal)
+    firstRefusal (reduced a b n .refusal)
+    (firstRefusal (solution a b n .refusal)
     (refusalUnless (firstFinite 32 (solution a b n .value)) notFinite))
 
 -- ---- the answer
@@ -60,4 +60,4 @@ unfoldable pub answer : ℕ → List Float → Solved
 answer number x = record { refusal = number; x = cond (eqb number 0) x (zeros 32) }
 
 unfoldable pub solved : List Float → List Float → ℕ → Solved
-solved a b n = answer (firstMet (inputRefusal a b n) (solutionRefusal a b n)) (solution a b n .value)
+solved a b n = answer (firstRefusal (inputRefusal a b n) (solutionRefusal a b n)) (solution a b n .value)

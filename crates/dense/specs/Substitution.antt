@@ -5,7 +5,7 @@ use mathlib.Core.List.{List}
 use lib.ListN.{set}
 use lib.Ieee.{Float}
 use Rattle.binary64.specs.Operators.{_⊖_, _⊗_, _⊘_}
-use Rattle.choice.specs.Choice.{absOf}
+use Rattle.min_max.specs.MinMax.{absOf}
 use Rattle.refusal.specs.Numbers.{singular}
 use Rattle.matrix_rows.specs.Loops.{forRange, Tried, outcome, tryRange}
 use Rattle.matrix_rows.specs.Places.{at, entry}

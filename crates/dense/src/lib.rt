@@ -6,7 +6,7 @@ use dense_elimination::eliminate;
 ghost use mathlib.Core.Path.{_≡_};
 ghost use Prim.Native.Nat.{_+_, _*_, _<_, _≤_};
 ghost use lib.ListN.{length};
-ghost use Rattle.turns.specs.Turns.{firstBy};
+ghost use Rattle.iterate.specs.Iterate.{firstBy};
 ghost use Rattle.matrix_rows.specs.Loops.{forRange, outcome};
 ghost use Rattle.matrix_rows.specs.Places.{at, firstFinite, allFinite};
 ghost use Rattle.dense.specs.Substitution.{takenOut, substituted};
@@ -36,7 +36,7 @@ fn substitute(a: &[f64; 1024], x: &mut [f64; 32], n: usize) -> u64
     for k in 0..n {
         let col = n - 1 - k;
         let pivot = a[col * 32 + col];
-        if choice::abs(pivot) < 1e-14 {
+        if min_max::abs(pivot) < 1e-14 {
             return refusal::SINGULAR;
         }
         x[col] = x[col] / pivot;
@@ -123,7 +123,7 @@ fn solve_fit(a: &[f64], b: &[f64], n: usize) -> Solved
     }
     let missing = substitute(&m, &mut x, n);
     let finite = refusal::refusal_unless(solution_finite(&x), refusal::NOT_FINITE);
-    answer(refusal::first_met(missing, finite), x)
+    answer(refusal::first_refusal(missing, finite), x)
 }
 
 // The refusal of what is handed in, in the table's order; 0 where it is none. No entry is read before the lengths are right.

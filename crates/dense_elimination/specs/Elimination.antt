@@ -4,7 +4,7 @@ use mathlib.Core.Bool.{Bool, cond}
 use mathlib.Core.List.{List}
 use lib.Ieee.{Float, lt}
 use Rattle.binary64.specs.Operators.{f64}
-use Rattle.choice.specs.Choice.{absOf}
+use Rattle.min_max.specs.MinMax.{absOf}
 use Rattle.refusal.specs.Numbers.{singular}
 use Rattle.matrix_rows.specs.Loops.{forRange, Tried, outcome, tryRange}
 use Rattle.matrix_rows.specs.Places.{entry}

@@ -20,7 +20,7 @@ fn candidate(a: &[f64; 1024], row: usize, col: usize) -> Pivot
 {
     Pivot {
         row,
-        val: choice::abs(a[row * 32 + col]),
+        val: min_max::abs(a[row * 32 + col]),
     }
 }
 

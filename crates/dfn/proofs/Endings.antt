@@ -9,7 +9,7 @@ use lib.Dec.{eqb}
 use lib.Ieee as F
 use lib.Ieee.{Float}
 use Rattle.binary64.specs.Operators.{_⊕_}
-use Rattle.refusal.specs.Numbers.{firstMet, refusalUnless, notFinite, none-met}
+use Rattle.refusal.specs.Numbers.{firstRefusal, refusalUnless, notFinite, neither-refused}
 use Rattle.refusal.specs.Ranges.{finite}
 use Rattle.dfn_parameters.specs.Sides.{anodeOf, cathodeOf}
 use Rattle.dfn_parameters.specs.declared.DfnParams.{DfnParams}
@@ -18,21 +18,21 @@ use Rattle.dfn_parameters.specs.declared.Side.{Side}
 use Rattle.dfn_electrolyte.specs.Electrolyte.{electrolyteAfter}
 use Rattle.dfn_places.specs.Places.{allFinite}
 use Rattle.dfn_solid.specs.Solid.{solidUpdate}
-use Rattle.dfn_solid.specs.declared.Grain.{Grain}
+use Rattle.dfn_solid.specs.declared.ParticleParams.{ParticleParams}
 use Rattle.dfn_solid.specs.declared.SolidUpdate.{SolidUpdate}
-use Rattle.dfn.specs.Checks.{Met, usedNeg, usedPos, usedSalt, partsRefusal, cellRefusal, loadRefusal, stepRefusal, cell-met}
-use Rattle.dfn.specs.Parts.{cellOf, answerOf, Told, StepOf}
-use Rattle.dfn.specs.Step.{grainOf, Moved, movedBy, reportBy, reportOf, cellWith, partsFinite, outcomeRefusal, allNumbers, noReport, refusedWith, answered, followed, advanced, stepped}
+use Rattle.dfn.specs.Checks.{Valid, usedNeg, usedPos, usedElectrolyte, partsRefusal, cellRefusal, loadRefusal, stepRefusal, cell-valid}
+use Rattle.dfn.specs.Parts.{cellOf, answerOf, Agrees, StepOf}
+use Rattle.dfn.specs.Step.{particleParams, Moved, movedBy, reportBy, reportOf, cellWith, partsFinite, outcomeRefusal, allNumbers, noReport, refusedWith, answered, followed, advanced, stepped}
 use Rattle.dfn.specs.declared.DfnSolver.{DfnSolver}
 use Rattle.dfn.specs.declared.DfnStep.{DfnStep}
-use Rattle.dfn.specs.declared.DfnAnswer.{DfnAnswer}
+use Rattle.dfn.specs.declared.DfnStepAnswer.{DfnStepAnswer}
 
 -- what moved, by its parts
 abbrev movedOf : List Float → List Float → Float → List Float → Float → Moved
-movedOf salt neg thetaNeg pos thetaPos = record { «c_e» = salt; neg = record { c = neg; theta = thetaNeg }; pos = record { c = pos; theta = thetaPos } }
+movedOf cE neg thetaNeg pos thetaPos = record { «c_e» = cE; neg = record { c = neg; theta = thetaNeg }; pos = record { c = pos; theta = thetaPos } }
 
 module _ (d : DfnSolver) (current dt : Float) where
-  first-is : (a b k : ℕ) → a ≡ cellRefusal d → b ≡ loadRefusal current dt → k ≡ firstMet a b → k ≡ stepRefusal d current dt
+  first-is : (a b k : ℕ) → a ≡ cellRefusal d → b ≡ loadRefusal current dt → k ≡ firstRefusal a b → k ≡ stepRefusal d current dt
   unfolding stepRefusal
   first-is a b k ea eb ek = rw (ek, ea, eb)
 
@@ -52,8 +52,8 @@ module _ (d : DfnSolver) (current dt : Float) where
     not-finite ek z em er eb t = rw (← ek, eq-eqb _ _ z, ← em, ← er, ← eb, t)
 
 -- ---- the number of an outcome
-first-of-finite : (a b : Bool) → firstMet (refusalUnless a notFinite) (refusalUnless b notFinite) ≡ refusalUnless (a && b) notFinite
-unfolding firstMet refusalUnless
+first-of-finite : (a b : Bool) → firstRefusal (refusalUnless a notFinite) (refusalUnless b notFinite) ≡ refusalUnless (a && b) notFinite
+unfolding firstRefusal refusalUnless
 first-of-finite true b = refl
 first-of-finite false b = refl
 
@@ -66,8 +66,8 @@ and-false true = refl
 and-false false = refl
 
 -- the stoichiometries with their electrodes, or among the report's numbers
-in-order : (neg thetaNeg pos thetaPos salt v i t d : Bool)
-    → (neg && thetaNeg && (pos && thetaPos) && (salt && v && i && t && d)) ≡ (neg && pos && salt && v && i && t && thetaNeg && thetaPos && d)
+in-order : (neg thetaNeg pos thetaPos cE v i t d : Bool)
+    → (neg && thetaNeg && (pos && thetaPos) && (cE && v && i && t && d)) ≡ (neg && pos && cE && v && i && t && thetaNeg && thetaPos && d)
 in-order false m b q s v i t d = refl
 in-order true true true true s v i t d = rw (and-true (s && v && i && t), and-true (s && v && i && t)) refl
 in-order true true true false s v i t d = rw (and-false (s && v && i && t && true)) refl
@@ -75,17 +75,17 @@ in-order true true false q s v i t d = refl
 in-order true false true q s v i t d = rw (and-false (s && v && i && t)) refl
 in-order true false false q s v i t d = refl
 
-outcome-number : (kn kp : ℕ) (neg thetaNeg pos thetaPos salt v i t d : Bool)
+outcome-number : (kn kp : ℕ) (neg thetaNeg pos thetaPos cE v i t d : Bool)
     → kn ≡ refusalUnless (neg && thetaNeg) notFinite → kp ≡ refusalUnless (pos && thetaPos) notFinite
-    → firstMet (firstMet kn kp) (refusalUnless (salt && v && i && t && d) notFinite)
-    ≡ refusalUnless (neg && pos && salt && v && i && t && thetaNeg && thetaPos && d) notFinite
-outcome-number kn kp neg thetaNeg pos thetaPos salt v i t d e f =
+    → firstRefusal (firstRefusal kn kp) (refusalUnless (cE && v && i && t && d) notFinite)
+    ≡ refusalUnless (neg && pos && cE && v && i && t && thetaNeg && thetaPos && d) notFinite
+outcome-number kn kp neg thetaNeg pos thetaPos cE v i t d e f =
     rw (
       e,
       f,
       first-of-finite (neg && thetaNeg) (pos && thetaPos),
-      first-of-finite (neg && thetaNeg && (pos && thetaPos)) (salt && v && i && t && d),
-      in-order neg thetaNeg pos thetaPos salt v i t d,
+      first-of-finite (neg && thetaNeg && (pos && thetaPos)) (cE && v && i && t && d),
+      in-order neg thetaNeg pos thetaPos cE v i t d,
     )
 
 finite-if-none : (ok : Bool) → refusalUnless ok notFinite ≡ 0 → ok ≡ true
@@ -93,77 +93,77 @@ unfolding refusalUnless
 finite-if-none true h = refl
 finite-if-none false h = absurd (omega (arith, h))
 
-not-finite-if-met : (ok : Bool) → (refusalUnless ok notFinite ≡ 0 → ⊥) → (ok ≡ false) × (refusalUnless ok notFinite ≡ notFinite)
+not-finite-if-refused : (ok : Bool) → (refusalUnless ok notFinite ≡ 0 → ⊥) → (ok ≡ false) × (refusalUnless ok notFinite ≡ notFinite)
 unfolding refusalUnless
-not-finite-if-met true h = absurd (h refl)
-not-finite-if-met false h = (refl, refl)
+not-finite-if-refused true h = absurd (h refl)
+not-finite-if-refused false h = (refl, refl)
 
-number-of : (v : Grain) (c : List Float) (m : ℕ) (s : SolidUpdate) → s ≡ solidUpdate v c m
+number-of : (v : ParticleParams) (c : List Float) (m : ℕ) (s : SolidUpdate) → s ≡ solidUpdate v c m
     → s .refusal ≡ refusalUnless (allFinite (s .«c_s») (m * v .n) && finite (s .theta)) notFinite
 unfolding solidUpdate
 number-of v c m s e = rw e
 
-told-by : (a s : DfnAnswer) → a ≡ s
-    → Told s (record { refusal = a .refusal; report = a .report }) (a .cell .«c_s_neg») (a .cell .«c_s_pos») (a .cell .«c_e»)
-told-by a s e = rw e (refl, (refl, (refl, (refl, refl))))
+agrees-by : (a s : DfnStepAnswer) → a ≡ s
+    → Agrees s (record { refusal = a .refusal; report = a .report }) (a .cell .«c_s_neg») (a .cell .«c_s_pos») (a .cell .«c_e»)
+agrees-by a s e = rw e (refl, (refl, (refl, (refl, refl))))
 
-module _ (p : DfnParams) (g : DfnConfig) (t : Float) (neg pos salt : List Float) (current dt : Float) where
+module _ (p : DfnParams) (g : DfnConfig) (t : Float) (neg pos cE : List Float) (current dt : Float) where
   -- a and b are what the cell and the load met, k the first of them
-  module _ (a b k : ℕ) (ea : a ≡ partsRefusal p g neg pos salt t) (ek : k ≡ firstMet a b) where
-    pub met : k ≡ 0 → Met (cellOf p g t neg pos salt t t t t)
+  module _ (a b k : ℕ) (ea : a ≡ partsRefusal p g neg pos cE t) (ek : k ≡ firstRefusal a b) where
+    pub valid : k ≡ 0 → Valid (cellOf p g t neg pos cE t t t t)
     unfolding cellRefusal
-    met z = cell-met (cellOf p g t neg pos salt t t t t) (sym ea ∙ none-met a b (sym ek ∙ z) .0)
+    valid z = cell-valid (cellOf p g t neg pos cE t t t t) (sym ea ∙ neither-refused a b (sym ek ∙ z) .0)
 
-    first-met : b ≡ loadRefusal current dt → (v i x y : Float) → k ≡ stepRefusal (cellOf p g t neg pos salt v i x y) current dt
+    first-refusal : b ≡ loadRefusal current dt → (v i x y : Float) → k ≡ stepRefusal (cellOf p g t neg pos cE v i x y) current dt
     unfolding cellRefusal
-    first-met eb v i x y = first-is (cellOf p g t neg pos salt v i x y) current dt a b k ea eb ek
+    first-refusal eb v i x y = first-is (cellOf p g t neg pos cE v i x y) current dt a b k ea eb ek
 
     pub refused-step : b ≡ loadRefusal current dt → (k ≡ 0 → ⊥) → (r : DfnStep) → r ≡ noReport
-        → StepOf p g t neg pos salt current dt (record { refusal = k; report = r }) neg pos salt
+        → StepOf p g t neg pos cE current dt (record { refusal = k; report = r }) neg pos cE
     refused-step eb h r er v i x y =
-        rw er (told-by _ _ (refused (cellOf p g t neg pos salt v i x y) current dt k (first-met eb v i x y) (ne-eqb k 0 h)))
+        rw er (agrees-by _ _ (refused (cellOf p g t neg pos cE v i x y) current dt k (first-refusal eb v i x y) (ne-eqb k 0 h)))
 
     -- by the grains of both electrodes, what moved, the report and the number that they meet
-    module _ (eb : b ≡ loadRefusal current dt) (z : k ≡ 0) (u w : Side) (ga gc : Grain) (sn sp : SolidUpdate) (salt' : List Float)
+    module _ (eb : b ≡ loadRefusal current dt) (z : k ≡ 0) (u w : Side) (ga gc : ParticleParams) (sn sp : SolidUpdate) (cE' : List Float)
         (eu : u ≡ anodeOf p) (ew : w ≡ cathodeOf p)
-        (ega : ga ≡ grainOf p u (g .«n_r») (F.neg current) dt) (egc : gc ≡ grainOf p w (g .«n_r») current dt)
+        (ega : ga ≡ particleParams p u (g .«n_r») (F.neg current) dt) (egc : gc ≡ particleParams p w (g .«n_r») current dt)
         (esn : sn ≡ solidUpdate ga neg (g .«n_x_neg»)) (esp : sp ≡ solidUpdate gc pos (g .«n_x_pos»))
-        (es : salt' ≡ electrolyteAfter p (g .«n_x_neg») (g .«n_x_pos») salt current dt)
-        (r : DfnStep) (er : r ≡ reportBy p g salt salt' (sn .theta) (sp .theta) (t ⊕ dt) current)
-        (n : ℕ) (en : n ≡ outcomeRefusal g (sn .refusal) (sp .refusal) salt' r) where
+        (es : cE' ≡ electrolyteAfter p (g .«n_x_neg») (g .«n_x_pos») cE current dt)
+        (r : DfnStep) (er : r ≡ reportBy p g cE cE' (sn .theta) (sp .theta) (t ⊕ dt) current)
+        (n : ℕ) (en : n ≡ outcomeRefusal g (sn .refusal) (sp .refusal) cE' r) where
       abbrev moved : Moved
-      moved = movedOf salt' (sn .«c_s») (sn .theta) (sp .«c_s») (sp .theta)
+      moved = movedOf cE' (sn .«c_s») (sn .theta) (sp .«c_s») (sp .theta)
 
-      moved-is : (v i x y : Float) → moved ≡ movedBy (cellOf p g t neg pos salt v i x y) current dt
+      moved-is : (v i x y : Float) → moved ≡ movedBy (cellOf p g t neg pos cE v i x y) current dt
       unfolding movedBy solidUpdate
       moved-is v i x y = rw (es, esn, esp, ega, eu, egc, ew)
 
       abbrev finites : Bool
-      finites = partsFinite g (sn .«c_s») (sp .«c_s») salt' r
+      finites = partsFinite g (sn .«c_s») (sp .«c_s») cE' r
 
       neg-number : sn .refusal ≡ refusalUnless (allFinite (sn .«c_s») (usedNeg g) && finite (r .«theta_neg»)) notFinite
-      neg-number = rw (er, ← ap (λ (v : Grain). v .n) ega) (number-of ga neg (g .«n_x_neg») sn esn)
+      neg-number = rw (er, ← ap (λ (v : ParticleParams). v .n) ega) (number-of ga neg (g .«n_x_neg») sn esn)
 
       pos-number : sp .refusal ≡ refusalUnless (allFinite (sp .«c_s») (usedPos g) && finite (r .«theta_pos»)) notFinite
-      pos-number = rw (er, ← ap (λ (v : Grain). v .n) egc) (number-of gc pos (g .«n_x_pos») sp esp)
+      pos-number = rw (er, ← ap (λ (v : ParticleParams). v .n) egc) (number-of gc pos (g .«n_x_pos») sp esp)
 
       outcome : n ≡ refusalUnless finites notFinite
       outcome =
           en
           ∙ outcome-number (sn .refusal) (sp .refusal) (allFinite (sn .«c_s») (usedNeg g)) (finite (r .«theta_neg»)) (allFinite (sp .«c_s») (usedPos g))
-          (finite (r .«theta_pos»)) (allFinite salt' (usedSalt g)) (finite (r .voltage)) (finite (r .current)) (finite (r .«time_s»))
+          (finite (r .«theta_pos»)) (allFinite cE' (usedElectrolyte g)) (finite (r .voltage)) (finite (r .current)) (finite (r .«time_s»))
           (finite (r .«delta_c_e_max»)) neg-number pos-number
 
-      pub made-step : n ≡ 0 → StepOf p g t neg pos salt current dt (record { refusal = 0; report = r }) (sn .«c_s») (sp .«c_s») salt'
+      pub made-step : n ≡ 0 → StepOf p g t neg pos cE current dt (record { refusal = 0; report = r }) (sn .«c_s») (sp .«c_s») cE'
       unfolding reportOf cellWith allNumbers
       made-step h v i x y =
-          told-by _ _ (made (cellOf p g t neg pos salt v i x y) current dt k moved r finites (first-met eb v i x y) z (moved-is v i x y) er refl
+          agrees-by _ _ (made (cellOf p g t neg pos cE v i x y) current dt k moved r finites (first-refusal eb v i x y) z (moved-is v i x y) er refl
           (finite-if-none finites (sym outcome ∙ h)))
 
       pub not-finite-step : (n ≡ 0 → ⊥) → (o : DfnStep) → o ≡ noReport
-          → StepOf p g t neg pos salt current dt (record { refusal = n; report = o }) neg pos salt
+          → StepOf p g t neg pos cE current dt (record { refusal = n; report = o }) neg pos cE
       unfolding reportOf cellWith allNumbers
       not-finite-step h o eo v i x y =
-          let e = not-finite-if-met finites (λ q. h (outcome ∙ q)) in
+          let e = not-finite-if-refused finites (λ q. h (outcome ∙ q)) in
           rw (eo, outcome ∙ e .1)
-          (told-by _ _ (not-finite (cellOf p g t neg pos salt v i x y) current dt k moved r finites (first-met eb v i x y) z (moved-is v i x y) er refl (e .0)))
+          (agrees-by _ _ (not-finite (cellOf p g t neg pos cE v i x y) current dt k moved r finites (first-refusal eb v i x y) z (moved-is v i x y) er refl (e .0)))

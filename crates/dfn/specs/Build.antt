@@ -4,18 +4,18 @@ use mathlib.Core.Bool.{cond, _&&_}
 use lib.Dec.{eqb}
 use lib.ListN.{replicate}
 use Rattle.binary64.specs.Operators.{_⊗_, f64}
-use Rattle.refusal.specs.Numbers.{firstMet, refusalUnless, grid, sheet}
+use Rattle.refusal.specs.Numbers.{firstRefusal, refusalUnless, grid, sheet}
 use Rattle.dfn_parameters.specs.Ranges.{parametersFit, gridFits, limitsFit}
 use Rattle.dfn_parameters.specs.declared.DfnParams.{DfnParams}
 use Rattle.dfn_parameters.specs.declared.DfnConfig.{DfnConfig}
 use Rattle.dfn_places.specs.Places.{filled}
-use Rattle.dfn.specs.Checks.{usedNeg, usedPos, usedSalt}
+use Rattle.dfn.specs.Checks.{usedNeg, usedPos, usedElectrolyte}
 use Rattle.dfn.specs.declared.DfnSolver.{DfnSolver}
-use Rattle.dfn.specs.declared.DfnBuild.{DfnBuild}
+use Rattle.dfn.specs.declared.DfnBuildAnswer.{DfnBuildAnswer}
 
 -- a build checks 1 and 2
 unfoldable pub newRefusal : DfnParams → DfnConfig → ℕ
-newRefusal p g = firstMet (refusalUnless (gridFits g) grid) (refusalUnless (parametersFit p && limitsFit g) sheet)
+newRefusal p g = firstRefusal (refusalUnless (gridFits g) grid) (refusalUnless (parametersFit p && limitsFit g) sheet)
 
 -- the particles at theta_0 * c_max, the salt at c_e0, 3.8 V, at rest
 unfoldable pub fresh : DfnParams → DfnConfig → DfnSolver
@@ -24,7 +24,7 @@ fresh p g = record {
   config = g;
   «c_s_neg» = filled 512 (p .«theta_neg_0» ⊗ p .«c_s_neg_max») (usedNeg g);
   «c_s_pos» = filled 512 (p .«theta_pos_0» ⊗ p .«c_s_pos_max») (usedPos g);
-  «c_e» = filled 33 (p .«c_e0») (usedSalt g);
+  «c_e» = filled 33 (p .«c_e0») (usedElectrolyte g);
   «time_s» = f64 0;
   voltage = f64 0x400e_6666_6666_6666;
   current = f64 0;
@@ -83,6 +83,6 @@ noCell = record {
   «theta_pos_surf» = f64 0;
 }
 
-unfoldable pub made : DfnParams → DfnConfig → DfnBuild
+unfoldable pub made : DfnParams → DfnConfig → DfnBuildAnswer
 made p g =
     cond (eqb (newRefusal p g) 0) (record { refusal = 0; cell = fresh p g }) (record { refusal = newRefusal p g; cell = noCell })

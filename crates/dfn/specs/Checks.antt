@@ -10,9 +10,9 @@ use lib.ListN.{getD}
 use lib.Ieee.{Float, nan}
 use lib.Ieee.Fits.{and-l, and-r}
 use Rattle.binary64.specs.Operators.{f64}
-use Rattle.refusal.specs.Numbers.{firstMet, refusalUnless, grid, sheet, load, interval, none-met, passed}
+use Rattle.refusal.specs.Numbers.{firstRefusal, refusalUnless, grid, sheet, load, interval, neither-refused, passed}
 use Rattle.refusal.specs.Ranges.{loadFits, intervalFits, clockFits}
-use Rattle.turns.specs.Turns.{allBelow}
+use Rattle.iterate.specs.Iterate.{allBelow}
 use Rattle.dfn_parameters.specs.Ranges.{numbersFit, coefficientFits, coefficientsFit, parametersFit, gridFits, limitsFit}
 use Rattle.dfn_parameters.specs.declared.DfnParams.{DfnParams}
 use Rattle.dfn_parameters.specs.declared.DfnConfig.{DfnConfig}
@@ -26,24 +26,24 @@ usedNeg g = g .«n_x_neg» * g .«n_r»
 abbrev pub usedPos : DfnConfig → ℕ
 usedPos g = g .«n_x_pos» * g .«n_r»
 
-abbrev pub usedSalt : DfnConfig → ℕ
-usedSalt g = g .«n_x_neg» + 1 + g .«n_x_pos»
+abbrev pub usedElectrolyte : DfnConfig → ℕ
+usedElectrolyte g = g .«n_x_neg» + 1 + g .«n_x_pos»
 
 -- parameters, grid but for its counts, the particles of both electrodes, the salt and the clock: all but what a step only overwrites
 abbrev pub partsFit : DfnParams → DfnConfig → List Float → List Float → List Float → Float → Bool
-partsFit p g neg pos salt t =
+partsFit p g neg pos cE t =
     parametersFit p
     && limitsFit g
     && solidFits neg (usedNeg g) (p .«c_s_neg_max»)
     && solidFits pos (usedPos g) (p .«c_s_pos_max»)
-    && electrolyteFits salt (usedSalt g)
+    && electrolyteFits cE (usedElectrolyte g)
     && clockFits t
 
 abbrev pub fieldsFit : DfnSolver → Bool
 fieldsFit d = partsFit (d .params) (d .config) (d .«c_s_neg») (d .«c_s_pos») (d .«c_e») (d .«time_s»)
 
 abbrev pub partsRefusal : DfnParams → DfnConfig → List Float → List Float → List Float → Float → ℕ
-partsRefusal p g neg pos salt t = firstMet (refusalUnless (gridFits g) grid) (refusalUnless (partsFit p g neg pos salt t) sheet)
+partsRefusal p g neg pos cE t = firstRefusal (refusalUnless (gridFits g) grid) (refusalUnless (partsFit p g neg pos cE t) sheet)
 
 unfoldable pub cellRefusal : DfnSolver → ℕ
 cellRefusal d = partsRefusal (d .params) (d .config) (d .«c_s_neg») (d .«c_s_pos») (d .«c_e») (d .«time_s»)
@@ -51,10 +51,10 @@ cellRefusal d = partsRefusal (d .params) (d .config) (d .«c_s_neg») (d .«c_s_
 -- a current of at most 1e6 A
 abbrev pub loadRefusal : Float → Float → ℕ
 loadRefusal current dt =
-    firstMet (refusalUnless (loadFits current (f64 0x412e_8480_0000_0000)) load) (refusalUnless (intervalFits dt) interval)
+    firstRefusal (refusalUnless (loadFits current (f64 0x412e_8480_0000_0000)) load) (refusalUnless (intervalFits dt) interval)
 
 unfoldable pub stepRefusal : DfnSolver → Float → Float → ℕ
-stepRefusal d current dt = firstMet (cellRefusal d) (loadRefusal current dt)
+stepRefusal d current dt = firstRefusal (cellRefusal d) (loadRefusal current dt)
 
 -- ---- what a cell that nothing refuses has met
 pub record Grid (g : DfnConfig) : Type 0 where
@@ -66,13 +66,13 @@ pub record Grid (g : DfnConfig) : Type 0 where
   pub most-r : g .«n_r» ≤ 32
 
 -- as the step's parts need it
-pub record Met (d : DfnSolver) : Type 0 where
+pub record Valid (d : DfnSolver) : Type 0 where
   pub nodes : Grid (d .config)
   pub coeffs-neg : d .params .«ocv_neg_count» ≤ 16
   pub coeffs-pos : d .params .«ocv_pos_count» ≤ 16
 
-pub grid-met : (g : DfnConfig) → T (gridFits g) → Grid g
-grid-met g t =
+pub grid-valid : (g : DfnConfig) → T (gridFits g) → Grid g
+grid-valid g t =
     let a1 = leb 1 (g .«n_x_neg») in
     let a2 = leb (g .«n_x_neg») 16 in
     let a3 = leb 1 (g .«n_x_pos») in
@@ -94,15 +94,15 @@ grid-met g t =
 
 -- as a program's test leaves it
 pub grid-of : (g : DfnConfig) (b : Bool) → b ≡ gridFits g → not b ≡ false → Grid g
-grid-of g b e h = let q : gridFits g ≡ true = sym e ∙ not-false b h in grid-met g (rw q tt)
+grid-of g b e h = let q : gridFits g ≡ true = sym e ∙ not-false b h in grid-valid g (rw q tt)
 
 pub cell-grid : (d : DfnSolver) → cellRefusal d ≡ 0 → Grid (d .config)
 unfolding cellRefusal
-cell-grid d h = grid-met (d .config) (passed (gridFits (d .config)) grid (zero-lt-suc 0) (none-met _ _ h .0))
+cell-grid d h = grid-valid (d .config) (passed (gridFits (d .config)) grid (zero-lt-suc 0) (neither-refused _ _ h .0))
 
 pub cell-fields : (d : DfnSolver) → cellRefusal d ≡ 0 → T (fieldsFit d)
 unfolding cellRefusal
-cell-fields d h = passed (fieldsFit d) sheet (zero-lt-suc 1) (none-met _ _ h .1)
+cell-fields d h = passed (fieldsFit d) sheet (zero-lt-suc 1) (neither-refused _ _ h .1)
 
 -- the fields one by one
 pub record Fields (d : DfnSolver) : Type 0 where
@@ -110,16 +110,16 @@ pub record Fields (d : DfnSolver) : Type 0 where
   pub limits : T (limitsFit (d .config))
   pub neg : T (solidFits (d .«c_s_neg») (usedNeg (d .config)) (d .params .«c_s_neg_max»))
   pub pos : T (solidFits (d .«c_s_pos») (usedPos (d .config)) (d .params .«c_s_pos_max»))
-  pub salt : T (electrolyteFits (d .«c_e») (usedSalt (d .config)))
+  pub cE : T (electrolyteFits (d .«c_e») (usedElectrolyte (d .config)))
   pub clock : T (clockFits (d .«time_s»))
 
-pub fields-met : (d : DfnSolver) → T (fieldsFit d) → Fields d
-fields-met d t =
+pub fields-valid : (d : DfnSolver) → T (fieldsFit d) → Fields d
+fields-valid d t =
     let b1 = parametersFit (d .params) in
     let b2 = limitsFit (d .config) in
     let b3 = solidFits (d .«c_s_neg») (usedNeg (d .config)) (d .params .«c_s_neg_max») in
     let b4 = solidFits (d .«c_s_pos») (usedPos (d .config)) (d .params .«c_s_pos_max») in
-    let b5 = electrolyteFits (d .«c_e») (usedSalt (d .config)) in
+    let b5 = electrolyteFits (d .«c_e») (usedElectrolyte (d .config)) in
     let b6 = clockFits (d .«time_s») in
     let t5 = and-l (b1 && b2 && b3 && b4 && b5) b6 t in
     let t4 = and-l (b1 && b2 && b3 && b4) b5 t5 in
@@ -130,7 +130,7 @@ fields-met d t =
       limits = and-r b1 b2 t2;
       neg = and-r (b1 && b2) b3 t3;
       pos = and-r (b1 && b2 && b3) b4 t4;
-      salt = and-r (b1 && b2 && b3 && b4) b5 t5;
+      cE = and-r (b1 && b2 && b3 && b4) b5 t5;
       clock = and-r (b1 && b2 && b3 && b4 && b5) b6 t;
     }
 
@@ -139,18 +139,18 @@ few : (c : List Float) (n : ℕ) → T (coefficientsFit c n) → n ≤ 16
 unfolding coefficientsFit
 few c n t = leb→le n 16 (and-r (allBelow 16 (λ i. coefficientFits (getD c i nan) (ltb i n))) (leb n 16) t)
 
-pub coefficients-met : (p : DfnParams) → T (parametersFit p) → (p .«ocv_neg_count» ≤ 16) × (p .«ocv_pos_count» ≤ 16)
+pub coefficients-valid : (p : DfnParams) → T (parametersFit p) → (p .«ocv_neg_count» ≤ 16) × (p .«ocv_pos_count» ≤ 16)
 unfolding parametersFit
-coefficients-met p t =
+coefficients-valid p t =
     let neg = coefficientsFit (p .«ocv_neg_coeffs») (p .«ocv_neg_count») in
     let pos = coefficientsFit (p .«ocv_pos_coeffs») (p .«ocv_pos_count») in
     (few (p .«ocv_neg_coeffs») (p .«ocv_neg_count») (and-r (numbersFit p) neg (and-l (numbersFit p && neg) pos t)), few (p .«ocv_pos_coeffs») (p .«ocv_pos_count») (and-r (numbersFit p && neg) pos t))
 
-pub cell-met : (d : DfnSolver) → cellRefusal d ≡ 0 → Met d
-cell-met d h =
-    let n = coefficients-met (d .params) (fields-met d (cell-fields d h) .parameters) in
+pub cell-valid : (d : DfnSolver) → cellRefusal d ≡ 0 → Valid d
+cell-valid d h =
+    let n = coefficients-valid (d .params) (fields-valid d (cell-fields d h) .parameters) in
     record { nodes = cell-grid d h; coeffs-neg = n .0; coeffs-pos = n .1 }
 
 pub step-cell : (d : DfnSolver) (current dt : Float) → stepRefusal d current dt ≡ 0 → cellRefusal d ≡ 0
 unfolding stepRefusal
-step-cell d current dt h = none-met _ _ h .0
+step-cell d current dt h = neither-refused _ _ h .0

@@ -15,16 +15,16 @@ use Rattle.dfn.specs.Step.{Moved, movedBy, reportOf, cellWith, allNumber
 use Rattle.dfn.specs.declared.DfnSolver.{DfnSolver}
 use Rattle.dfn.specs.declared.DfnStep.{DfnStep}
 use Rattle.dfn.specs.declared.DfnReported.{DfnReported}
-use Rattle.dfn.specs.declared.DfnAnswer.{DfnAnswer}
+use Rattle.dfn.specs.declared.DfnStepAnswer.{DfnStepAnswer}
 
 -- a cell by its parts; the last four are what a step only overwrites
 abbrev pub cellOf : DfnParams → DfnConfig → Float → List Float → List Float → List Float → Float → Float → Float → Float → DfnSolver
-cellOf p g t neg pos salt v i thetaNeg thetaPos = record {
+cellOf p g t neg pos cE v i thetaNeg thetaPos = record {
   params = p;
   config = g;
   «c_s_neg» = neg;
   «c_s_pos» = pos;
-  «c_e» = salt;
+  «c_e» = cE;
   «time_s» = t;
   voltage = v;
   current = i;
@@ -33,28 +33,28 @@ cellOf p g t neg pos salt v i thetaNeg thetaPos = record {
 }
 
 -- an answer by its parts
-abbrev pub answerOf : ℕ → DfnStep → DfnSolver → DfnAnswer
+abbrev pub answerOf : ℕ → DfnStep → DfnSolver → DfnStepAnswer
 answerOf k r d = record { refusal = k; report = r; cell = d }
 
 -- r and the three arrays are the number, the report and the arrays of the answer s
-abbrev pub Told : DfnAnswer → DfnReported → List Float → List Float → List Float → Type 0
-Told s r neg pos salt =
+abbrev pub Agrees : DfnStepAnswer → DfnReported → List Float → List Float → List Float → Type 0
+Agrees s r neg pos cE =
     (r .refusal ≡ s .refusal)
-    × ((r .report ≡ s .report) × ((neg ≡ s .cell .«c_s_neg») × ((pos ≡ s .cell .«c_s_pos») × (salt ≡ s .cell .«c_e»))))
+    × ((r .report ≡ s .report) × ((neg ≡ s .cell .«c_s_neg») × ((pos ≡ s .cell .«c_s_pos») × (cE ≡ s .cell .«c_e»))))
 
 -- r and the last three arrays are what a step of these parts answers, whatever the step before reported
 abbrev pub StepOf : DfnParams → DfnConfig → Float → List Float → List Float → List Float → Float → Float → DfnReported → List Float → List Float
     → List Float → Type 0
-StepOf p g t neg pos salt current dt r neg' pos' salt' =
-    (v i thetaNeg thetaPos : Float) → Told (stepped (cellOf p g t neg pos salt v i thetaNeg thetaPos) current dt) r neg' pos' salt'
+StepOf p g t neg pos cE current dt r neg' pos' cE' =
+    (v i thetaNeg thetaPos : Float) → Agrees (stepped (cellOf p g t neg pos cE v i thetaNeg thetaPos) current dt) r neg' pos' cE'
 
 -- the cell of the old parameters and grid, the arrays and the report
 abbrev pub cellBy : DfnSolver → List Float → List Float → List Float → DfnStep → DfnSolver
-cellBy d neg pos salt r =
-    cellOf (d .params) (d .config) (r .«time_s») neg pos salt (r .voltage) (r .current) (r .«theta_neg») (r .«theta_pos»)
+cellBy d neg pos cE r =
+    cellOf (d .params) (d .config) (r .«time_s») neg pos cE (r .voltage) (r .current) (r .«theta_neg») (r .«theta_pos»)
 
 -- a refused answer holds the old cell, any other the cell of its own arrays and report
-record Ends (d : DfnSolver) (s : DfnAnswer) : Type 0 where
+record Ends (d : DfnSolver) (s : DfnStepAnswer) : Type 0 where
   kept : (s .refusal ≡ 0 → ⊥) → s .cell ≡ d
   made : s .refusal ≡ 0 → s .cell ≡ cellBy d (s .cell .«c_s_neg») (s .cell .«c_s_pos») (s .cell .«c_e») (s .report)
 
@@ -85,13 +85,13 @@ module _ (d : DfnSolver) (current dt : Float) where
   stepped-ends = stepped-by (eqb (stepRefusal d current dt) 0) refl
 
   -- the whole answer, by what a step of the parts told
-  module _ (r : DfnReported) (neg pos salt : List Float) (h : Told (stepped d current dt) r neg pos salt) where
+  module _ (r : DfnReported) (neg pos cE : List Float) (h : Agrees (stepped d current dt) r neg pos cE) where
     whole : (cell : DfnSolver) → cell ≡ stepped d current dt .cell → answerOf (r .refusal) (r .report) cell ≡ stepped d current dt
     whole cell e = same (h .0) (h .1 .0) e
 
     pub answer-kept : (r .refusal ≡ 0 → ⊥) → answerOf (r .refusal) (r .report) d ≡ stepped d current dt
     answer-kept z = whole d (sym (stepped-ends .kept (λ k. z (h .0 ∙ k))))
 
-    pub answer-made : r .refusal ≡ 0 → answerOf (r .refusal) (r .report) (cellBy d neg pos salt (r .report)) ≡ stepped d current dt
-    answer-made z = whole (cellBy d neg pos salt (r .report))
+    pub answer-made : r .refusal ≡ 0 → answerOf (r .refusal) (r .report) (cellBy d neg pos cE (r .report)) ≡ stepped d current dt
+    answer-made z = whole (cellBy d neg pos cE (r .report))
         (rw (h .1 .0, h .1 .1 .0, h .1 .1 .1 .0, h .1 .1 .1 .1) (sym (stepped-ends .made (sym (h .0) ∙ z))))

@@ -6,7 +6,7 @@ use lib.Dec.{eqb}
 use lib.ListN.{getD}
 use lib.Ieee.{Float, nan, lt, neg}
 use Rattle.binary64.specs.Operators.{_⊕_, _⊘_, f64, count}
-use Rattle.refusal.specs.Numbers.{firstMet, refusalUnless, notFinite}
+use Rattle.refusal.specs.Numbers.{firstRefusal, refusalUnless, notFinite}
 use Rattle.refusal.specs.Ranges.{finite}
 use Rattle.dfn_parameters.specs.Sides.{anodeOf, cathodeOf, poreFlux}
 use Rattle.dfn_parameters.specs.declared.DfnParams.{DfnParams}
@@ -15,16 +15,16 @@ use Rattle.dfn_parameters.specs.declared.Side.{Side}
 use Rattle.dfn_places.specs.Places.{allFinite, changeAfter}
 use Rattle.dfn_electrolyte.specs.Electrolyte.{electrolyteAfter}
 use Rattle.dfn_solid.specs.Solid.{Solid, solidAfter}
-use Rattle.dfn_solid.specs.declared.Grain.{Grain}
+use Rattle.dfn_solid.specs.declared.ParticleParams.{ParticleParams}
 use Rattle.dfn_voltage.specs.Voltage.{voltageOf}
-use Rattle.dfn.specs.Checks.{usedNeg, usedPos, usedSalt, stepRefusal}
+use Rattle.dfn.specs.Checks.{usedNeg, usedPos, usedElectrolyte, stepRefusal}
 use Rattle.dfn.specs.declared.DfnSolver.{DfnSolver}
 use Rattle.dfn.specs.declared.DfnStep.{DfnStep}
-use Rattle.dfn.specs.declared.DfnAnswer.{DfnAnswer}
+use Rattle.dfn.specs.declared.DfnStepAnswer.{DfnStepAnswer}
 
 -- n nodes in each particle: dr = r / (n - 1)
-abbrev pub grainOf : DfnParams → Side → ℕ → Float → Float → Grain
-grainOf p side n current dt = record {
+abbrev pub particleParams : DfnParams → Side → ℕ → Float → Float → ParticleParams
+particleParams p side n current dt = record {
   n = n;
   dr = side .r ⊘ count (n - 1);
   «d_ref» = side .«d_s_ref»;
@@ -43,8 +43,8 @@ pub record Moved : Type 0 where
 unfoldable pub movedBy : DfnSolver → Float → Float → Moved
 movedBy d current dt = record {
   «c_e» = electrolyteAfter (d .params) (d .config .«n_x_neg») (d .config .«n_x_pos») (d .«c_e») current dt;
-  neg = solidAfter (grainOf (d .params) (anodeOf (d .params)) (d .config .«n_r») (neg current) dt) (d .«c_s_neg») (d .config .«n_x_neg»);
-  pos = solidAfter (grainOf (d .params) (cathodeOf (d .params)) (d .config .«n_r») current dt) (d .«c_s_pos») (d .config .«n_x_pos»);
+  neg = solidAfter (particleParams (d .params) (anodeOf (d .params)) (d .config .«n_r») (neg current) dt) (d .«c_s_neg») (d .config .«n_x_neg»);
+  pos = solidAfter (particleParams (d .params) (cathodeOf (d .params)) (d .config .«n_r») current dt) (d .«c_s_pos») (d .config .«n_x_pos»);
 }
 
 abbrev reportAt : DfnConfig → List Float → List Float → Float → Float → Float → Float → Float → DfnStep
@@ -54,7 +54,7 @@ reportAt g old new thetaNeg thetaPos t current v = record {
   «time_s» = t;
   «theta_neg» = thetaNeg;
   «theta_pos» = thetaPos;
-  «delta_c_e_max» = changeAfter new old (usedSalt g);
+  «delta_c_e_max» = changeAfter new old (usedElectrolyte g);
   «newton_iter» = 1;
   cutoff = lt v (g .«v_min») || lt (g .«v_max») v;
 }
@@ -84,10 +84,10 @@ cellWith d m r = record {
 
 -- neither the arrays of the new cell nor the report hold a NaN or an infinity; the report's numbers are the cell's too
 abbrev pub partsFinite : DfnConfig → List Float → List Float → List Float → DfnStep → Bool
-partsFinite g neg pos salt r =
+partsFinite g neg pos cE r =
     allFinite neg (usedNeg g)
     && allFinite pos (usedPos g)
-    && allFinite salt (usedSalt g)
+    && allFinite cE (usedElectrolyte g)
     && finite (r .voltage)
     && finite (r .current)
     && finite (r .«time_s»)
@@ -97,9 +97,9 @@ partsFinite g neg pos salt r =
 
 -- the same as a number: by those of both electrodes, whose mean stoichiometries the report has, and by the salt and the rest of the report
 abbrev pub outcomeRefusal : DfnConfig → ℕ → ℕ → List Float → DfnStep → ℕ
-outcomeRefusal g neg pos salt r =
-    firstMet (firstMet neg pos)
-    (refusalUnless (allFinite salt (usedSalt g) && finite (r .voltage) && finite (r .current) && finite (r .«time_s») && finite (r .«delta_c_e_max»)) notFinite)
+outcomeRefusal g neg pos cE r =
+    firstRefusal (firstRefusal neg pos)
+    (refusalUnless (allFinite cE (usedElectrolyte g) && finite (r .voltage) && finite (r .current) && finite (r .«time_s») && finite (r .«delta_c_e_max»)) notFinite)
 
 unfoldable pub allNumbers : DfnSolver → DfnStep → Bool
 allNumbers d r = partsFinite (d .config) (d .«c_s_neg») (d .«c_s_pos») (d .«c_e») r
@@ -116,19 +116,19 @@ noReport = record {
   cutoff = false;
 }
 
-abbrev pub refusedWith : ℕ → DfnSolver → DfnAnswer
+abbrev pub refusedWith : ℕ → DfnSolver → DfnStepAnswer
 refusedWith k d = record { refusal = k; report = noReport; cell = d }
 
 -- by the new cell, refused with 8 where it or the report does not hold numbers alone
-unfoldable pub answered : DfnSolver → DfnSolver → DfnStep → DfnAnswer
+unfoldable pub answered : DfnSolver → DfnSolver → DfnStep → DfnStepAnswer
 answered old new r = cond (allNumbers new r) (record { refusal = 0; report = r; cell = new }) (refusedWith notFinite old)
 
-unfoldable pub followed : DfnSolver → Moved → DfnStep → DfnAnswer
+unfoldable pub followed : DfnSolver → Moved → DfnStep → DfnStepAnswer
 followed d m r = answered d (cellWith d m r) r
 
-unfoldable pub advanced : DfnSolver → Moved → Float → Float → DfnAnswer
+unfoldable pub advanced : DfnSolver → Moved → Float → Float → DfnStepAnswer
 advanced d m current dt = followed d m (reportOf d m current dt)
 
-unfoldable pub stepped : DfnSolver → Float → Float → DfnAnswer
+unfoldable pub stepped : DfnSolver → Float → Float → DfnStepAnswer
 stepped d current dt =
     cond (eqb (stepRefusal d current dt) 0) (advanced d (movedBy d current dt) current dt) (refusedWith (stepRefusal d current dt) d)

@@ -10,13 +10,13 @@ use dfn_places::largest_change;
 use dfn_places::solid_fits;
 use dfn_places::uniform_electrolyte;
 use dfn_places::uniform_solid;
-use dfn_solid::Grain;
+use dfn_solid::ParticleParams;
 use dfn_solid::update_solid;
 use dfn_voltage::compute_voltage;
 ghost use mathlib.Core.Path.{_≡_};
 ghost use Prim.Native.Nat.{_≤_, _*_};
 ghost use Rattle.dfn.specs.Checks.{Grid, partsRefusal, loadRefusal, stepRefusal};
-ghost use Rattle.dfn.specs.Step.{grainOf, reportBy, outcomeRefusal, noReport, stepped};
+ghost use Rattle.dfn.specs.Step.{particleParams, reportBy, outcomeRefusal, noReport, stepped};
 ghost use Rattle.dfn.specs.Parts.{StepOf};
 ghost use Rattle.dfn.specs.Build.{noCell, made};
 
@@ -52,7 +52,7 @@ pub struct DfnStep {
 }
 
 // 0 and a new cell, or the number of the refusal.
-pub struct DfnBuild {
+pub struct DfnBuildAnswer {
     pub refusal: u64,
     pub cell: DfnSolver,
 }
@@ -64,18 +64,18 @@ pub struct DfnReported {
 }
 
 // 0, the report and the new cell; or the number of the refusal, a report of zeros and the cell as it was.
-pub struct DfnAnswer {
+pub struct DfnStepAnswer {
     pub refusal: u64,
     pub report: DfnStep,
     pub cell: DfnSolver,
 }
 
 // What the particles of one electrode work with.
-fn grain_of(p: DfnParams, side: Side, n: usize, current: f64, dt: f64) -> Grain
+fn particle_params(p: DfnParams, side: Side, n: usize, current: f64, dt: f64) -> ParticleParams
     requires { ⌜ 2 ≤ n ⌝ }
-    ensures { λ r. ⌜ r ≡ grainOf p side n current dt ⌝ }
+    ensures { λ r. ⌜ r ≡ particleParams p side n current dt ⌝ }
 {
-    Grain {
+    ParticleParams {
         n,
         dr: side.r / std::num::nearest_u64_to_f64((n - 1) as u64),
         d_ref: side.d_s_ref,
@@ -186,7 +186,7 @@ fn load_refusal(current: f64, dt: f64) -> u64
 {
     let load = refusal::refusal_unless(refusal::load_fits(current, 1e6), refusal::LOAD);
     let interval = refusal::refusal_unless(refusal::interval_fits(dt), refusal::INTERVAL);
-    refusal::first_met(load, interval)
+    refusal::first_refusal(load, interval)
 }
 
 // The report of a step, by the salt before and after it, the new stoichiometries of the surfaces, the new clock and the current.
@@ -227,14 +227,14 @@ fn outcome_refusal(g: DfnConfig, neg: u64, pos: u64, c_e: &[f64; 33], r: DfnStep
         & refusal::is_finite(r.current)
         & refusal::is_finite(r.time_s)
         & refusal::is_finite(r.delta_c_e_max);
-    refusal::first_met(
-        refusal::first_met(neg, pos),
+    refusal::first_refusal(
+        refusal::first_refusal(neg, pos),
         refusal::refusal_unless(finite, refusal::NOT_FINITE),
     )
 }
 
 // One step on the parts of a cell, whose arrays are lent; where it is refused they stay as they were.
-pub fn step_lent(
+pub fn step_in_place(
     p: DfnParams,
     g: DfnConfig,
     time_s: f64,
@@ -247,15 +247,15 @@ pub fn step_lent(
     ensures { λ r. ⌜ StepOf p g «time_s» (now (neg .entry)) (now (pos .entry)) (now («c_e» .entry)) current dt r (now (neg .exit)) (now (pos .exit)) (now («c_e» .exit)) ⌝ }
 {
     let unfit = cell_refusal(p, g, neg, pos, c_e, time_s);
-    let number = refusal::first_met(unfit, load_refusal(current, dt));
+    let number = refusal::first_refusal(unfit, load_refusal(current, dt));
     if number != 0 {
         return DfnReported {
             refusal: number,
             report: no_report(),
         };
     }
-    let anode = grain_of(p, p.anode(), g.n_r, -current, dt);
-    let cathode = grain_of(p, p.cathode(), g.n_r, current, dt);
+    let anode = particle_params(p, p.anode(), g.n_r, -current, dt);
+    let cathode = particle_params(p, p.cathode(), g.n_r, current, dt);
     let new_neg = update_solid(anode, neg, g.n_x_neg);
     let new_pos = update_solid(cathode, pos, g.n_x_pos);
     let new_c_e = update_electrolyte(p, g.n_x_neg, g.n_x_pos, c_e, current, dt);
@@ -292,23 +292,23 @@ impl DfnSolver {
         let p = self.params;
         let g = self.config;
         let unfit = cell_refusal(p, g, &self.c_s_neg, &self.c_s_pos, &self.c_e, self.time_s);
-        refusal::first_met(unfit, load_refusal(current, dt))
+        refusal::first_refusal(unfit, load_refusal(current, dt))
     }
 
     // ---- calls
 
     // A cell with the same stoichiometry at all nodes of an electrode, at rest.
-    pub fn new(params: DfnParams, config: DfnConfig) -> DfnBuild
+    pub fn new(params: DfnParams, config: DfnConfig) -> DfnBuildAnswer
         ensures { λ r. ⌜ r ≡ made params config ⌝ }
     {
         if !config.grid_fits() {
-            return DfnBuild {
+            return DfnBuildAnswer {
                 refusal: refusal::GRID,
                 cell: no_cell(),
             };
         }
         if !(params.fit() & config.limits_fit()) {
-            return DfnBuild {
+            return DfnBuildAnswer {
                 refusal: refusal::SHEET,
                 cell: no_cell(),
             };
@@ -334,11 +334,11 @@ impl DfnSolver {
             theta_neg_surf: params.theta_neg_0,
             theta_pos_surf: params.theta_pos_0,
         };
-        DfnBuild { refusal: 0, cell }
+        DfnBuildAnswer { refusal: 0, cell }
     }
 
     // One step: a current in A, above 0 for a discharge, for an interval in s.
-    pub fn step(self, current: f64, dt: f64) -> DfnAnswer
+    pub fn step(self, current: f64, dt: f64) -> DfnStepAnswer
         ensures { λ r. ⌜ r ≡ stepped self current dt ⌝ }
     {
         let p = self.params;
@@ -346,10 +346,10 @@ impl DfnSolver {
         let mut neg = self.c_s_neg;
         let mut pos = self.c_s_pos;
         let mut c_e = self.c_e;
-        let out = step_lent(p, g, self.time_s, &mut neg, &mut pos, &mut c_e, current, dt);
+        let out = step_in_place(p, g, self.time_s, &mut neg, &mut pos, &mut c_e, current, dt);
         let report = out.report;
         if out.refusal != 0 {
-            return DfnAnswer {
+            return DfnStepAnswer {
                 refusal: out.refusal,
                 report,
                 cell: self,
@@ -367,7 +367,7 @@ impl DfnSolver {
             theta_neg_surf: report.theta_neg,
             theta_pos_surf: report.theta_pos,
         };
-        DfnAnswer {
+        DfnStepAnswer {
             refusal: out.refusal,
             report,
             cell,

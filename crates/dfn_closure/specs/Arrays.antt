@@ -13,16 +13,16 @@ use lib.Ieee.{Float, nan, le, toBits, ofBits}
 use lib.Ieee.Scale.{finite}
 use lib.Ieee.Fits.{and-i, and-l, and-r}
 use Rattle.binary64.specs.Operators.{f64}
-use Rattle.choice.specs.Choice.{clampOf}
+use Rattle.min_max.specs.MinMax.{clampOf}
 use Rattle.refusal.specs.Ranges.{inRange, plusZero}
-use Rattle.turns.specs.Turns.{firstBy, allBelow, all-at, all-of, first-below, first-above}
-use Rattle.places.specs.Places.{places-length, places-inside, places-before, places-after}
+use Rattle.iterate.specs.Iterate.{firstBy, allBelow, all-at, all-of, first-below, first-above}
+use Rattle.array_update.specs.ArrayUpdate.{places-length, places-inside, places-before, places-after}
 use Rattle.dfn_places.specs.Places.{at, placeFits, solidFitsTo, solidFits, electrolyteFits, allFinite}
-use Rattle.dfn_solid.specs.declared.Grain.{Grain}
-use Rattle.dfn_solid.specs.Solid.{nodeWith, heldNode, particleWith, particlesWith}
+use Rattle.dfn_solid.specs.declared.ParticleParams.{ParticleParams}
+use Rattle.dfn_solid.specs.Solid.{nodeWith, clampedNode, particleWith, particlesWith}
 use Rattle.dfn_electrolyte.specs.declared.Region.{Region}
-use Rattle.dfn_electrolyte.specs.Electrolyte as Salt
-use Rattle.dfn_closure.specs.Held.{clamp-in, le-chain}
+use Rattle.dfn_electrolyte.specs.Electrolyte as Electrolyte
+use Rattle.dfn_closure.specs.Clamped.{clamp-in, le-chain}
 
 side : (a b : ℕ) (t : Bool) → ltb a b ≡ t → (a < b) ⊎ (b ≤ a)
 side a b true e = inl (ltb-true a b e)
@@ -54,33 +54,33 @@ long size c n lo hi t =
     (lt-or-ge (length c) size)
 
 -- a place that a clamp holds
-record Held (y lo hi : Float) : Type 0 where
+record Clamped (y lo hi : Float) : Type 0 where
   from : Float
   is : y ≡ clampOf from lo hi
 
-held-in : (y lo hi : Float) → Held y lo hi → T (finite lo) → T (finite hi) → T (le lo hi) → T (finite y) → T (inRange y lo hi)
-held-in y lo hi h p q l f =
+clamped-in : (y lo hi : Float) → Clamped y lo hi → T (finite lo) → T (finite hi) → T (le lo hi) → T (finite y) → T (inRange y lo hi)
+clamped-in y lo hi h p q l f =
     let e = h .is in
     rw e (clamp-in (h .from) lo hi p q l (rw e at f))
 
 -- ---- the particles
-module _ (v : Grain) (c d : List Float) where
+module _ (v : ParticleParams) (c d : List Float) where
   particles-length : (k : ℕ) → length (particlesWith v c d k) ≡ length c
   unfolding particlesWith particleWith
   particles-length zero = refl
-  particles-length (suc k) = rw (places-length (k * v .n) (heldNode v c d (k * v .n)) (particlesWith v c d k) (v .n), particles-length k)
+  particles-length (suc k) = rw (places-length (k * v .n) (clampedNode v c d (k * v .n)) (particlesWith v c d k) (v .n), particles-length k)
 
-  particles-held : (k i : ℕ) → k * v .n ≤ length c → i < k * v .n → Held (at (particlesWith v c d k) i) (f64 0) (v .«c_max»)
+  particles-clamped : (k i : ℕ) → k * v .n ≤ length c → i < k * v .n → Clamped (at (particlesWith v c d k) i) (f64 0) (v .«c_max»)
   unfolding particlesWith particleWith
-  particles-held zero i m h = let z : i < 0 = rw (zero-mul (v .n)) at h in absurd (not-suc-le-zero z)
-  particles-held (suc k) i m h =
+  particles-clamped zero i m h = let z : i < 0 = rw (zero-mul (v .n)) at h in absurd (not-suc-le-zero z)
+  particles-clamped (suc k) i m h =
       let b = k * v .n in
-      let f = heldNode v c d b in
+      let f = clampedNode v c d b in
       let l = particlesWith v c d k in
       let m′ : b + v .n ≤ length c = rw (suc-mul k (v .n)) at m in
       let h′ : i < b + v .n = rw (suc-mul k (v .n)) at h in
       ⊎-elim
-      (λ (q : i < b). rw (places-before b f l (v .n) i nan q) (particles-held k i (omega arith) q))
+      (λ (q : i < b). rw (places-before b f l (v .n) i nan q) (particles-clamped k i (omega arith) q))
       (λ (q : b ≤ i).
       let e : b + (i - b) ≡ i = omega arith in
       let n : b + v .n ≤ length l = rw (particles-length k) m′ in
@@ -92,7 +92,7 @@ module _ (v : Grain) (c d : List Float) where
   particles-kept zero i h = refl
   particles-kept (suc k) i h =
       let h′ : k * v .n + v .n ≤ i = rw (suc-mul k (v .n)) at h in
-      rw (places-after (k * v .n) (heldNode v c d (k * v .n)) (particlesWith v c d k) (v .n) i nan h′) (particles-kept k i (omega arith))
+      rw (places-after (k * v .n) (clampedNode v c d (k * v .n)) (particlesWith v c d k) (v .n) i nan h′) (particles-kept k i (omega arith))
 
   pub solid-closed : (m : ℕ) → m * v .n ≤ 512 → T (finite (f64 0)) → T (finite (v .«c_max»)) → T (le (f64 0) (v .«c_max»))
       → T (solidFits c (m * v .n) (v .«c_max»)) → T (allFinite (particlesWith v c d m) (m * v .n)) → T (solidFits (particlesWith v c d m) (m * v .n) (v .«c_max»))
@@ -104,7 +104,7 @@ module _ (v : Grain) (c d : List Float) where
       all-of (λ i. placeFits (at out i) (ltb i u) (f64 0) (v .«c_max»)) 512
       (λ i l. ⊎-elim
       (λ (h : i < u). used-fits (at out i) (f64 0) (v .«c_max») (ltb i u) (lt-ltb i u h)
-      (held-in (at out i) (f64 0) (v .«c_max») (particles-held m i (omega (arith, r, n)) h) z p q (all-at (λ j. finite (at out j)) u i h f)))
+      (clamped-in (at out i) (f64 0) (v .«c_max») (particles-clamped m i (omega (arith, r, n)) h) z p q (all-at (λ j. finite (at out j)) u i h f)))
       (λ (h : u ≤ i). rw (particles-kept m i h) (all-at (λ j. placeFits (at c j) (ltb j u) (f64 0) (v .«c_max»)) 512 i l t))
       (lt-or-ge i u))
 
@@ -156,12 +156,12 @@ wider y f t =
     (le-chain least low y least-finite low-finite f least-low (and-l (le low y) (le y high) t))
     (le-chain y high most f high-finite most-finite (and-r (le low y) (le y high) t) high-most)
 
-pub salt-closed : (neg pos : Region) (c d : List Float) → neg .n + 1 + pos .n ≤ 33
-    → T (electrolyteFits c (neg .n + 1 + pos .n)) → T (allFinite (Salt.nodesWith neg pos c d) (neg .n + 1 + pos .n)) → T (electrolyteFits (Salt.nodesWith neg pos c d) (neg .n + 1 + pos .n))
-unfolding electrolyteFits Salt.nodesWith
-salt-closed neg pos c d r t f =
+pub electrolyte-closed : (neg pos : Region) (c d : List Float) → neg .n + 1 + pos .n ≤ 33
+    → T (electrolyteFits c (neg .n + 1 + pos .n)) → T (allFinite (Electrolyte.nodesWith neg pos c d) (neg .n + 1 + pos .n)) → T (electrolyteFits (Electrolyte.nodesWith neg pos c d) (neg .n + 1 + pos .n))
+unfolding electrolyteFits Electrolyte.nodesWith
+electrolyte-closed neg pos c d r t f =
     let u = neg .n + 1 + pos .n in
-    let g : ℕ → Float = λ i. clampOf (Salt.nodeWith neg pos c d i) low high in
+    let g : ℕ → Float = λ i. clampOf (Electrolyte.nodeWith neg pos c d i) low high in
     let out = firstBy u g c in
     let n : 33 ≤ length c = long 33 c u least most t in
     all-of (λ i. placeFits (at out i) (ltb i u) least most) 33
@@ -169,6 +169,6 @@ salt-closed neg pos c d r t f =
     (λ (h : i < u).
     let y = all-at (λ j. finite (at out j)) u i h f in
     used-fits (at out i) least most (ltb i u) (lt-ltb i u h)
-    (wider (at out i) y (held-in (at out i) low high (record { from = Salt.nodeWith neg pos c d i; is = first-below g c u i nan h (omega (arith, r, n)) }) low-finite high-finite low-high y)))
+    (wider (at out i) y (clamped-in (at out i) low high (record { from = Electrolyte.nodeWith neg pos c d i; is = first-below g c u i nan h (omega (arith, r, n)) }) low-finite high-finite low-high y)))
     (λ (h : u ≤ i). rw (first-above g c u i nan h) (all-at (λ j. placeFits (at c j) (ltb j u) least most) 33 i l t))
     (lt-or-ge i u))

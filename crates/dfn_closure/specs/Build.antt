@@ -17,20 +17,20 @@ use Rattle.fraction.specs.Certificate.{quote, le-by, up, _⊠_}
 use Rattle.binary64.specs.Operators.{_⊗_, f64}
 use Rattle.binary64.specs.Order.{between-finite}
 use Rattle.binary64.specs.OrderLaws.{rounds-le}
-use Rattle.binary64.specs.Rounds.{held, mul-rounds}
+use Rattle.binary64.specs.Rounds.{representable, mul-rounds}
 use Rattle.binary64.specs.Value.{val, le-val}
-use Rattle.refusal.specs.Numbers.{grid, sheet, none-met, passed}
+use Rattle.refusal.specs.Numbers.{grid, sheet, neither-refused, passed}
 use Rattle.refusal.specs.Ranges.{inRange, plusZero, clockFits}
-use Rattle.turns.specs.Turns.{all-of, first-below, first-above}
+use Rattle.iterate.specs.Iterate.{all-of, first-below, first-above}
 use Rattle.dfn_parameters.specs.Ranges.{parametersFit, gridFits, limitsFit}
 use Rattle.dfn_parameters.specs.declared.DfnParams.{DfnParams}
 use Rattle.dfn_parameters.specs.declared.DfnConfig.{DfnConfig}
 use Rattle.dfn_places.specs.Places.{at, placeFits, solidFitsTo, solidFits, electrolyteFits, filled}
 use Rattle.dfn_solid.specs.Room.{room}
-use Rattle.dfn.specs.Checks.{usedNeg, usedPos, usedSalt, cellRefusal, grid-met}
+use Rattle.dfn.specs.Checks.{usedNeg, usedPos, usedElectrolyte, cellRefusal, grid-valid}
 use Rattle.dfn.specs.Build.{newRefusal, fresh, noCell, made}
-use Rattle.dfn.specs.declared.DfnBuild.{DfnBuild}
-use Rattle.dfn_closure.specs.Tests.{Range, unit, top, saltMost, max-neg, max-pos, theta-neg, theta-pos, salt}
+use Rattle.dfn.specs.declared.DfnBuildAnswer.{DfnBuildAnswer}
+use Rattle.dfn_closure.specs.Tests.{Range, unit, top, electrolyteMost, max-neg, max-pos, theta-neg, theta-pos, cE}
 use Rattle.dfn_closure.specs.Arrays.{fitsTo}
 use Rattle.dfn_closure.specs.Closure.{zero-finite, one-finite, max-finite, max-above, cell-passes}
 
@@ -55,8 +55,8 @@ start-in x M r m f =
     let b = ≤F-trans (le-val x unit p one-finite (r .high)) (≤F-of-≈F one-val) in
     let c = ≤F-trans (≤F-of-≈F (≈F-sym zero-val)) (le-val (f64 0) M zero-finite q (max-above M m)) in
     and-i (le (f64 0) (x ⊗ M)) (le (x ⊗ M) M)
-    (rounds-le (held (f64 0) zero-finite zero-fits) (mul-rounds x M p q) (≤F-trans (≤F-of-≈F zero-val) (le-by (val x ∷ val M ∷ []) 0 (a ⊠ c) (search quote depth 24) tt)))
-    (rounds-le (mul-rounds x M p q) (held M q f) (le-by (val x ∷ val M ∷ []) 0 (up b ⊠ c) (search quote depth 24) tt))
+    (rounds-le (representable (f64 0) zero-finite zero-fits) (mul-rounds x M p q) (≤F-trans (≤F-of-≈F zero-val) (le-by (val x ∷ val M ∷ []) 0 (a ⊠ c) (search quote depth 24) tt)))
+    (rounds-le (mul-rounds x M p q) (representable M q f) (le-by (val x ∷ val M ∷ []) 0 (up b ⊠ c) (search quote depth 24) tt))
 
 -- ---- an array that x fills to its used length
 unused-fits : (lo hi : Float) → T (placeFits (f64 0) false lo hi)
@@ -82,9 +82,9 @@ solid-filled : (n : ℕ) (x M : Float) → n ≤ 512 → T (inRange x (f64 0) M)
 unfolding solidFits solidFitsTo
 solid-filled n x M m t = filled-fits 512 n x (f64 0) M m t
 
-salt-filled : (n : ℕ) (x : Float) → n ≤ 33 → T (inRange x unit saltMost) → T (electrolyteFits (filled 33 x n) n)
+electrolyte-filled : (n : ℕ) (x : Float) → n ≤ 33 → T (inRange x unit electrolyteMost) → T (electrolyteFits (filled 33 x n) n)
 unfolding electrolyteFits
-salt-filled n x m t = filled-fits 33 n x unit saltMost m t
+electrolyte-filled n x m t = filled-fits 33 n x unit electrolyteMost m t
 
 zero-clock : T (clockFits (f64 0))
 unfolding ofBits le
@@ -93,10 +93,10 @@ zero-clock = tt
 fresh-passes : (p : DfnParams) (g : DfnConfig) → T (fits binary64 (p .«c_s_neg_max»)) → T (fits binary64 (p .«c_s_pos_max»)) → newRefusal p g ≡ 0 → cellRefusal (fresh p g) ≡ 0
 unfolding newRefusal fresh
 fresh-passes p g m n h =
-    let b = passed (gridFits g) grid (zero-lt-suc 0) (none-met _ _ h .0) in
-    let f = passed (parametersFit p && limitsFit g) sheet (zero-lt-suc 1) (none-met _ _ h .1) in
+    let b = passed (gridFits g) grid (zero-lt-suc 0) (neither-refused _ _ h .0) in
+    let f = passed (parametersFit p && limitsFit g) sheet (zero-lt-suc 1) (neither-refused _ _ h .1) in
     let t = and-l (parametersFit p) (limitsFit g) f in
-    let r = grid-met g b in
+    let r = grid-valid g b in
     cell-passes (fresh p g) b (record {
       parameters = t;
       limits = and-r (parametersFit p) (limitsFit g) f;
@@ -108,13 +108,13 @@ fresh-passes p g m n h =
           let x = p .«theta_pos_0» in
           let M = p .«c_s_pos_max» in
           solid-filled (usedPos g) (x ⊗ M) M (room (g .«n_x_pos») (g .«n_r») (r .most-pos) (r .most-r)) (start-in x M (theta-pos p t) (max-pos p t) n);
-      salt = salt-filled (usedSalt g) (p .«c_e0») (omega (arith, r .most-neg, r .most-pos)) (and-i (le unit (p .«c_e0»)) (le (p .«c_e0») saltMost) (salt p t .low) (salt p t .high));
+      cE = electrolyte-filled (usedElectrolyte g) (p .«c_e0») (omega (arith, r .most-neg, r .most-pos)) (and-i (le unit (p .«c_e0»)) (le (p .«c_e0») electrolyteMost) (cE p t .low) (cE p t .high));
       clock = zero-clock;
     })
 
 -- ---- what a build answers
 module _ (p : DfnParams) (g : DfnConfig) where
-  abbrev outcome : ℕ → DfnBuild
+  abbrev outcome : ℕ → DfnBuildAnswer
   outcome k = cond (eqb k 0) (record { refusal = 0; cell = fresh p g }) (record { refusal = k; cell = noCell })
 
   -- A BUILD THAT IS ACCEPTED gives a cell that passes the checks; both largest concentrations are numbers of binary64

@@ -10,26 +10,26 @@ use lib.Ieee.Scale.{finite}
 use lib.Ieee.Fits.{and-i, and-l, and-r}
 use Rattle.binary64.specs.Operators.{_⊕_, f64}
 use Rattle.binary64.specs.Order.{between-finite}
-use Rattle.refusal.specs.Numbers.{firstMet, refusalUnless, load, interval, none-met, passed}
+use Rattle.refusal.specs.Numbers.{firstRefusal, refusalUnless, load, interval, neither-refused, passed}
 use Rattle.refusal.specs.Ranges.{loadFits, intervalFits, clockFits}
 use Rattle.dfn_parameters.specs.Ranges.{parametersFit, gridFits, limitsFit}
 use Rattle.dfn_parameters.specs.Sides.{anodeOf, cathodeOf, poreFlux}
 use Rattle.dfn_places.specs.Places.{solidFits, electrolyteFits, allFinite}
 use Rattle.dfn_solid.specs.Solid.{dSolids, solidAfter}
 use Rattle.dfn_solid.specs.Room.{room}
-use Rattle.dfn_electrolyte.specs.Electrolyte.{saltOf, regionOf, dEffs, electrolyteAfter}
-use Rattle.dfn.specs.Checks.{Fields, usedNeg, usedPos, usedSalt, fieldsFit, cellRefusal, stepRefusal, cell-grid, cell-fields, fields-met, step-cell}
-use Rattle.dfn.specs.Step.{grainOf, movedBy, reportOf, cellWith, allNumbers, noReport, refusedWith, answered, followed, advanced, stepped}
+use Rattle.dfn_electrolyte.specs.Electrolyte.{diffusivityParams, regionOf, dEffs, electrolyteAfter}
+use Rattle.dfn.specs.Checks.{Fields, usedNeg, usedPos, usedElectrolyte, fieldsFit, cellRefusal, stepRefusal, cell-grid, cell-fields, fields-valid, step-cell}
+use Rattle.dfn.specs.Step.{particleParams, movedBy, reportOf, cellWith, allNumbers, noReport, refusedWith, answered, followed, advanced, stepped}
 use Rattle.dfn.specs.declared.DfnSolver.{DfnSolver}
 use Rattle.dfn.specs.declared.DfnStep.{DfnStep}
-use Rattle.dfn.specs.declared.DfnAnswer.{DfnAnswer}
-use Rattle.dfn_closure.specs.Held.{le-chain, clock-on}
+use Rattle.dfn.specs.declared.DfnStepAnswer.{DfnStepAnswer}
+use Rattle.dfn_closure.specs.Clamped.{le-chain, clock-on}
 use Rattle.dfn_closure.specs.Tests.{Range, unit, top, max-neg, max-pos}
-use Rattle.dfn_closure.specs.Arrays.{solid-closed, salt-closed}
+use Rattle.dfn_closure.specs.Arrays.{solid-closed, electrolyte-closed}
 
 -- ---- what a step answers
 module _ (d new : DfnSolver) (r : DfnStep) where
-  abbrev outcome : ℕ → Bool → DfnAnswer
+  abbrev outcome : ℕ → Bool → DfnStepAnswer
   outcome k b = cond (eqb k 0) (cond b (record { refusal = 0; report = r; cell = new }) (refusedWith 8 d)) (refusedWith k d)
 
   accepted : (k : ℕ) (b : Bool) → outcome k b .refusal ≡ 0 → (k ≡ 0) × ((T b) × (outcome k b ≡ record { refusal = 0; report = r; cell = new }))
@@ -63,7 +63,7 @@ unfolding stepped advanced followed answered
 accepted-step d current dt h =
     let r = reportOf d (movedBy d current dt) current dt in
     let q = accepted d (newCell d current dt) r (stepRefusal d current dt) (allNumbers (newCell d current dt) r) h in
-    record { before = q .0; numbers = q .1 .0; leaves = ap (λ (a : DfnAnswer). a .cell) (q .1 .1) }
+    record { before = q .0; numbers = q .1 .0; leaves = ap (λ (a : DfnStepAnswer). a .cell) (q .1 .1) }
 
 -- ---- numbers
 pub one-finite : T (finite unit)
@@ -95,13 +95,13 @@ max-above x h = le-chain (f64 0) unit x zero-finite one-finite (max-finite x h) 
 -- ---- the fields of the new cell
 step-interval : (d : DfnSolver) (current dt : Float) → stepRefusal d current dt ≡ 0 → T (intervalFits dt)
 unfolding stepRefusal
-step-interval d current dt h = passed (intervalFits dt) interval (zero-lt-suc 3) (none-met _ _ (none-met _ _ h .1) .1)
+step-interval d current dt h = passed (intervalFits dt) interval (zero-lt-suc 3) (neither-refused _ _ (neither-refused _ _ h .1) .1)
 
 -- the tests of 8 that the checks need
 record Counted (d : DfnSolver) (r : DfnStep) : Type 0 where
   neg : T (allFinite (d .«c_s_neg») (usedNeg (d .config)))
   pos : T (allFinite (d .«c_s_pos») (usedPos (d .config)))
-  salt : T (allFinite (d .«c_e») (usedSalt (d .config)))
+  cE : T (allFinite (d .«c_e») (usedElectrolyte (d .config)))
   time : T (finite (r .«time_s»))
 
 counted : (d : DfnSolver) (r : DfnStep) → T (allNumbers d r) → Counted d r
@@ -109,7 +109,7 @@ unfolding allNumbers
 counted d r t =
     let b1 = allFinite (d .«c_s_neg») (usedNeg (d .config)) in
     let b2 = allFinite (d .«c_s_pos») (usedPos (d .config)) in
-    let b3 = allFinite (d .«c_e») (usedSalt (d .config)) in
+    let b3 = allFinite (d .«c_e») (usedElectrolyte (d .config)) in
     let b4 = finite (r .voltage) in
     let b5 = finite (r .current) in
     let b6 = finite (r .«time_s») in
@@ -119,7 +119,7 @@ counted d r t =
     let t6 = and-l (b1 && b2 && b3 && b4 && b5 && b6) b7 (and-l (b1 && b2 && b3 && b4 && b5 && b6 && b7) b8 (and-l (b1 && b2 && b3 && b4 && b5 && b6 && b7 && b8) b9 t)) in
     let t3 = and-l (b1 && b2 && b3) b4 (and-l (b1 && b2 && b3 && b4) b5 (and-l (b1 && b2 && b3 && b4 && b5) b6 t6)) in
     let t2 = and-l (b1 && b2) b3 t3 in
-    record { neg = and-l b1 b2 t2; pos = and-r b1 b2 t2; salt = and-r (b1 && b2) b3 t3; time = and-r (b1 && b2 && b3 && b4 && b5) b6 t6 }
+    record { neg = and-l b1 b2 t2; pos = and-r b1 b2 t2; cE = and-r (b1 && b2) b3 t3; time = and-r (b1 && b2 && b3 && b4 && b5) b6 t6 }
 
 -- the fields, and then the grid, put together
 fields-fit : (d : DfnSolver) → Fields d → T (fieldsFit d)
@@ -128,14 +128,14 @@ fields-fit d f =
     let b2 = limitsFit (d .config) in
     let b3 = solidFits (d .«c_s_neg») (usedNeg (d .config)) (d .params .«c_s_neg_max») in
     let b4 = solidFits (d .«c_s_pos») (usedPos (d .config)) (d .params .«c_s_pos_max») in
-    let b5 = electrolyteFits (d .«c_e») (usedSalt (d .config)) in
+    let b5 = electrolyteFits (d .«c_e») (usedElectrolyte (d .config)) in
     let b6 = clockFits (d .«time_s») in
     and-i (b1 && b2 && b3 && b4 && b5) b6
-    (and-i (b1 && b2 && b3 && b4) b5 (and-i (b1 && b2 && b3) b4 (and-i (b1 && b2) b3 (and-i b1 b2 (f .parameters) (f .limits)) (f .neg)) (f .pos)) (f .salt))
+    (and-i (b1 && b2 && b3 && b4) b5 (and-i (b1 && b2 && b3) b4 (and-i (b1 && b2) b3 (and-i b1 b2 (f .parameters) (f .limits)) (f .neg)) (f .pos)) (f .cE))
     (f .clock)
 
-none : (a b : Bool) → T a → T b → firstMet (refusalUnless a 1) (refusalUnless b 2) ≡ 0
-unfolding firstMet refusalUnless
+none : (a b : Bool) → T a → T b → firstRefusal (refusalUnless a 1) (refusalUnless b 2) ≡ 0
+unfolding firstRefusal refusalUnless
 none true true p q = refl
 none true false p q = absurd q
 none false b p q = absurd p
@@ -157,12 +157,12 @@ fields-closed d current dt a =
     let p = d .params in
     let c = step-cell d current dt (a .before) in
     let g = cell-grid d c in
-    let f = fields-met d (cell-fields d c) in
+    let f = fields-valid d (cell-fields d c) in
     let M = max-neg p (f .parameters) in
     let N = max-pos p (f .parameters) in
     let n = counted (newCell d current dt) (reportOf d (movedBy d current dt) current dt) (a .numbers) in
-    let vn = grainOf p (anodeOf p) (d .config .«n_r») (neg current) dt in
-    let vp = grainOf p (cathodeOf p) (d .config .«n_r») current dt in
+    let vn = particleParams p (anodeOf p) (d .config .«n_r») (neg current) dt in
+    let vp = particleParams p (cathodeOf p) (d .config .«n_r») current dt in
     let rn = regionOf p (anodeOf p) (d .config .«n_x_neg») (poreFlux (anodeOf p) (p .area) (neg current)) dt in
     let rp = regionOf p (cathodeOf p) (d .config .«n_x_pos») (poreFlux (cathodeOf p) (p .area) current) dt in
     record {
@@ -170,14 +170,14 @@ fields-closed d current dt a =
       limits = f .limits;
       neg = solid-closed vn (d .«c_s_neg») (dSolids vn (d .«c_s_neg») (usedNeg (d .config))) (d .config .«n_x_neg») (room (d .config .«n_x_neg») (d .config .«n_r») (g .most-neg) (g .most-r)) zero-finite (max-finite (p .«c_s_neg_max») M) (max-above (p .«c_s_neg_max») M) (f .neg) (n .neg);
       pos = solid-closed vp (d .«c_s_pos») (dSolids vp (d .«c_s_pos») (usedPos (d .config))) (d .config .«n_x_pos») (room (d .config .«n_x_pos») (d .config .«n_r») (g .most-pos) (g .most-r)) zero-finite (max-finite (p .«c_s_pos_max») N) (max-above (p .«c_s_pos_max») N) (f .pos) (n .pos);
-      salt = salt-closed rn rp (d .«c_e») (dEffs (saltOf p) (d .«c_e») (usedSalt (d .config))) (omega (arith, g .most-neg, g .most-pos)) (f .salt) (n .salt);
+      cE = electrolyte-closed rn rp (d .«c_e») (dEffs (diffusivityParams p) (d .«c_e») (usedElectrolyte (d .config))) (omega (arith, g .most-neg, g .most-pos)) (f .cE) (n .cE);
       clock = clock-closed (d .«time_s») dt (f .clock) (step-interval d current dt (a .before)) (n .time);
     }
 
 -- ---- the theorem
 grid-kept : (d : DfnSolver) (current dt : Float) → cellRefusal d ≡ 0 → T (gridFits (newCell d current dt .config))
 unfolding cellRefusal cellWith
-grid-kept d current dt h = passed (gridFits (d .config)) 1 (zero-lt-suc 0) (none-met _ _ h .0)
+grid-kept d current dt h = passed (gridFits (d .config)) 1 (zero-lt-suc 0) (neither-refused _ _ h .0)
 
 -- A STEP THAT IS ACCEPTED leads to a cell that passes the checks
 pub step-passes : (d : DfnSolver) (current dt : Float) → stepped d current dt .refusal ≡ 0 → cellRefusal (stepped d current dt .cell) ≡ 0
@@ -186,10 +186,10 @@ step-passes d current dt h =
     rw (a .leaves) (cell-passes (newCell d current dt) (grid-kept d current dt (step-cell d current dt (a .before))) (fields-closed d current dt a))
 
 -- so nothing refuses the same step again before it is made: only 8 can come
-call-met : (d : DfnSolver) (current dt : Float) → stepRefusal d current dt ≡ 0 → firstMet (refusalUnless (loadFits current (f64 0x412e_8480_0000_0000)) load) (refusalUnless (intervalFits dt) interval) ≡ 0
+call-valid : (d : DfnSolver) (current dt : Float) → stepRefusal d current dt ≡ 0 → firstRefusal (refusalUnless (loadFits current (f64 0x412e_8480_0000_0000)) load) (refusalUnless (intervalFits dt) interval) ≡ 0
 unfolding stepRefusal
-call-met d current dt h = none-met (cellRefusal d) _ h .1
+call-valid d current dt h = neither-refused (cellRefusal d) _ h .1
 
 pub next-step : (d : DfnSolver) (current dt : Float) → stepped d current dt .refusal ≡ 0 → stepRefusal (stepped d current dt .cell) current dt ≡ 0
-unfolding stepRefusal firstMet
-next-step d current dt h = rw (step-passes d current dt h) (call-met d current dt (accepted-step d current dt h .before))
+unfolding stepRefusal firstRefusal
+next-step d current dt h = rw (step-passes d current dt h) (call-valid d current dt (accepted-step d current dt h .before))

@@ -1,12 +1,12 @@
 -- What the calls of the Doyle-Fuller-Newman cell lead to: an accepted build and an accepted step to a cell that passes the checks, so that in the middle
 -- of a run only 8 can come; a refused step to the cell as it was.
 --
--- Held: numbers that a clamp holds.
+-- Clamped: numbers that a clamp holds.
 -- Tests: the numbers' ranges out of the parameters' tests.
 -- Arrays: the particles and the salt after a step.
 -- Closure: `step-passes`, `step-refused`, and `next-step`, what they say of the step after.
 -- Build: `build-passes`, `build-refused`.
-pub mod Held
+pub mod Clamped
 pub mod Tests
 pub mod Arrays
 pub mod Closure

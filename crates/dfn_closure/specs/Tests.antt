@@ -70,8 +70,8 @@ abbrev pub top : Float
 top = f64 0x4100_0000_0000_0000
 
 -- 1e5
-abbrev pub saltMost : Float
-saltMost = f64 0x40f8_6a00_0000_0000
+abbrev pub electrolyteMost : Float
+electrolyteMost = f64 0x40f8_6a00_0000_0000
 
 -- the ranges after that of l_neg, which is the first of the chain
 abbrev others : DfnParams → List Tested
@@ -91,7 +91,7 @@ others p =
     ∷ tested hundredth (p .«eps_pos») unit
     ∷ tested (f64 0) (p .«theta_pos_0») unit
     ∷ tested (f64 0x3c9c_d2b2_97d8_89bc) (p .«k_pos») unit
-    ∷ tested unit (p .«c_e0») saltMost
+    ∷ tested unit (p .«c_e0») electrolyteMost
     ∷ tested (f64 0x3c9c_d2b2_97d8_89bc) (p .«d_e0») (f64 0x3eb0_c6f7_a0b5_ed8d)
     ∷ tested (f64 0) (p .«gamma_e») (f64 0x408f_4000_0000_0000)
     ∷ tested (f64 0) (p .«t_plus») unit
@@ -124,5 +124,5 @@ module _ (p : DfnParams) (h : T (parametersFit p)) where
   pub theta-pos : Range (f64 0) (p .«theta_pos_0») unit
   theta-pos = number-range 13
 
-  pub salt : Range unit (p .«c_e0») saltMost
-  salt = number-range 15
+  pub cE : Range unit (p .«c_e0») electrolyteMost
+  cE = number-range 15

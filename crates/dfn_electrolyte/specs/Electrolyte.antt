@@ -8,23 +8,23 @@ use lib.Ieee.{Float, nan, neg}
 use Rattle.binary64.specs.Operators.{_⊕_, _⊖_, _⊗_, _⊘_, f64, count}
 use Rattle.elementary.specs.Exp.{one, expOf}
 use Rattle.elementary.specs.Power.{powfOf}
-use Rattle.choice.specs.Choice.{clampOf}
-use Rattle.turns.specs.Turns.{firstBy}
+use Rattle.min_max.specs.MinMax.{clampOf}
+use Rattle.iterate.specs.Iterate.{firstBy}
 use Rattle.dfn_parameters.specs.Sides.{anodeOf, cathodeOf, areaOf, faraday, poreFlux}
 use Rattle.dfn_parameters.specs.declared.DfnParams.{DfnParams}
 use Rattle.dfn_parameters.specs.declared.Side.{Side}
-use Rattle.dfn_electrolyte.specs.declared.Salt.{Salt}
+use Rattle.dfn_electrolyte.specs.declared.DiffusivityParams.{DiffusivityParams}
 use Rattle.dfn_electrolyte.specs.declared.Region.{Region}
 
 abbrev pub at : List Float → ℕ → Float
 at c i = getD c i nan
 
 -- both electrodes have the porosity eps_e_elec
-abbrev pub saltOf : DfnParams → Salt
-saltOf p = record { factor = powfOf (p .«eps_e_elec») (p .brugg); «d_e0» = p .«d_e0»; «gamma_e» = p .«gamma_e»; «c_e0» = p .«c_e0» }
+abbrev pub diffusivityParams : DfnParams → DiffusivityParams
+diffusivityParams p = record { factor = powfOf (p .«eps_e_elec») (p .brugg); «d_e0» = p .«d_e0»; «gamma_e» = p .«gamma_e»; «c_e0» = p .«c_e0» }
 
 -- eps^brugg * (d_e0 * exp(-gamma_e * (c / c_e0 - 1)))
-abbrev pub dEff : Salt → Float → Float
+abbrev pub dEff : DiffusivityParams → Float → Float
 dEff s c = s .factor ⊗ (s .«d_e0» ⊗ expOf (neg (s .«gamma_e») ⊗ (c ⊘ s .«c_e0» ⊖ one)))
 
 -- (1 - t_plus) * a * j * FARADAY
@@ -33,13 +33,13 @@ source p side j = (one ⊖ p .«t_plus») ⊗ areaOf side ⊗ j ⊗ faraday
 
 -- dx = l / n, dt / (eps * dx), dt * source / eps
 abbrev regionAt : DfnParams → ℕ → Float → Float → Float → Region
-regionAt p n dx src dt = record { n = n; dx = dx; rate = dt ⊘ (p .«eps_e_elec» ⊗ dx); push = dt ⊗ src ⊘ p .«eps_e_elec» }
+regionAt p n dx src dt = record { n = n; dx = dx; rate = dt ⊘ (p .«eps_e_elec» ⊗ dx); «source_term» = dt ⊗ src ⊘ p .«eps_e_elec» }
 
 abbrev pub regionOf : DfnParams → Side → ℕ → Float → Float → Region
 regionOf p side n j dt = regionAt p n (side .l ⊘ count n) (source p side j) dt
 
 -- the diffusivities at the first n nodes
-unfoldable pub dEffs : Salt → List Float → ℕ → List Float
+unfoldable pub dEffs : DiffusivityParams → List Float → ℕ → List Float
 dEffs s c n = firstBy n (λ i. dEff s (at c i)) (replicate 33 (f64 0))
 
 -- 0.5 * (da + db) * (b - a) / dx
@@ -51,7 +51,7 @@ unfoldable pub movedWith : Region → List Float → List Float → ℕ → Floa
 movedWith v c d i =
     at c i
     ⊕ v .rate ⊗ (flowWith (at d i) (at d (i + 1)) (at c i) (at c (i + 1)) (v .dx) ⊖ flowWith (at d (i - 1)) (at d i) (at c (i - 1)) (at c i) (v .dx))
-    ⊕ v .push
+    ⊕ v .«source_term»
 
 -- The anode's nodes but its first and its last, and the cathode's but the last of all, its first included; the others keep their value.
 -- Node n of the anode's n is the separator.
@@ -72,4 +72,4 @@ electrolyteAfter p n m c current dt =
     (regionOf p (anodeOf p) n (poreFlux (anodeOf p) (p .area) (neg current)) dt)
     (regionOf p (cathodeOf p) m (poreFlux (cathodeOf p) (p .area) current) dt)
     c
-    (dEffs (saltOf p) c (n + 1 + m))
+    (dEffs (diffusivityParams p) c (n + 1 + m))

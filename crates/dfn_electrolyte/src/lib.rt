@@ -4,10 +4,10 @@ use dfn_parameters::DfnParams;
 use dfn_parameters::Side;
 ghost use mathlib.Core.Path.{_≡_};
 ghost use Prim.Native.Nat.{_+_, _<_, _≤_};
-ghost use Rattle.dfn_electrolyte.specs.Electrolyte.{saltOf, regionOf, dEff, dEffs, flowWith, movedWith, nodeWith, nodesWith, electrolyteAfter};
+ghost use Rattle.dfn_electrolyte.specs.Electrolyte.{diffusivityParams, regionOf, dEff, dEffs, flowWith, movedWith, nodeWith, nodesWith, electrolyteAfter};
 
 // What the diffusivity in the electrodes is worked out with: the porosity to the Bruggeman exponent, and three parameters.
-pub struct Salt {
+pub struct DiffusivityParams {
     pub factor: f64,
     pub d_e0: f64,
     pub gamma_e: f64,
@@ -19,13 +19,13 @@ pub struct Region {
     pub n: usize,
     pub dx: f64,
     pub rate: f64,
-    pub push: f64,
+    pub source_term: f64,
 }
 
-fn salt_of(p: DfnParams) -> Salt
-    ensures { λ r. ⌜ r ≡ saltOf p ⌝ }
+fn diffusivity_params(p: DfnParams) -> DiffusivityParams
+    ensures { λ r. ⌜ r ≡ diffusivityParams p ⌝ }
 {
-    Salt {
+    DiffusivityParams {
         factor: elementary::powf(p.eps_e_elec, p.brugg),
         d_e0: p.d_e0,
         gamma_e: p.gamma_e,
@@ -43,19 +43,19 @@ fn region_of(p: DfnParams, side: Side, n: usize, j: f64, dt: f64) -> Region
         n,
         dx,
         rate: dt / (p.eps_e_elec * dx),
-        push: dt * source / p.eps_e_elec,
+        source_term: dt * source / p.eps_e_elec,
     }
 }
 
 // The effective diffusivity at a concentration.
-pub fn d_eff_e(s: Salt, c: f64) -> f64
+pub fn d_eff_e(s: DiffusivityParams, c: f64) -> f64
     ensures { λ r. ⌜ r ≡ dEff s c ⌝ }
 {
     s.factor * (s.d_e0 * elementary::exp(-s.gamma_e * (c / s.c_e0 - 1.0)))
 }
 
 // The diffusivity at each of the first n nodes.
-fn diffusivities(s: Salt, c: &[f64; 33], n: usize) -> [f64; 33]
+fn diffusivities(s: DiffusivityParams, c: &[f64; 33], n: usize) -> [f64; 33]
     requires { ⌜ n ≤ 33 ⌝ }
     ensures { λ r. ⌜ r ≡ dEffs s (now (c .entry)) n ⌝ }
 {
@@ -80,7 +80,7 @@ fn moved(v: Region, c: &[f64; 33], d: &[f64; 33], i: usize) -> f64
 {
     let right = flow(d[i], d[i + 1], c[i], c[i + 1], v.dx);
     let left = flow(d[i - 1], d[i], c[i - 1], c[i], v.dx);
-    c[i] + v.rate * (right - left) + v.push
+    c[i] + v.rate * (right - left) + v.source_term
 }
 
 // The node i. The anode's first and last node, the separator and the last node of all keep their value; the cathode's first does not.
@@ -105,7 +105,7 @@ fn nodes(neg: Region, pos: Region, c: &[f64; 33], d: &[f64; 33]) -> [f64; 33]
     let n = neg.n + 1 + pos.n;
     let mut out = *c;
     for i in 0..n {
-        out[i] = choice::clamp(node(neg, pos, c, d, i), 100.0, 3000.0);
+        out[i] = min_max::clamp(node(neg, pos, c, d, i), 100.0, 3000.0);
     }
     out
 }
@@ -126,6 +126,6 @@ pub fn update_electrolyte(
     let cathode = p.cathode();
     let neg = region_of(p, anode, n_neg, anode.pore_flux(p.area, -current), dt);
     let pos = region_of(p, cathode, n_pos, cathode.pore_flux(p.area, current), dt);
-    let d = diffusivities(salt_of(p), c, n_neg + 1 + n_pos);
+    let d = diffusivities(diffusivity_params(p), c, n_neg + 1 + n_pos);
     nodes(neg, pos, c, &d)
 }

@@ -6,9 +6,9 @@ use lib.Dec.{ltb}
 use lib.ListN.{getD, replicate}
 use lib.Ieee.{Float, nan}
 use Rattle.binary64.specs.Operators.{_⊖_, f64}
-use Rattle.choice.specs.Choice.{absOf, maxOf}
+use Rattle.min_max.specs.MinMax.{absOf, maxOf}
 use Rattle.refusal.specs.Ranges.{inRange, finite, plusZero}
-use Rattle.turns.specs.Turns.{firstBy, allBelow}
+use Rattle.iterate.specs.Iterate.{firstBy, allBelow}
 
 abbrev pub at : List Float → ℕ → Float
 at c i = getD c i nan

@@ -113,7 +113,7 @@ pub fn largest_change(new: &[f64; 33], old: &[f64; 33], n: usize) -> f64
 {
     let mut most = 0.0;
     for i in 0..n {
-        most = choice::max(most, choice::abs(new[i] - old[i]));
+        most = min_max::max(most, min_max::abs(new[i] - old[i]));
     }
     most
 }

@@ -6,9 +6,9 @@ use native.Mathlib.Omega.{arith}
 use borrow.Author.Tests.{ne-eqb, lt-ltb, le-ltb}
 use lib.ListN.{set}
 use lib.Ieee.{Float}
-use Rattle.places.specs.Places.{placesBy}
-use Rattle.dfn_solid.specs.Solid.{innerWith, surfaceWith, nodeWith, heldNode, particleWith}
-use Rattle.dfn_solid.specs.declared.Grain.{Grain}
+use Rattle.array_update.specs.ArrayUpdate.{placesBy}
+use Rattle.dfn_solid.specs.Solid.{innerWith, surfaceWith, nodeWith, clampedNode, particleWith}
+use Rattle.dfn_solid.specs.declared.ParticleParams.{ParticleParams}
 
 pub one-place : (base : ℕ) (f : ℕ → Float) (l : List Float) → set l base (f 0) ≡ placesBy base 1 f l
 unfolding placesBy
@@ -18,7 +18,7 @@ next-place : (base n m : ℕ) (f : ℕ → Float) (l : List Float) → n ≡ suc
 unfolding placesBy
 next-place base n m f l e = rw e
 
-module _ (v : Grain) (c d : List Float) (base : ℕ) where
+module _ (v : ParticleParams) (c d : List Float) (base : ℕ) where
   pub inner-is : (i : ℕ) → 1 ≤ i → i < v .n - 1 → nodeWith v c d base i ≡ innerWith v c d (base + i) i
   unfolding nodeWith
   inner-is i h k =
@@ -34,6 +34,6 @@ module _ (v : Grain) (c d : List Float) (base : ℕ) where
       rw (ne-eqb (v .n - 1) 0 a, le-ltb (v .n - 1 + 1) (v .n) b)
 
   pub last-place : (l : List Float) → 2 ≤ v .n
-      → particleWith v c d base l ≡ set (placesBy base (v .n - 1) (heldNode v c d base) l) (base + (v .n - 1)) (heldNode v c d base (v .n - 1))
+      → particleWith v c d base l ≡ set (placesBy base (v .n - 1) (clampedNode v c d base) l) (base + (v .n - 1)) (clampedNode v c d base (v .n - 1))
   unfolding particleWith
-  last-place l h = next-place base (v .n) (v .n - 1) (heldNode v c d base) l (omega arith)
+  last-place l h = next-place base (v .n) (v .n - 1) (clampedNode v c d base) l (omega arith)

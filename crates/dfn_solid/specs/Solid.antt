@@ -7,13 +7,13 @@ use lib.ListN.{getD, replicate}
 use lib.Ieee.{Float, nan}
 use Rattle.binary64.specs.Operators.{_⊕_, _⊖_, _⊗_, _⊘_, f64, count}
 use Rattle.elementary.specs.Exp.{one}
-use Rattle.choice.specs.Choice.{clampOf, maxOf}
-use Rattle.turns.specs.Turns.{firstBy}
-use Rattle.places.specs.Places.{placesBy}
+use Rattle.min_max.specs.MinMax.{clampOf, maxOf}
+use Rattle.iterate.specs.Iterate.{firstBy}
+use Rattle.array_update.specs.ArrayUpdate.{placesBy}
 use Rattle.refusal.specs.Numbers.{refusalUnless, notFinite}
 use Rattle.refusal.specs.Ranges.{finite}
 use Rattle.dfn_places.specs.Places.{allFinite}
-use Rattle.dfn_solid.specs.declared.Grain.{Grain}
+use Rattle.dfn_solid.specs.declared.ParticleParams.{ParticleParams}
 use Rattle.dfn_solid.specs.declared.SolidUpdate.{SolidUpdate}
 
 abbrev pub at : List Float → ℕ → Float
@@ -23,18 +23,18 @@ abbrev half : Float
 half = f64 0x3fe0_0000_0000_0000
 
 -- c / max(c_max, 1e-3) - 0.5
-abbrev fromMiddle : Grain → Float → Float
+abbrev fromMiddle : ParticleParams → Float → Float
 fromMiddle v c = c ⊘ maxOf (v .«c_max») (f64 0x3f50_624d_d2f1_a9fc) ⊖ half
 
 -- d_ref * (1 + 0.3 * x * x)
-abbrev pub dSolid : Grain → Float → Float
+abbrev pub dSolid : ParticleParams → Float → Float
 dSolid v c = v .«d_ref» ⊗ (one ⊕ f64 0x3fd3_3333_3333_3333 ⊗ fromMiddle v c ⊗ fromMiddle v c)
 
 -- the diffusivities at the first n places
-unfoldable pub dSolids : Grain → List Float → ℕ → List Float
+unfoldable pub dSolids : ParticleParams → List Float → ℕ → List Float
 dSolids v c n = firstBy n (λ k. dSolid v (at c k)) (replicate 512 (f64 0))
 
-module _ (v : Grain) (c d : List Float) where
+module _ (v : ParticleParams) (c d : List Float) where
   -- r = i * dr, r_plus = r + 0.5 * dr, r_minus = max(r - 0.5 * dr, 0)
   abbrev radius : ℕ → Float
   radius i = count i ⊗ v .dr
@@ -69,12 +69,12 @@ module _ (v : Grain) (c d : List Float) where
   nodeWith base i = cond (eqb i 0) (centreWith base) (cond (ltb (i + 1) (v .n)) (innerWith (base + i) i) (surfaceWith (base + i)))
 
   -- held to 0 to the largest concentration
-  abbrev pub heldNode : ℕ → ℕ → Float
-  heldNode base i = clampOf (nodeWith base i) (f64 0) (v .«c_max»)
+  abbrev pub clampedNode : ℕ → ℕ → Float
+  clampedNode base i = clampOf (nodeWith base i) (f64 0) (v .«c_max»)
 
   -- the particle at `base` put anew
   unfoldable pub particleWith : ℕ → List Float → List Float
-  particleWith base out = placesBy base (v .n) (heldNode base) out
+  particleWith base out = placesBy base (v .n) (clampedNode base) out
 
   -- k particles put anew, and the sum of their surface stoichiometries
   unfoldable pub particlesWith : ℕ → List Float
@@ -94,14 +94,14 @@ pub record Solid : Type 0 where
   pub theta : Float
 
 -- with the diffusivities of the old places
-unfoldable pub solidAfter : Grain → List Float → ℕ → Solid
+unfoldable pub solidAfter : ParticleParams → List Float → ℕ → Solid
 solidAfter v c m = record {
   c = particlesWith v c (dSolids v c (m * v .n)) m;
   theta = surfacesWith v c (dSolids v c (m * v .n)) m ⊘ count (atLeastOne m);
 }
 
 -- the record that holds them: 8 where one of these numbers is not finite
-unfoldable pub solidUpdate : Grain → List Float → ℕ → SolidUpdate
+unfoldable pub solidUpdate : ParticleParams → List Float → ℕ → SolidUpdate
 solidUpdate v c m = record {
   refusal = refusalUnless (allFinite (solidAfter v c m .c) (m * v .n) && finite (solidAfter v c m .theta)) notFinite;
   «c_s» = solidAfter v c m .c;

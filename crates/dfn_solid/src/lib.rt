@@ -7,7 +7,7 @@ ghost use Prim.Native.Nat.{_+_, _<_, _≤_};
 ghost use Rattle.dfn_solid.specs.Solid.{dSolid, dSolids, innerWith, surfaceWith, centreWith, particleWith, atLeastOne, solidUpdate};
 
 // What the particles of one electrode work with: nodes of each, their distance, diffusivity, largest concentration, flux, interval.
-pub struct Grain {
+pub struct ParticleParams {
     pub n: usize,
     pub dr: f64,
     pub d_ref: f64,
@@ -24,15 +24,15 @@ pub struct SolidUpdate {
 }
 
 // The diffusivity at a concentration.
-pub fn d_s(v: Grain, c: f64) -> f64
+pub fn d_s(v: ParticleParams, c: f64) -> f64
     ensures { λ r. ⌜ r ≡ dSolid v c ⌝ }
 {
-    let x = c / choice::max(v.c_max, 1e-3) - 0.5;
+    let x = c / min_max::max(v.c_max, 1e-3) - 0.5;
     v.d_ref * (1.0 + 0.3 * x * x)
 }
 
 // The diffusivity at each of the first n places.
-fn diffusivities(v: Grain, c: &[f64; 512], n: usize) -> [f64; 512]
+fn diffusivities(v: ParticleParams, c: &[f64; 512], n: usize) -> [f64; 512]
     requires { ⌜ n ≤ 512 ⌝ }
     ensures { λ r. ⌜ r ≡ dSolids v (now (c .entry)) n ⌝ }
 {
@@ -44,28 +44,28 @@ fn diffusivities(v: Grain, c: &[f64; 512], n: usize) -> [f64; 512]
 }
 
 // The place k, which is the node i of its particle, between two others.
-fn inner_node(v: Grain, c: &[f64; 512], d: &[f64; 512], k: usize, i: usize) -> f64
+fn inner_node(v: ParticleParams, c: &[f64; 512], d: &[f64; 512], k: usize, i: usize) -> f64
     requires { ⌜ (1 ≤ k) × (k < 511) ⌝ }
     ensures { λ r. ⌜ r ≡ innerWith v (now (c .entry)) (now (d .entry)) k i ⌝ }
 {
     let r = std::num::nearest_u64_to_f64(i as u64) * v.dr;
     let up = r + 0.5 * v.dr;
-    let down = choice::max(r - 0.5 * v.dr, 0.0);
+    let down = min_max::max(r - 0.5 * v.dr, 0.0);
     let out = up * up * 0.5 * (d[k] + d[k + 1]) * (c[k + 1] - c[k]) / v.dr;
     let into = down * down * 0.5 * (d[k - 1] + d[k]) * (c[k] - c[k - 1]) / v.dr;
     c[k] + v.dt / (r * r * v.dr) * (out - into)
 }
 
 // The surface, which is the place k: the flux alone moves it.
-fn surface_node(v: Grain, c: &[f64; 512], d: &[f64; 512], k: usize) -> f64
+fn surface_node(v: ParticleParams, c: &[f64; 512], d: &[f64; 512], k: usize) -> f64
     requires { ⌜ k < 512 ⌝ }
     ensures { λ r. ⌜ r ≡ surfaceWith v (now (c .entry)) (now (d .entry)) k ⌝ }
 {
-    c[k] - v.dt * d[k] * (v.flux / choice::max(d[k], 1e-30)) / v.dr
+    c[k] - v.dt * d[k] * (v.flux / min_max::max(d[k], 1e-30)) / v.dr
 }
 
 // The centre of the particle at `base`: its neighbour's new value; where that is the surface, the surface's old one.
-fn centre_node(v: Grain, c: &[f64; 512], d: &[f64; 512], base: usize) -> f64
+fn centre_node(v: ParticleParams, c: &[f64; 512], d: &[f64; 512], base: usize) -> f64
     requires { ⌜ (2 ≤ v .n) × (base + v .n ≤ 512) ⌝ }
     ensures { λ r. ⌜ r ≡ centreWith v (now (c .entry)) (now (d .entry)) base ⌝ }
 {
@@ -77,16 +77,16 @@ fn centre_node(v: Grain, c: &[f64; 512], d: &[f64; 512], base: usize) -> f64
 
 // Puts the particle at `base` anew, each node held to 0 to the largest concentration: the centre, the nodes between, whose loop has no
 // branch, and the surface.
-fn move_particle(v: Grain, c: &[f64; 512], d: &[f64; 512], base: usize, out: &mut [f64; 512])
+fn move_particle(v: ParticleParams, c: &[f64; 512], d: &[f64; 512], base: usize, out: &mut [f64; 512])
     requires { ⌜ (2 ≤ v .n) × (base + v .n ≤ 512) ⌝ }
     ensures { λ _. ⌜ now (out .exit) ≡ particleWith v (now (c .entry)) (now (d .entry)) base (now (out .entry)) ⌝ }
 {
     let last = v.n - 1;
-    out[base] = choice::clamp(centre_node(v, c, d, base), 0.0, v.c_max);
+    out[base] = min_max::clamp(centre_node(v, c, d, base), 0.0, v.c_max);
     for i in 1..last {
-        out[base + i] = choice::clamp(inner_node(v, c, d, base + i, i), 0.0, v.c_max);
+        out[base + i] = min_max::clamp(inner_node(v, c, d, base + i, i), 0.0, v.c_max);
     }
-    out[base + last] = choice::clamp(surface_node(v, c, d, base + last), 0.0, v.c_max);
+    out[base + last] = min_max::clamp(surface_node(v, c, d, base + last), 0.0, v.c_max);
 }
 
 // A count, or 1 for none.
@@ -97,7 +97,7 @@ fn at_least_one(n: usize) -> u64
 }
 
 // The first `count` particles after a step, each node from the old ones; the other places as they were.
-pub fn update_solid(v: Grain, c: &[f64; 512], count: usize) -> SolidUpdate
+pub fn update_solid(v: ParticleParams, c: &[f64; 512], count: usize) -> SolidUpdate
     requires { ⌜ (2 ≤ v .n) × ((v .n ≤ 32) × (count ≤ 16)) ⌝ }
     ensures { λ r. ⌜ r ≡ solidUpdate v (now (c .entry)) count ⌝ }
 {

@@ -8,7 +8,7 @@ use Rattle.elementary.specs.Exp.{one}
 use Rattle.elementary.specs.Ln.{lnOf}
 use Rattle.elementary.specs.Asinh.{asinhOf}
 use Rattle.elementary.specs.Power.{powfOf}
-use Rattle.choice.specs.Choice.{clampOf, maxOf}
+use Rattle.min_max.specs.MinMax.{clampOf, maxOf}
 use Rattle.dfn_parameters.specs.Sides.{anodeOf, cathodeOf, areaOf, faraday, horner}
 use Rattle.dfn_parameters.specs.declared.DfnParams.{DfnParams}
 use Rattle.dfn_parameters.specs.declared.Side.{Side}
@@ -42,12 +42,12 @@ sideOf rtf s theta mid area current =
     overOf rtf (exchangeOf (s .k) mid (theta ⊗ s .«c_s_max») (s .«c_s_max»)) (current ⊘ (areaOf s ⊗ s .l ⊗ area))
 
 -- ---- open circuit
-abbrev held : Float → Float
-held theta = clampOf theta (f64 0x3f50_624d_d2f1_a9fc) (f64 0x3fef_f7ce_d916_872b)
+abbrev clamped : Float → Float
+clamped theta = clampOf theta (f64 0x3f50_624d_d2f1_a9fc) (f64 0x3fef_f7ce_d916_872b)
 
 unfoldable pub openOf : DfnParams → Float → Float → Float
 openOf p tneg tpos =
-    horner (p .«ocv_pos_coeffs») (held tpos) (p .«ocv_pos_count») ⊖ horner (p .«ocv_neg_coeffs») (held tneg) (p .«ocv_neg_count»)
+    horner (p .«ocv_pos_coeffs») (clamped tpos) (p .«ocv_pos_count») ⊖ horner (p .«ocv_neg_coeffs») (clamped tneg) (p .«ocv_neg_count»)
 
 -- ---- the terminal voltage
 -- 2 * rt_f * (1 - t_plus) * ln(max(c / c_e0, 1e-9))

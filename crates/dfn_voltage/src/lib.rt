@@ -11,18 +11,18 @@ ghost use Rattle.dfn_voltage.specs.Voltage.{layerOf, resistanceOf, excha
 fn layer(p: DfnParams, l: f64, eps: f64, ratio: f64) -> f64
     ensures { λ r. ⌜ r ≡ layerOf p l eps ratio ⌝ }
 {
-    l / choice::max(p.kappa0 * ratio * elementary::powf(eps, p.brugg), 1e-9)
+    l / min_max::max(p.kappa0 * ratio * elementary::powf(eps, p.brugg), 1e-9)
 }
 
 // The resistance of the electrolyte.
 fn resistance(p: DfnParams, c_e_mid: f64) -> f64
     ensures { λ r. ⌜ r ≡ resistanceOf p «c_e_mid» ⌝ }
 {
-    let ratio = choice::max(c_e_mid / p.c_e0, 1e-3);
+    let ratio = min_max::max(c_e_mid / p.c_e0, 1e-3);
     let neg = layer(p, p.l_neg, p.eps_e_elec, ratio);
     let sep = layer(p, p.l_sep, p.eps_e_sep, ratio);
     let pos = layer(p, p.l_pos, p.eps_e_elec, ratio);
-    (neg + sep + pos) / choice::max(p.area, 1e-9)
+    (neg + sep + pos) / min_max::max(p.area, 1e-9)
 }
 
 // The exchange current density of an electrode with the surface concentration c.
@@ -33,7 +33,7 @@ fn exchange_current(k: f64, c_e_mid: f64, c: f64, c_max: f64) -> f64
         * 96485.0
         * square_root::sqrt(c_e_mid)
         * square_root::sqrt(c)
-        * choice::max(square_root::sqrt(c_max - c), 0.0)
+        * min_max::max(square_root::sqrt(c_max - c), 0.0)
 }
 
 // The overpotential of a flux j at the exchange current density i0.
@@ -71,12 +71,12 @@ fn open_voltage(p: DfnParams, theta_neg: f64, theta_pos: f64) -> f64
     let u_neg = ocv(
         &neg,
         p.ocv_neg_count,
-        choice::clamp(theta_neg, 0.001, 0.999),
+        min_max::clamp(theta_neg, 0.001, 0.999),
     );
     let u_pos = ocv(
         &pos,
         p.ocv_pos_count,
-        choice::clamp(theta_pos, 0.001, 0.999),
+        min_max::clamp(theta_pos, 0.001, 0.999),
     );
     u_pos - u_neg
 }
@@ -98,10 +98,10 @@ pub fn compute_voltage(
     let eta_conc = 2.0
         * rt_f
         * (1.0 - p.t_plus)
-        * elementary::ln(choice::max(c_e_mid / p.c_e0, 1e-9));
+        * elementary::ln(min_max::max(c_e_mid / p.c_e0, 1e-9));
     let eta_neg = side_overpotential(rt_f, p.anode(), theta_neg, c_e_mid, p.area, -current);
     let eta_pos = side_overpotential(rt_f, p.cathode(), theta_pos, c_e_mid, p.area, current);
-    choice::clamp(
+    min_max::clamp(
         ocv - current * r_ion - eta_neg + eta_pos + eta_conc,
         0.0,
         5.0,

@@ -12,11 +12,11 @@ use Rattle.fraction.specs.Fraction.{Fraction, nat, pow2, _+F_, _-F_, _*F_, _/F_
 use Rattle.binary64.specs.Value.{val}
 use Rattle.diffusion.specs.SubStep.{subStep}
 use Rattle.diffusion.specs.Exact.{numbers, exactStep}
-use Rattle.diffusion.specs.Premises.{Sound, Whole}
-use Rattle.diffusion.specs.Run.{Grid, Move, drive, run, exactRun, Each, Both, AllReady, Stronger}
+use Rattle.diffusion.specs.Premises.{ParametersInRange, ProfileInRange}
+use Rattle.diffusion.specs.Run.{Grid, Move, subStepParams, run, exactRun, Each, Both, AllReady, Stronger}
 use Rattle.diffusion.specs.RunLaws.{run-whole, run-near, run-unused}
 use Rattle.diffusion.specs.Ranking.{ranking, both-length}
-use Rattle.diffusion.specs.Calls.{Stepper, after, accepted, total, exactAfter, Keeps, Lawful}
+use Rattle.diffusion.specs.Calls.{Stepper, after, accepted, total, exactAfter, ConditionsHold, Lawful}
 
 -- ---- lists
 module _ {A : Type 0} where
@@ -40,12 +40,12 @@ module _ (b : Grid) where
   run-append : (ms ns : List Move) (c : List Float) → run b (ms ++ ns) c ≡ run b ns (run b ms c)
   unfolding run
   run-append [] ns c = refl
-  run-append (m ∷ ms) ns c = run-append ms ns (subStep (drive b m) c)
+  run-append (m ∷ ms) ns c = run-append ms ns (subStep (subStepParams b m) c)
 
   exact-append : (ms ns : List Move) (x : List Fraction) → exactRun b (ms ++ ns) x ≡ exactRun b ns (exactRun b ms x)
   unfolding exactRun
   exact-append [] ns x = refl
-  exact-append (m ∷ ms) ns x = exact-append ms ns (exactStep (numbers (drive b m)) x)
+  exact-append (m ∷ ms) ns x = exact-append ms ns (exactStep (numbers (subStepParams b m)) x)
 
 -- ---- the sub-steps of a list of calls
 module _ {S Q : Type 0} (a : Stepper S Q) where
@@ -112,18 +112,18 @@ module _ {S Q : Type 0} (a : Stepper S Q) where
         by-test true g rs = Each.more (g tt) rs
         by-test false g rs = rs
 
-    ready : (s : S) (qs : List Q) → Inv s → Keeps a s qs → Each (λ q. AllReady (a .grid) (a .moves q)) (accepted a s qs)
-    ready s qs h ks = each-with (λ q ms ns. each-with (λ m x y. record { sound = x; kept = y }) ms ns) (of-accepted (λ q. Each (λ m. Sound (drive (a .grid) m)) (a .moves q)) (laws .sound) qs s h) ks
+    ready : (s : S) (qs : List Q) → Inv s → ConditionsHold a s qs → Each (λ q. AllReady (a .grid) (a .moves q)) (accepted a s qs)
+    ready s qs h ks = each-with (λ q ms ns. each-with (λ m x y. record { ranges = x; conditions = y }) ms ns) (of-accepted (λ q. Each (λ m. ParametersInRange (subStepParams (a .grid) m)) (a .moves q)) (laws .ranges) qs s h) ks
 
-    module _ (s : S) (qs : List Q) (h : Inv s) (w : Whole (a .grid .n) (val (a .grid .c_max)) (a .profile s)) (ks : Keeps a s qs) where
+    module _ (s : S) (qs : List Q) (h : Inv s) (w : ProfileInRange (a .grid .n) (val (a .grid .c_max)) (a .profile s)) (ks : ConditionsHold a s qs) where
       -- LISTS OF CALLS: with K the sub-steps of the accepted ones, every node is within K·M / 2 ^ 49 of the exact scheme from the same start
       pub calls-near : (i : ℕ) → i < a .grid .n
           → val (getD (a .profile (after a s qs)) i nan) -F getD (exactAfter a s qs (map val (a .profile s))) i (nat 0) within nat (total a s qs) *F val (a .grid .c_max) /F pow2 49
       calls-near i l = rw (after-is qs s h, exact-is qs s (map val (a .profile s)), ← total-is qs s) (run-near (a .grid) (made (accepted a s qs)) (a .profile s) (made-ready (ready s qs h ks)) w i l)
 
       -- its nodes are finite and from 0 to M
-      pub calls-whole : Whole (a .grid .n) (val (a .grid .c_max)) (a .profile (after a s qs))
-      calls-whole = rw (after-is qs s h) (run-whole (a .grid) (a .profile s) (made-ready (ready s qs h ks)) w)
+      pub calls-in-range : ProfileInRange (a .grid .n) (val (a .grid .c_max)) (a .profile (after a s qs))
+      calls-in-range = rw (after-is qs s h) (run-whole (a .grid) (a .profile s) (made-ready (ready s qs h ks)) w)
 
     -- unused places stay
     pub calls-unused : (s : S) (qs : List Q) → Inv s → (i : ℕ) (d : Float) → a .grid .n ≤ i → getD (a .profile (after a s qs)) i d ≡ getD (a .profile s) i d
@@ -131,7 +131,7 @@ module _ {S Q : Type 0} (a : Stepper S Q) where
 
     -- two lists of calls, from two states; R pairs their accepted calls, and gives sub-steps with the greater fluxes
     module _ {R : Q → Q → Type 0} (alike : (q q' : Q) → R q q' → AllReady (a .grid) (a .moves q) → AllReady (a .grid) (a .moves q') → Both Stronger (a .moves q) (a .moves q'))
-        (s s' : S) (qs qs' : List Q) (h : Inv s) (h' : Inv s') (ks : Keeps a s qs) (ks' : Keeps a s' qs') (pairs : Both R (accepted a s qs) (accepted a s' qs')) where
+        (s s' : S) (qs qs' : List Q) (h : Inv s) (h' : Inv s') (ks : ConditionsHold a s qs) (ks' : ConditionsHold a s' qs') (pairs : Both R (accepted a s qs) (accepted a s' qs')) where
       stronger : Both Stronger (made (accepted a s qs)) (made (accepted a s' qs'))
       stronger = made-both alike pairs (ready s qs h ks) (ready s' qs' h' ks')
 
@@ -139,7 +139,7 @@ module _ {S Q : Type 0} (a : Stepper S Q) where
       calls-total = sym (total-is qs s) ∙ both-length stronger ∙ total-is qs' s'
 
       -- RANKING: from equal profiles the second list's nodes are nowhere more than 2·K·M / 2 ^ 49 below the first's
-      pub calls-ranking : a .profile s ≡ a .profile s' → Whole (a .grid .n) (val (a .grid .c_max)) (a .profile s) → (i : ℕ) → i < a .grid .n
+      pub calls-ranking : a .profile s ≡ a .profile s' → ProfileInRange (a .grid .n) (val (a .grid .c_max)) (a .profile s) → (i : ℕ) → i < a .grid .n
           → val (getD (a .profile (after a s qs)) i nan) ≤F val (getD (a .profile (after a s' qs')) i nan) +F nat 2 *F nat (total a s qs) *F val (a .grid .c_max) /F pow2 49
       calls-ranking e w i l =
           let start : a .profile (after a s' qs') ≡ run (a .grid) (made (accepted a s' qs')) (a .profile s) = after-is qs' s' h' ∙ ap (run (a .grid) (made (accepted a s' qs'))) (sym e) in

@@ -9,8 +9,8 @@ use lib.ListN.{length}
 use lib.Ieee.{Float}
 use Rattle.fraction.specs.Fraction.{Fraction}
 use Rattle.diffusion.specs.Exact.{numbers}
-use Rattle.diffusion.specs.Premises.{Kept, Sound}
-use Rattle.diffusion.specs.Run.{Grid, Move, drive, run, exactRun, Each}
+use Rattle.diffusion.specs.Premises.{StepConditions, ParametersInRange}
+use Rattle.diffusion.specs.Run.{Grid, Move, subStepParams, run, exactRun, Each}
 
 pub record Stepper (S Q : Type 0) : Type 0 where
   -- the state that a call leads to, and whether it is accepted
@@ -44,12 +44,12 @@ module _ {S Q : Type 0} (a : Stepper S Q) where
   exactAfter s (q ∷ qs) x = exactAfter (a .step s q) qs (cond (a .ok s q) (exactRun (a .grid) (a .moves q) x) x)
 
   -- the demand's two conditions hold at every sub-step of the accepted calls
-  abbrev pub Keeps : S → List Q → Type 0
-  Keeps s qs = Each (λ q. Each (λ m. Kept (numbers (drive (a .grid) m))) (a .moves q)) (accepted s qs)
+  abbrev pub ConditionsHold : S → List Q → Type 0
+  ConditionsHold s qs = Each (λ q. Each (λ m. StepConditions (numbers (subStepParams (a .grid) m))) (a .moves q)) (accepted s qs)
 
   -- What is to be shown of a stepper, for the states in `Inv` (of one sheet and one grid, say): `step` stays in Inv, it makes an accepted call's sub-steps and keeps the profile else,
   -- and the numbers of an accepted call are in their ranges.
   pub record Lawful (Inv : S → Type 0) : Type 0 where
     pub stays : (s : S) (q : Q) → Inv s → Inv (a .step s q)
     pub law : (s : S) (q : Q) → Inv s → a .profile (a .step s q) ≡ cond (a .ok s q) (run (a .grid) (a .moves q) (a .profile s)) (a .profile s)
-    pub sound : (s : S) (q : Q) → Inv s → T (a .ok s q) → Each (λ m. Sound (drive (a .grid) m)) (a .moves q)
+    pub ranges : (s : S) (q : Q) → Inv s → T (a .ok s q) → Each (λ m. ParametersInRange (subStepParams (a .grid) m)) (a .moves q)

@@ -8,7 +8,7 @@ use Rattle.fraction.specs.Fraction.{Fraction, clampF, _≈F_, _≤F_}
 use Rattle.fraction.specs.Field.{≈F-sym, ≈F-trans, ≤F-of-≈F, ≤F-trans, lt-not-le, le-or-lt, le-of-lt}
 use Rattle.fraction.specs.Clamp.{clamp-same, clamp-low, clamp-high}
 use Rattle.binary64.specs.Value.{val, lt-val, val-lt}
-use Rattle.choice.specs.Choice.{clampOf}
+use Rattle.min_max.specs.MinMax.{clampOf}
 
 choose : {A : Type 0} (P : A → Type 0) (b : Bool) {x y : A} → (T b → P x) → (T (not b) → P y) → P (cond b x y)
 choose P true f g = f tt

@@ -4,19 +4,19 @@ use mathlib.Core.Path.{_≡_, refl, _∙_, ap}
 use mathlib.Core.List.{List}
 use lib.ListN.{replicate}
 use lib.Ieee.{Float}
-use Rattle.turns.specs.Turns.{times}
+use Rattle.iterate.specs.Iterate.{times}
 use Rattle.diffusion.specs.SubStep.{subStep}
-use Rattle.diffusion.specs.Run.{Grid, Move, drive, run, Each, Both}
+use Rattle.diffusion.specs.Run.{Grid, Move, subStepParams, run, Each, Both}
 
 times-inside : {A : Type 0} (f : A → A) (k : ℕ) (x : A) → times k f (f x) ≡ f (times k f x)
 unfolding times
 times-inside f zero x = refl
 times-inside f (suc k) x = ap f (times-inside f k x)
 
-pub run-times : (b : Grid) (m : Move) (k : ℕ) (c : List Float) → run b (replicate k m) c ≡ times k (subStep (drive b m)) c
+pub run-times : (b : Grid) (m : Move) (k : ℕ) (c : List Float) → run b (replicate k m) c ≡ times k (subStep (subStepParams b m)) c
 unfolding run times
 run-times b m zero c = refl
-run-times b m (suc k) c = run-times b m k (subStep (drive b m) c) ∙ times-inside (subStep (drive b m)) k c
+run-times b m (suc k) c = run-times b m k (subStep (subStepParams b m) c) ∙ times-inside (subStep (subStepParams b m)) k c
 
 pub each-copies : {A : Type 0} (P : A → Type 0) (x : A) (k : ℕ) → P x → Each P (replicate k x)
 each-copies P x zero p = Each.none

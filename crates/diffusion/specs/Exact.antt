@@ -6,8 +6,8 @@ use lib.Dec.{eqb}
 use lib.ListN.{getD}
 use Rattle.fraction.specs.Fraction.{Fraction, nat, _+F_, _-F_, _*F_, _/F_, clampF}
 use Rattle.binary64.specs.Value.{val}
-use Rattle.turns.specs.Turns.{firstBy}
-use Rattle.diffusion.specs.SubStep.{Drive}
+use Rattle.iterate.specs.Iterate.{firstBy}
+use Rattle.diffusion.specs.SubStep.{SubStepParams}
 
 -- how many nodes, the spacing, the diffusivity, the most that a node holds, the flux, the length of the sub-step
 pub record Numbers : Type 0 where
@@ -44,5 +44,5 @@ module _ (e : Numbers) where
   exactStep c = firstBy (e .n) (exactNode (λ i. getD c i (nat 0))) c
 
 -- a binary64 sub-step's own numbers, as fractions
-abbrev pub numbers : Drive → Numbers
+abbrev pub numbers : SubStepParams → Numbers
 numbers v = record { n = v .n; h = val (v .dr); D = val (v .d_s); M = val (v .c_max); flux = val (v .j_n); t = val (v .dt) }

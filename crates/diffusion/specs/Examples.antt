@@ -12,12 +12,12 @@ use Rattle.fraction.specs.Fraction.{Fraction, whole, nat, frac, pow2, turned, i
 use Rattle.fraction.specs.Order.{lit≤F, lit≈F}
 use Rattle.binary64.specs.Operators.{f64}
 use Rattle.binary64.specs.Value.{val}
-use Rattle.turns.specs.Turns.{firstBy}
+use Rattle.iterate.specs.Iterate.{firstBy}
 use Rattle.diffusion.specs.SubStep.{rate, node, subStep}
 use Rattle.diffusion.specs.Exact.{Numbers, numbers, g, centre, inner, surface, moved, exactNode, exactStep}
-use Rattle.diffusion.specs.Premises.{Kept, Sound, Held, Whole}
-use Rattle.diffusion.specs.Run.{Grid, Move, drive, run, Each, Both}
-use Rattle.diffusion.specs.Calls.{Stepper, after, accepted, total, exactAfter, Keeps, Lawful}
+use Rattle.diffusion.specs.Premises.{StepConditions, ParametersInRange, NodeInRange, ProfileInRange}
+use Rattle.diffusion.specs.Run.{Grid, Move, subStepParams, run, Each, Both}
+use Rattle.diffusion.specs.Calls.{Stepper, after, accepted, total, exactAfter, ConditionsHold, Lawful}
 use Rattle.diffusion.specs.CallLaws.{calls-near, calls-ranking}
 
 -- ---- h = D = 1, t = 1/6 so that g = 1/6, M = 100, from the nodes 0, 60, 0
@@ -90,9 +90,9 @@ move j = record { d_s = D; j_n = j; dt = second }
 abbrev cell : Stepper (List Float) Float
 cell = record { step = λ s j. cond (finite j) (run graphite (move j ∷ []) s) s; ok = λ s j. finite j; moves = λ j. move j ∷ []; profile = λ s. s; grid = graphite }
 
-graphite-sound : (j : Float) → T (finite j) → Sound (drive graphite (move j))
+graphite-in-range : (j : Float) → T (finite j) → ParametersInRange (subStepParams graphite (move j))
 unfolding val ofBits _*F_ whole
-graphite-sound j t = record {
+graphite-in-range j t = record {
   n-low = lit≤ tt;
   n-high = lit≤ tt;
   dr = record { low = lit≤F tt; high = lit≤F tt };
@@ -104,41 +104,41 @@ graphite-sound j t = record {
 }
 
 lawful : Lawful cell (λ s. Unit {0})
-lawful = record { stays = λ s j i. tt; law = λ s j i. refl; sound = λ s j i t. Each.more (graphite-sound j t) Each.none }
+lawful = record { stays = λ s j i. tt; law = λ s j i. refl; ranges = λ s j i t. Each.more (graphite-in-range j t) Each.none }
 
-fast-kept : Kept (numbers (drive graphite (move fast)))
+fast-conditions : StepConditions (numbers (subStepParams graphite (move fast)))
 unfolding val neg negF ofBits _*F_ whole ∣_∣
-fast-kept = record { stable = lit≤F tt; gentle = lit≤F tt }
+fast-conditions = record { stable = lit≤F tt; fluxBound = lit≤F tt }
 
-slow-kept : Kept (numbers (drive graphite (move slow)))
+slow-conditions : StepConditions (numbers (subStepParams graphite (move slow)))
 unfolding val neg negF ofBits _*F_ whole ∣_∣
-slow-kept = record { stable = lit≤F tt; gentle = lit≤F tt }
+slow-conditions = record { stable = lit≤F tt; fluxBound = lit≤F tt }
 
-all-held : Whole 11 (val M) start
+all-in-range : ProfileInRange 11 (val M) start
 unfolding val ofBits whole
-all-held = record { long = lit≤ tt; held = λ i l. subst (λ (x : Float). Held (val M) x) (sym (getD-replicate 11 i c nan l)) (record { fine = tt; range = record { lower = lit≤F tt; upper = lit≤F tt } }) }
+all-in-range = record { long = lit≤ tt; nodes = λ i l. subst (λ (x : Float). NodeInRange (val M) x) (sym (getD-replicate 11 i c nan l)) (record { fine = tt; range = record { lower = lit≤F tt; upper = lit≤F tt } }) }
 
 -- a refused call stands between two that are accepted, and adds nothing to K
 abbrev discharge : List Float
 discharge = fast ∷ nan ∷ fast ∷ []
 
-abbrev gentler : List Float
-gentler = slow ∷ slow ∷ nan ∷ []
+abbrev weakerFlux : List Float
+weakerFlux = slow ∷ slow ∷ nan ∷ []
 
 counted : total cell start discharge ≡ 2
 unfolding total ofBits neg
 counted = refl
 
-fast-keeps : Keeps cell start discharge
+fast-conditions-hold : ConditionsHold cell start discharge
 unfolding accepted ofBits neg
-fast-keeps = Each.more (Each.more fast-kept Each.none) (Each.more (Each.more fast-kept Each.none) Each.none)
+fast-conditions-hold = Each.more (Each.more fast-conditions Each.none) (Each.more (Each.more fast-conditions Each.none) Each.none)
 
-slow-keeps : Keeps cell start gentler
+slow-conditions-hold : ConditionsHold cell start weakerFlux
 unfolding accepted ofBits neg
-slow-keeps = Each.more (Each.more slow-kept Each.none) (Each.more (Each.more slow-kept Each.none) Each.none)
+slow-conditions-hold = Each.more (Each.more slow-conditions Each.none) (Each.more (Each.more slow-conditions Each.none) Each.none)
 
 pub graphite-near : (i : ℕ) → i < 11 → val (getD (after cell start discharge) i nan) -F getD (exactAfter cell start discharge (map val start)) i (nat 0) within nat 2 *F val M /F pow2 49
-graphite-near i l = rw counted at (calls-near cell lawful start discharge tt all-held fast-keeps i l)
+graphite-near i l = rw counted at (calls-near cell lawful start discharge tt all-in-range fast-conditions-hold i l)
 
 -- the one sub-step moves the surface from 25466.4 to 24762.4
 surface-moved : getD (run graphite (move fast ∷ []) start) 10 nan ≡ f64 0x40d8_2e99_9999_999a
@@ -150,10 +150,10 @@ flux-order : val fast ≤F val slow
 unfolding val neg negF ofBits
 flux-order = lit≤F tt
 
-paired : Both (λ j j'. val j ≤F val j') (accepted cell start discharge) (accepted cell start gentler)
+paired : Both (λ j j'. val j ≤F val j') (accepted cell start discharge) (accepted cell start weakerFlux)
 unfolding accepted ofBits neg
 paired = Both.more flux-order (Both.more flux-order Both.none)
 
-pub graphite-ranked : (i : ℕ) → i < 11 → val (getD (after cell start discharge) i nan) ≤F val (getD (after cell start gentler) i nan) +F nat 2 *F nat 2 *F val M /F pow2 49
+pub graphite-ranked : (i : ℕ) → i < 11 → val (getD (after cell start discharge) i nan) ≤F val (getD (after cell start weakerFlux) i nan) +F nat 2 *F nat 2 *F val M /F pow2 49
 graphite-ranked i l = rw counted at
-    (calls-ranking cell lawful (λ j j' k r r'. Both.more (record { same-d = refl; same-t = refl; flux = k }) Both.none) start start discharge gentler tt tt fast-keeps slow-keeps paired refl all-held i l)
+    (calls-ranking cell lawful (λ j j' k r r'. Both.more (record { same-d = refl; same-t = refl; flux = k }) Both.none) start start discharge weakerFlux tt tt fast-conditions-hold slow-conditions-hold paired refl all-in-range i l)

@@ -7,8 +7,8 @@
 --
 -- WHAT IS DEFINED
 --   SubStep     the sub-step in binary64, operation by operation as the program has it; the contracts of the particle's and of the solver's step cite it
---   Premises    `Kept e`: the demand's two conditions, 6·D·t ≤ h² and 2·h·∣flux∣ ≤ D·M, in exact fractions.  `Sound v`: 3 to 64 nodes, h and M within 2 ^ ±100, D within 2 ^ ±300,
---               an interval at least 0, a finite flux.  `Whole n M c`: each of the first n places of c is finite and from 0 to M
+--   Premises    `StepConditions e`: the demand's two conditions, 6·D·t ≤ h² and 2·h·∣flux∣ ≤ D·M, in exact fractions.  `ParametersInRange v`: 3 to 64 nodes, h and M within 2 ^ ±100, D within 2 ^ ±300,
+--               an interval at least 0, a finite flux.  `ProfileInRange n M c`: each of the first n places of c is finite and from 0 to M
 --   Run         `run` and `exactRun`: a list of sub-steps on one grid, each with its own diffusivity, flux and length.  `Each`, `Both`: what holds place by place of one or two lists
 --   Calls       `Stepper`: a state of any kind, its calls, and the sub-steps that an accepted call makes.  `Lawful`: what a particle or an electrode has to show of its own
 --
@@ -16,19 +16,19 @@
 --   ExactLaws   `contraction`: one exact sub-step brings two profiles no further apart;  `monotone`: it keeps their order, in the profile and in the flux. Both need 6·g ≤ 1 only
 --   Chain       centre-, inner- and surface-near: before the clamp each node is within 14·M / 2 ^ 53, by the roundings counted one by one
 --   ClampValue  the clamp of binary64 is the exact clamp
---   OneStep     `sub-step-whole`, `sub-step-near`: one sub-step keeps every node finite and from 0 to M, and within 14·M / 2 ^ 53 of the exact sub-step of the same profile
+--   OneStep     `sub-step-in-range`, `sub-step-near`: one sub-step keeps every node finite and from 0 to M, and within 14·M / 2 ^ 53 of the exact sub-step of the same profile
 --   Profile     what each place holds after a sub-step; unused places stay
 --   RunLaws     `run-near`: K sub-steps, K·M / 2 ^ 49;  `run-whole`, `run-length`, `run-unused`
 --   Ranking     `ranking`, for two lists of sub-steps alike but for the fluxes
 --   Copies      `run-times`: one sub-step k times over is a list of k
---   CallLaws    the same for lists of calls:  `calls-near`, `calls-whole`, `calls-unused`, `calls-ranking`, `calls-total`
+--   CallLaws    the same for lists of calls:  `calls-near`, `calls-in-range`, `calls-unused`, `calls-ranking`, `calls-total`
 --   Examples    the exact scheme worked out on three nodes;  graphite, with a refused call in the list, meets every premise
 --
 -- HOW TO USE IT
 -- A particle or an electrode gives a `Stepper`: `step` and `ok` from the definition that its contract cites, `moves` the sub-steps of a call (`replicate k m` for k equal ones), its
 -- profile and its grid. It shows `Lawful` for the states of one sheet and one grid: that the profile after a call is `run` of those moves or as it was, and that the checks which
--- accept a call put its numbers in their ranges. `Keeps` and `Whole` of the start are then the only premises of `calls-near` (a profile that passed a program's test is `Whole` by
--- `held-tested`). For the ranking R pairs two calls: it has to give sub-steps alike in diffusivity and length, the second's flux no less. Where the flux falls with the
+-- accept a call put its numbers in their ranges. `ConditionsHold` and `ProfileInRange` of the start are then the only premises of `calls-near` (a profile that passed a program's test is `ProfileInRange` by
+-- `node-tested`). For the ranking R pairs two calls: it has to give sub-steps alike in diffusivity and length, the second's flux no less. Where the flux falls with the
 -- current, exchange the two lists (`both-flip`); K is the same by `calls-total`.
 pub mod SubStep
 pub mod Exact

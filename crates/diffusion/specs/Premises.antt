@@ -13,16 +13,16 @@ use Rattle.fraction.specs.Size.{Size, size-pos}
 use Rattle.binary64.specs.Operators.{f64}
 use Rattle.binary64.specs.Order.{between-finite}
 use Rattle.binary64.specs.Value.{val, le-val}
-use Rattle.diffusion.specs.SubStep.{Drive}
+use Rattle.diffusion.specs.SubStep.{SubStepParams}
 use Rattle.diffusion.specs.Exact.{Numbers, numbers}
 
 -- the demand's two conditions, in exact fractions: 6·D·t ≤ h² and 2·h·∣flux∣ ≤ D·M
-pub record Kept (e : Numbers) : Type 0 where
+pub record StepConditions (e : Numbers) : Type 0 where
   pub stable : nat 6 *F e .D *F e .t ≤F e .h *F e .h
-  pub gentle : nat 2 *F e .h *F ∣ e .flux ∣ ≤F e .D *F e .M
+  pub fluxBound : nat 2 *F e .h *F ∣ e .flux ∣ ≤F e .D *F e .M
 
 -- `Size x e f` is 2 ^ -e ≤ x ≤ 2 ^ f; what has a size is finite
-pub record Sound (v : Drive) : Type 0 where
+pub record ParametersInRange (v : SubStepParams) : Type 0 where
   pub n-low : 3 ≤ v .n
   pub n-high : v .n ≤ 64
   pub dr : Size (val (v .dr)) 100 100
@@ -32,9 +32,9 @@ pub record Sound (v : Drive) : Type 0 where
   pub dt-fine : T (finite (v .dt))
   pub dt-low : nat 0 ≤F val (v .dt)
 
-pub record Ready (v : Drive) : Type 0 where
-  pub sound : Sound v
-  pub kept : Kept (numbers v)
+pub record Ready (v : SubStepParams) : Type 0 where
+  pub ranges : ParametersInRange v
+  pub conditions : StepConditions (numbers v)
 
 -- ---- 0, and the nodes
 pub zero-fine : T (finite (f64 0))
@@ -46,18 +46,18 @@ unfolding ofBits val whole
 zero-val = lit≈F refl
 
 -- a node: finite, and from 0 to M
-pub record Held (M : Fraction) (x : Float) : Type 0 where
+pub record NodeInRange (M : Fraction) (x : Float) : Type 0 where
   pub fine : T (finite x)
   pub range : val x from nat 0 to M
 
 -- a profile: each of its first n places
-pub record Whole (n : ℕ) (M : Fraction) (c : List Float) : Type 0 where
+pub record ProfileInRange (n : ℕ) (M : Fraction) (c : List Float) : Type 0 where
   pub long : n ≤ length c
-  pub held : (i : ℕ) → i < n → Held M (getD c i nan)
+  pub nodes : (i : ℕ) → i < n → NodeInRange M (getD c i nan)
 
 -- a node that a program's comparisons found to be from 0 to M
-pub held-tested : (x M : Float) → T (finite M) → T (le (f64 0) x) → T (le x M) → Held (val M) x
-held-tested x M p h k =
+pub node-tested : (x M : Float) → T (finite M) → T (le (f64 0) x) → T (le x M) → NodeInRange (val M) x
+node-tested x M p h k =
     let f = between-finite (f64 0) x M zero-fine p h k in
     record { fine = f; range = record { lower = ≤F-trans (≤F-of-≈F (≈F-sym zero-val)) (le-val (f64 0) x zero-fine f h); upper = le-val x M f p k } }
 
@@ -69,5 +69,5 @@ pub record Stable (e : Numbers) : Type 0 where
   pub t-low : nat 0 ≤F e .t
   pub stable : nat 6 *F e .D *F e .t ≤F e .h *F e .h
 
-pub ready-stable : {v : Drive} → Ready v → Stable (numbers v)
-ready-stable r = record { n-low = r .sound .n-low; h-pos = size-pos (r .sound .dr); D-low = le-of-lt (size-pos (r .sound .d_s)); t-low = r .sound .dt-low; stable = r .kept .stable }
+pub ready-stable : {v : SubStepParams} → Ready v → Stable (numbers v)
+ready-stable r = record { n-low = r .ranges .n-low; h-pos = size-pos (r .ranges .dr); D-low = le-of-lt (size-pos (r .ranges .d_s)); t-low = r .ranges .dt-low; stable = r .conditions .stable }

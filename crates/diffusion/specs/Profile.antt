@@ -6,11 +6,11 @@ use lib.ListN.{length, getD, List·getD-map}
 use lib.Ieee.{Float, nan}
 use Rattle.fraction.specs.Fraction.{Fraction, nat}
 use Rattle.binary64.specs.Value.{val}
-use Rattle.turns.specs.Turns.{first-length, first-below, first-above}
-use Rattle.diffusion.specs.SubStep.{Drive, node, subStep}
+use Rattle.iterate.specs.Iterate.{first-length, first-below, first-above}
+use Rattle.diffusion.specs.SubStep.{SubStepParams, node, subStep}
 use Rattle.diffusion.specs.Exact.{Numbers, exactNode, exactStep}
 
-module _ (v : Drive) (c : List Float) where
+module _ (v : SubStepParams) (c : List Float) where
   pub step-length : length (subStep v c) ≡ length c
   unfolding subStep
   step-length = first-length (node v (λ k. getD c k nan)) c (v .n)

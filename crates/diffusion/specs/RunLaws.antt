@@ -17,10 +17,10 @@ use Rattle.binary64.specs.Value.{val}
 use Rattle.diffusion.specs.SubStep.{subStep}
 use Rattle.diffusion.specs.Exact.{Numbers, numbers, exactStep}
 use Rattle.diffusion.specs.ExactLaws.{contraction}
-use Rattle.diffusion.specs.Premises.{Ready, Stable, Whole, ready-stable}
+use Rattle.diffusion.specs.Premises.{Ready, Stable, ProfileInRange, ready-stable}
 use Rattle.diffusion.specs.Profile.{step-length, step-unused, exact-length, exact-place, values-at}
-use Rattle.diffusion.specs.OneStep.{sub-step-whole, sub-step-near}
-use Rattle.diffusion.specs.Run.{Grid, Move, drive, run, exactRun, Each, AllReady}
+use Rattle.diffusion.specs.OneStep.{sub-step-in-range, sub-step-near}
+use Rattle.diffusion.specs.Run.{Grid, Move, subStepParams, run, exactRun, Each, AllReady}
 
 -- a sub-step's share of the bound: the 14 / 2 ^ 53 of its rounding are within it
 abbrev pub share : Fraction
@@ -51,19 +51,19 @@ module _ (b : Grid) where
   abbrev M : Fraction
   M = val (b .c_max)
 
-  abbrev AllHeld : List Float → Type 0
-  AllHeld c = Whole (b .n) M c
+  abbrev AllInRange : List Float → Type 0
+  AllInRange c = ProfileInRange (b .n) M c
 
-  pub tracks-start : (c : List Float) → AllHeld c → Tracks b c (map val c) 0
+  pub tracks-start : (c : List Float) → AllInRange c → Tracks b c (map val c) 0
   tracks-start c w = record {
     long = rw (length-map c val) (w .long);
     near = λ i l. rw (values-at c i) (within-by (val (getD c i nan) ∷ M ∷ share ∷ []) 0 (num 0) (num 0) (search quote depth 24) tt tt);
   }
 
-  pub tracks-step : {m : Move} {c : List Float} {x : List Fraction} {K : ℕ} → Ready (drive b m) → AllHeld c → Tracks b c x K → Tracks b (subStep (drive b m) c) (exactStep (numbers (drive b m)) x) (suc K)
+  pub tracks-step : {m : Move} {c : List Float} {x : List Fraction} {K : ℕ} → Ready (subStepParams b m) → AllInRange c → Tracks b c x K → Tracks b (subStep (subStepParams b m) c) (exactStep (numbers (subStepParams b m)) x) (suc K)
   tracks-step {m} {c} {x} {K} r w h =
-      let v = drive b m in
-      let e = numbers (drive b m) in
+      let v = subStepParams b m in
+      let e = numbers (subStepParams b m) in
       let p : b .n ≤ length (map val c) = rw (length-map c val) (w .long) in
       let q : b .n ≤ length x = h .long in
       record {
@@ -72,23 +72,23 @@ module _ (b : Grid) where
             (apart-trans (val (getD (subStep v c) i nan)) (getD (exactStep e (map val c)) i (nat 0)) (getD (exactStep e x) i (nat 0))
             (sub-step-near v r c w i l)
             (exact-apart (ready-stable r) (map val c) x p q (λ k o. rw (values-at c k) (h .near k o)) i l))
-            (one-more K (le-of-lt (size-pos (r .sound .c_max))));
+            (one-more K (le-of-lt (size-pos (r .ranges .c_max))));
       }
 
-  pub run-whole : {ms : List Move} (c : List Float) → AllReady b ms → AllHeld c → AllHeld (run b ms c)
+  pub run-whole : {ms : List Move} (c : List Float) → AllReady b ms → AllInRange c → AllInRange (run b ms c)
   unfolding run
   run-whole c Each.none w = w
-  run-whole c (Each.more {x = m} r rs) w = run-whole (subStep (drive b m) c) rs (sub-step-whole (drive b m) r c w)
+  run-whole c (Each.more {x = m} r rs) w = run-whole (subStep (subStepParams b m) c) rs (sub-step-in-range (subStepParams b m) r c w)
 
-  pub run-tracks : {ms : List Move} (c : List Float) (x : List Fraction) (K : ℕ) → AllReady b ms → AllHeld c → Tracks b c x K → Tracks b (run b ms c) (exactRun b ms x) (length ms + K)
+  pub run-tracks : {ms : List Move} (c : List Float) (x : List Fraction) (K : ℕ) → AllReady b ms → AllInRange c → Tracks b c x K → Tracks b (run b ms c) (exactRun b ms x) (length ms + K)
   unfolding run exactRun
   run-tracks c x K Each.none w h = rw zero-add h
   run-tracks c x K (Each.more {x = m} {xs = ms} r rs) w h =
-      subst (λ (k : ℕ). Tracks b (run b ms (subStep (drive b m) c)) (exactRun b ms (exactStep (numbers (drive b m)) x)) k) (omega arith)
-      (run-tracks (subStep (drive b m) c) (exactStep (numbers (drive b m)) x) (suc K) rs (sub-step-whole (drive b m) r c w) (tracks-step r w h))
+      subst (λ (k : ℕ). Tracks b (run b ms (subStep (subStepParams b m) c)) (exactRun b ms (exactStep (numbers (subStepParams b m)) x)) k) (omega arith)
+      (run-tracks (subStep (subStepParams b m) c) (exactStep (numbers (subStepParams b m)) x) (suc K) rs (sub-step-in-range (subStepParams b m) r c w) (tracks-step r w h))
 
   -- LISTS OF SUB-STEPS: with K their number, every node is within K·M / 2 ^ 49 of the exact scheme from the same start
-  pub run-near : (ms : List Move) (c : List Float) → AllReady b ms → Whole (b .n) (val (b .c_max)) c → (i : ℕ) → i < b .n
+  pub run-near : (ms : List Move) (c : List Float) → AllReady b ms → ProfileInRange (b .n) (val (b .c_max)) c → (i : ℕ) → i < b .n
       → val (getD (run b ms c) i nan) -F getD (exactRun b ms (map val c)) i (nat 0) within nat (length ms) *F val (b .c_max) /F pow2 49
   run-near ms c rs w i l = (subst (λ (k : ℕ). Tracks b (run b ms c) (exactRun b ms (map val c)) k) (add-zero (length ms)) (run-tracks c (map val c) 0 rs w (tracks-start c w))) .near i l
 
@@ -96,9 +96,9 @@ module _ (b : Grid) where
   pub run-length : (ms : List Move) (c : List Float) → length (run b ms c) ≡ length c
   unfolding run
   run-length [] c = refl
-  run-length (m ∷ ms) c = run-length ms (subStep (drive b m) c) ∙ step-length (drive b m) c
+  run-length (m ∷ ms) c = run-length ms (subStep (subStepParams b m) c) ∙ step-length (subStepParams b m) c
 
   pub run-unused : (ms : List Move) (c : List Float) (i : ℕ) (d : Float) → b .n ≤ i → getD (run b ms c) i d ≡ getD c i d
   unfolding run
   run-unused [] c i d l = refl
-  run-unused (m ∷ ms) c i d l = run-unused ms (subStep (drive b m) c) i d l ∙ step-unused (drive b m) c i d l
+  run-unused (m ∷ ms) c i d l = run-unused ms (subStep (subStepParams b m) c) i d l ∙ step-unused (subStepParams b m) c i d l

@@ -6,8 +6,8 @@ use lib.Dec.{ltb, eqb}
 use lib.ListN.{getD}
 use lib.Ieee.{Float, nan}
 use Rattle.binary64.specs.Operators.{_⊕_, _⊖_, _⊗_, _⊘_, f64, count}
-use Rattle.choice.specs.Choice.{clampOf}
-use Rattle.turns.specs.Turns.{firstBy}
+use Rattle.min_max.specs.MinMax.{clampOf}
+use Rattle.iterate.specs.Iterate.{firstBy}
 
 -- 2 and 6
 abbrev pub two : Float
@@ -17,7 +17,7 @@ abbrev pub six : Float
 six = f64 0x4018_0000_0000_0000
 
 -- what a sub-step works with: how many nodes, the spacing, the diffusivity, the most that a node holds, the flux, the interval
-pub record Drive : Type 0 where
+pub record SubStepParams : Type 0 where
   pub n : ℕ
   pub dr : Float
   pub d_s : Float
@@ -25,7 +25,7 @@ pub record Drive : Type 0 where
   pub j_n : Float
   pub dt : Float
 
-module _ (v : Drive) where
+module _ (v : SubStepParams) where
   -- the rate at the centre
   abbrev pub centreRate : Float → Float → Float
   centreRate c0 c1 = six ⊗ v .d_s ⊗ (c1 ⊖ c0) ⊘ (v .dr ⊗ v .dr)

@@ -7,7 +7,7 @@ use crate::text::look_up;
 use crate::text::say;
 use electrode::ElectrodeParams;
 use kinetics::SpmConfig;
-use solver::SpmAnswer;
+use solver::SpmBuildAnswer;
 use solver::SpmSolver;
 
 // What is wrong with a setting, by its place in `say_fault`'s list.
@@ -117,7 +117,7 @@ pub(crate) fn all_given(v: &[f64; 30]) -> bool {
 
 // What is no whole number counts as 0.
 fn whole(x: f64) -> u64 {
-    let n = choice::ceil_count(x);
+    let n = min_max::ceil_count(x);
     if std::num::nearest_u64_to_f64(n) == x {
         return n;
     }
@@ -155,7 +155,7 @@ fn cathode_of(v: [f64; 30]) -> ElectrodeParams {
 }
 
 // The cell that the numbers describe, or its refusal.
-pub(crate) fn cell_of(v: [f64; 30]) -> SpmAnswer {
+pub(crate) fn cell_of(v: [f64; 30]) -> SpmBuildAnswer {
     let config = SpmConfig {
         n_nodes: whole(v[4]) as usize,
         v_min: v[5],

@@ -8,36 +8,36 @@ use lib.Ieee.{Float, lt}
 use Rattle.binary64.specs.Operators.{_⊕_, f64}
 use Rattle.refusal.specs.Numbers as N
 use Rattle.refusal.specs.Ranges.{finite, loadFits, intervalFits, temperatureFits}
-use Rattle.runs.specs.Endings.{Ended, endingSaid, endingOf, byRefusal}
+use Rattle.runs.specs.Endings.{Ended, endedBy, endingOf, byRefusal}
 use Rattle.runs.specs.Rows.{runAfter, rowsAfter}
 use Rattle.solver.specs.declared.SpmSolver.{SpmSolver}
 use Rattle.solver_report.specs.declared.SpmState.{SpmState}
 use Rattle.solver_report.specs.Report.{noState}
-use Rattle.solver.specs.declared.SpmStep.{SpmStep}
+use Rattle.solver.specs.declared.SpmStepAnswer.{SpmStepAnswer}
 use Rattle.solver.specs.Cell.{gridFits, cellFits}
 use Rattle.solver.specs.Step.{stepped}
-use Rattle.discharge_run.specs.declared.Feed.{Feed}
-use Rattle.discharge_run.specs.declared.Run.{Run}
+use Rattle.discharge_run.specs.declared.RunSettings.{RunSettings}
+use Rattle.discharge_run.specs.declared.RunState.{RunState}
 use Rattle.discharge_run.specs.declared.DischargeRun.{DischargeRun}
 
-abbrev pub feedOf : Float → Float → Float → Float → Feed
-feedOf i dt t limit = record { «current_a» = i; dt = dt; «temp_k» = t; «max_time_s» = limit }
+abbrev pub runSettings : Float → Float → Float → Float → RunSettings
+runSettings i dt t limit = record { «current_a» = i; dt = dt; «temp_k» = t; «max_time_s» = limit }
 
 -- ---- the endings
 -- the run's own clock is not below the limit
-abbrev pub timeOver : Feed → Float → Bool
+abbrev pub timeOver : RunSettings → Float → Bool
 timeOver w clock = not (lt clock (w .«max_time_s»))
 
 -- after a row: the voltage, then the time
-unfoldable pub overAfter : Feed → Bool → Float → ℕ
+unfoldable pub overAfter : RunSettings → Bool → Float → ℕ
 overAfter w cutoff clock = cond cutoff 1 (cond (timeOver w clock) 2 0)
 
 -- ---- turns
 -- the time is tested before the first step too
-unfoldable pub started : Feed → SpmSolver → Run
+unfoldable pub started : RunSettings → SpmSolver → RunState
 started w s = record { solver = s; clock = f64 0; rows = 0; over = overAfter w false (f64 0); refusal = 0; state = noState }
 
-unfoldable pub followed : Feed → Run → SpmStep → Run
+unfoldable pub followed : RunSettings → RunState → SpmStepAnswer → RunState
 followed w r t =
     cond (eqb (t .refusal) 0)
     (record {
@@ -51,7 +51,7 @@ followed w r t =
     (record { solver = t .solver; clock = r .clock; rows = r .rows; over = 4; refusal = t .refusal; state = r .state })
 
 -- one step of the cell
-unfoldable pub turned : Feed → Run → Run
+unfoldable pub turned : RunSettings → RunState → RunState
 turned w r = followed w r (stepped (r .solver) (w .«current_a») (w .dt) (w .«temp_k»))
 
 -- the fields of the report, the cutoff as 1 or 0
@@ -60,47 +60,47 @@ rowOf s =
     s .voltage ∷ s .current ∷ s .«theta_neg» ∷ s .«theta_pos» ∷ s .«theta_neg_avg» ∷ s .«theta_pos_avg» ∷ s .«time_s»
     ∷ cond (s .cutoff) (f64 0x3ff0_0000_0000_0000) (f64 0) ∷ []
 
-abbrev pub overOf : Run → ℕ
+abbrev pub overOf : RunState → ℕ
 overOf r = r .over
 
-abbrev pub lastRow : Run → List Float
+abbrev pub lastRow : RunState → List Float
 lastRow r = rowOf (r .state)
 
 -- ---- what a run gives: how it ended, the count of rows, the cell after them
-pub record RunSaid : Type 0 where
+pub record RunOutcome : Type 0 where
   pub ended : Ended
   pub rows : ℕ
   pub solver : SpmSolver
 
-abbrev pub runSaid : DischargeRun → RunSaid
-runSaid r = record { ended = endingSaid (r .ending); rows = r .rows; solver = r .solver }
+abbrev pub runOutcome : DischargeRun → RunOutcome
+runOutcome r = record { ended = endedBy (r .ending); rows = r .rows; solver = r .solver }
 
-unfoldable pub finishedRun : Run → RunSaid
+unfoldable pub finishedRun : RunState → RunOutcome
 finishedRun r = record { ended = endingOf (r .over) (r .refusal); rows = r .rows; solver = r .solver }
 
 -- the turns for which there is room, and the slice that they leave
-unfoldable pub allTurns : Feed → Run → ℕ → RunSaid
+unfoldable pub allTurns : RunSettings → RunState → ℕ → RunOutcome
 allTurns w r total = finishedRun (runAfter overOf (turned w) lastRow total r)
 
-unfoldable pub allRows : Feed → Run → ℕ → List Float → List Float
+unfoldable pub allRows : RunSettings → RunState → ℕ → List Float → List Float
 allRows w r total l = rowsAfter overOf (turned w) lastRow total r l
 
 -- ---- refusals of the whole run, before the first step even if none is due
-unfoldable pub runRefusal : Feed → SpmSolver → ℕ → ℕ
+unfoldable pub runRefusal : RunSettings → SpmSolver → ℕ → ℕ
 runRefusal w s places =
-    N.firstMet (N.refusalUnless (gridFits s) N.grid)
-    (N.firstMet (N.refusalUnless (leb 8 places) N.badLength)
-    (N.firstMet (N.refusalUnless (cellFits s) N.sheet)
-    (N.firstMet (N.refusalUnless (loadFits (w .«current_a») (f64 0x412e_8480_0000_0000)) N.load)
-    (N.firstMet (N.refusalUnless (intervalFits (w .dt) && finite (w .«max_time_s»)) N.interval)
+    N.firstRefusal (N.refusalUnless (gridFits s) N.grid)
+    (N.firstRefusal (N.refusalUnless (leb 8 places) N.badLength)
+    (N.firstRefusal (N.refusalUnless (cellFits s) N.sheet)
+    (N.firstRefusal (N.refusalUnless (loadFits (w .«current_a») (f64 0x412e_8480_0000_0000)) N.load)
+    (N.firstRefusal (N.refusalUnless (intervalFits (w .dt) && finite (w .«max_time_s»)) N.interval)
     (N.refusalUnless (temperatureFits (w .«temp_k»)) N.temperature)))))
 
-abbrev pub refusedRun : ℕ → SpmSolver → RunSaid
+abbrev pub refusedRun : ℕ → SpmSolver → RunOutcome
 refusedRun k s = record { ended = record { ending = byRefusal; refusal = k }; rows = 0; solver = s }
 
-unfoldable pub discharged : Feed → SpmSolver → ℕ → RunSaid
+unfoldable pub discharged : RunSettings → SpmSolver → ℕ → RunOutcome
 discharged w s places = cond (eqb (runRefusal w s places) 0) (allTurns w (started w s) (places / 8)) (refusedRun (runRefusal w s places) s)
 
 -- the final content of the lent slice
-unfoldable pub dischargedRows : Feed → SpmSolver → List Float → List Float
+unfoldable pub dischargedRows : RunSettings → SpmSolver → List Float → List Float
 dischargedRows w s l = cond (eqb (runRefusal w s (length l)) 0) (allRows w (started w s) (length l / 8) l) l

@@ -12,10 +12,10 @@ use solver_report::SpmState;
 ghost use mathlib.Core.Path.{_≡_};
 ghost use Prim.Native.Nat.{_<_, _≤_, _^_, _*_};
 ghost use lib.ListN.{length};
-ghost use Rattle.discharge_run.specs.Discharge.{timeOver, overAfter, started, turned, rowOf, runSaid, finishedRun, allTurns, allRows, runRefusal, discharged, dischargedRows, feedOf};
+ghost use Rattle.discharge_run.specs.Discharge.{timeOver, overAfter, started, turned, rowOf, runOutcome, finishedRun, allTurns, allRows, runRefusal, discharged, dischargedRows, runSettings};
 
 // What each step of a run is fed, and the run's time limit.
-pub struct Feed {
+pub struct RunSettings {
     pub current_a: f64,
     pub dt: f64,
     pub temp_k: f64,
@@ -23,7 +23,7 @@ pub struct Feed {
 }
 
 // A run on its way: the cell, the run's own clock, the rows so far, what has ended it, a refusal's number, the last report.
-pub struct Run {
+pub struct RunState {
     pub solver: SpmSolver,
     pub clock: f64,
     pub rows: usize,
@@ -40,14 +40,14 @@ pub struct DischargeRun {
 }
 
 // Whether the time is over.
-fn time_over(w: Feed, clock: f64) -> bool
+fn time_over(w: RunSettings, clock: f64) -> bool
     ensures { λ r. ⌜ r ≡ timeOver w clock ⌝ }
 {
     !(clock < w.max_time_s)
 }
 
 // What ends the run after a row: the voltage, then the time.
-fn over_after(w: Feed, cutoff: bool, clock: f64) -> u64
+fn over_after(w: RunSettings, cutoff: bool, clock: f64) -> u64
     ensures { λ r. ⌜ r ≡ overAfter w cutoff clock ⌝ }
 {
     if cutoff {
@@ -60,12 +60,12 @@ fn over_after(w: Feed, cutoff: bool, clock: f64) -> u64
 }
 
 // The run before its first step.
-fn start(w: Feed, s: SpmSolver) -> Run
+fn start(w: RunSettings, s: SpmSolver) -> RunState
     ensures { λ r. ⌜ r ≡ started w s ⌝ }
 {
     let over = over_after(w, false, 0.0);
     let state = solver_report::no_state();
-    Run {
+    RunState {
         solver: s,
         clock: 0.0,
         rows: 0,
@@ -76,7 +76,7 @@ fn start(w: Feed, s: SpmSolver) -> Run
 }
 
 // One turn of a run that goes on.
-fn turn(w: Feed, s: Run) -> Run
+fn turn(w: RunSettings, s: RunState) -> RunState
     requires { ⌜ s .rows < 2 ^ 61 ⌝ }
     ensures { λ r. ⌜ r ≡ turned w s ⌝ }
 {
@@ -86,7 +86,7 @@ fn turn(w: Feed, s: Run) -> Run
     let state = t.state;
     if t.refusal != 0 {
         let last = s.state;
-        return Run {
+        return RunState {
             solver: cell,
             clock: s.clock,
             rows: s.rows,
@@ -97,7 +97,7 @@ fn turn(w: Feed, s: Run) -> Run
     }
     let clock = s.clock + w.dt;
     let over = over_after(w, state.cutoff, clock);
-    Run {
+    RunState {
         solver: cell,
         clock,
         rows: s.rows + 1,
@@ -128,8 +128,8 @@ fn row_of(s: SpmState) -> [f64; 8]
 }
 
 // What a run that has stopped gives.
-fn finished(s: Run) -> DischargeRun
-    ensures { λ r. ⌜ runSaid r ≡ finishedRun s ⌝ }
+fn finished(s: RunState) -> DischargeRun
+    ensures { λ r. ⌜ runOutcome r ≡ finishedRun s ⌝ }
 {
     let cell = s.solver;
     DischargeRun {
@@ -140,7 +140,7 @@ fn finished(s: Run) -> DischargeRun
 }
 
 // The number that refuses the whole run: 1, 10, 2, 3, 4, 5.
-fn run_refusal(w: Feed, s: SpmSolver, places: usize) -> u64
+fn run_refusal(w: RunSettings, s: SpmSolver, places: usize) -> u64
     ensures { λ r. ⌜ r ≡ runRefusal w s places ⌝ }
 {
     let grid = refusal::refusal_unless(s.grid_fits(), refusal::GRID);
@@ -153,17 +153,17 @@ fn run_refusal(w: Feed, s: SpmSolver, places: usize) -> u64
         refusal::temperature_fits(w.temp_k),
         refusal::TEMPERATURE,
     );
-    let late = refusal::first_met(load, refusal::first_met(interval, temperature));
-    refusal::first_met(
+    let late = refusal::first_refusal(load, refusal::first_refusal(interval, temperature));
+    refusal::first_refusal(
         grid,
-        refusal::first_met(length, refusal::first_met(cell, late)),
+        refusal::first_refusal(length, refusal::first_refusal(cell, late)),
     )
 }
 
 // At most `total` turns of a run, each step with its row.
-fn run_rows(w: Feed, first: Run, out: &mut [f64], total: usize) -> DischargeRun
+fn run_rows(w: RunSettings, first: RunState, out: &mut [f64], total: usize) -> DischargeRun
     requires { ⌜ (first .rows ≡ 0) × ((total < 2 ^ 61) × (total * 8 ≤ length (now out))) ⌝ }
-    ensures result { λ r. ⌜ runSaid r ≡ allTurns w first total ⌝ }
+    ensures result { λ r. ⌜ runOutcome r ≡ allTurns w first total ⌝ }
     ensures rows { λ r. ⌜ now (out .exit) ≡ allRows w first total (now (out .entry)) ⌝ }
 {
     let mut run = first;
@@ -195,10 +195,10 @@ pub fn simulate_discharge(
     max_time_s: f64,
     out: &mut [f64],
 ) -> DischargeRun
-    ensures result { λ r. ⌜ runSaid r ≡ discharged (feedOf «current_a» dt «temp_k» «max_time_s») s (length (now (out .entry))) ⌝ }
-    ensures rows { λ r. ⌜ now (out .exit) ≡ dischargedRows (feedOf «current_a» dt «temp_k» «max_time_s») s (now (out .entry)) ⌝ }
+    ensures result { λ r. ⌜ runOutcome r ≡ discharged (runSettings «current_a» dt «temp_k» «max_time_s») s (length (now (out .entry))) ⌝ }
+    ensures rows { λ r. ⌜ now (out .exit) ≡ dischargedRows (runSettings «current_a» dt «temp_k» «max_time_s») s (now (out .entry)) ⌝ }
 {
-    let w = Feed {
+    let w = RunSettings {
         current_a,
         dt,
         temp_k,

@@ -3,7 +3,7 @@
 
 ghost use mathlib.Core.Path.{_≡_};
 ghost use Rattle.refusal.specs.Numbers.{refusalUnless, sheet};
-ghost use Rattle.refusal.specs.Answers.{said};
+ghost use Rattle.refusal.specs.Answers.{outcomeOf};
 ghost use Rattle.electrode.specs.Sheet.{chemistryFits, sheetFits, graphiteAnode, lfpCathode, nmcCathode, diffusivityAt, specificArea};
 ghost use Rattle.electrode.specs.Curves.{openCircuit, openCircuitSlope};
 ghost use Rattle.electrode.specs.Calls.{dS, specificAreaCall, ocpCall, slopeCall, volumeCall};
@@ -153,16 +153,16 @@ impl ElectrodeParams {
 
     // The diffusivity corrected for the temperature, m^2/s.
     pub fn d_s(self, temp_k: f64) -> refusal::Answer
-        ensures { λ r. ⌜ said r ≡ dS self «temp_k» ⌝ }
+        ensures { λ r. ⌜ outcomeOf r ≡ dS self «temp_k» ⌝ }
     {
         let unfit = refusal::refusal_unless(self.fits(), refusal::SHEET);
         let out = refusal::refusal_unless(refusal::temperature_fits(temp_k), refusal::TEMPERATURE);
-        refusal::answered(refusal::first_met(unfit, out), self.diffusivity_at(temp_k))
+        refusal::answered(refusal::first_refusal(unfit, out), self.diffusivity_at(temp_k))
     }
 
     // Interfacial area of a volume of electrode, 1/m.
     pub fn specific_area(self) -> refusal::Answer
-        ensures { λ r. ⌜ said r ≡ specificAreaCall self ⌝ }
+        ensures { λ r. ⌜ outcomeOf r ≡ specificAreaCall self ⌝ }
     {
         let unfit = refusal::refusal_unless(self.fits(), refusal::SHEET);
         refusal::answered(unfit, self.area_per_volume())
@@ -170,7 +170,7 @@ impl ElectrodeParams {
 
     // Open-circuit potential at a stoichiometry, V.
     pub fn ocp(self, theta: f64) -> refusal::Answer
-        ensures { λ r. ⌜ said r ≡ ocpCall self theta ⌝ }
+        ensures { λ r. ⌜ outcomeOf r ≡ ocpCall self theta ⌝ }
     {
         let unfit = refusal::refusal_unless(
             self.fits() & refusal::is_finite(theta),
@@ -181,7 +181,7 @@ impl ElectrodeParams {
 
     // Slope of the open-circuit potential, V.
     pub fn docp_dtheta(self, theta: f64) -> refusal::Answer
-        ensures { λ r. ⌜ said r ≡ slopeCall self theta ⌝ }
+        ensures { λ r. ⌜ outcomeOf r ≡ slopeCall self theta ⌝ }
     {
         let unfit = refusal::refusal_unless(
             self.fits() & refusal::is_finite(theta),
@@ -193,7 +193,7 @@ impl ElectrodeParams {
 
 // Volume of a sphere of a particle's radius, m^3.
 pub fn sphere_volume(r: f64) -> refusal::Answer
-    ensures { λ a. ⌜ said a ≡ volumeCall r ⌝ }
+    ensures { λ a. ⌜ outcomeOf a ≡ volumeCall r ⌝ }
 {
     let unfit = refusal::refusal_unless(refusal::within(r, 1e-8, 1e-3), refusal::SHEET);
     refusal::answered(unfit, 4.0 / 3.0 * 3.141592653589793 * r * r * r)

@@ -6,7 +6,7 @@ use native.Mathlib.Omega.{arith}
 use lib.Dec.{T, leb, leb→le}
 use lib.Ieee.{Float}
 use lib.Ieee.Fits.{and-l, and-r}
-use Rattle.refusal.specs.Numbers.{none-met, passed, grid, sheet}
+use Rattle.refusal.specs.Numbers.{neither-refused, passed, grid, sheet}
 use Rattle.electrolyte.specs.declared.ElectrolyteState.{ElectrolyteState}
 use Rattle.electrolyte_parameters.specs.Params.{paramsFit}
 use Rattle.electrolyte_profile.specs.Places.{profileFits}
@@ -29,20 +29,20 @@ module _ (e : ElectrolyteState) where
   -- a build
   pub build-total : buildRefusal e ≡ 0 → total e ≤ 96
   unfolding buildRefusal
-  build-total h = at-most (e .«n_neg») (e .«n_sep») (e .«n_pos») (passed (countsFit e) grid (omega arith) (none-met _ _ h .0))
+  build-total h = at-most (e .«n_neg») (e .«n_sep») (e .«n_pos») (passed (countsFit e) grid (omega arith) (neither-refused _ _ h .0))
 
   pub build-params : buildRefusal e ≡ 0 → T (paramsFit (e .params))
   unfolding buildRefusal
-  build-params h = and-l (paramsFit (e .params)) (regionsFit e) (passed (paramsFit (e .params) && regionsFit e) sheet (omega arith) (none-met _ _ h .1))
+  build-params h = and-l (paramsFit (e .params)) (regionsFit e) (passed (paramsFit (e .params) && regionsFit e) sheet (omega arith) (neither-refused _ _ h .1))
 
   -- a state handed in
   pub state-build : stateRefusal e ≡ 0 → buildRefusal e ≡ 0
   unfolding stateRefusal
-  state-build h = none-met _ _ h .0
+  state-build h = neither-refused _ _ h .0
 
   pub state-profile : stateRefusal e ≡ 0 → T (profileFits (e .«c_e») (total e))
   unfolding stateRefusal
-  state-profile h = passed (profileFits (e .«c_e») (total e)) sheet (omega arith) (none-met _ _ h .1)
+  state-profile h = passed (profileFits (e .«c_e») (total e)) sheet (omega arith) (neither-refused _ _ h .1)
 
   pub state-total : stateRefusal e ≡ 0 → total e ≤ 96
   state-total h = build-total (state-build h)
@@ -50,7 +50,7 @@ module _ (e : ElectrolyteState) where
   -- a step
   pub step-state : (jNeg jPos dt t : Float) → stepRefusal e jNeg jPos dt t ≡ 0 → stateRefusal e ≡ 0
   unfolding stepRefusal
-  step-state jNeg jPos dt t h = none-met _ _ h .0
+  step-state jNeg jPos dt t h = neither-refused _ _ h .0
 
   pub step-total : (jNeg jPos dt t : Float) → stepRefusal e jNeg jPos dt t ≡ 0 → total e ≤ 96
   step-total jNeg jPos dt t h = state-total (step-state jNeg jPos dt t h)

@@ -12,7 +12,7 @@ use Rattle.binary64.specs.Operators.{f64}
 use Rattle.binary64.specs.Order.{between-finite}
 use Rattle.binary64.specs.RangeTests.{tested-within, within-ge}
 use Rattle.elementary.specs.Exp.{one}
-use Rattle.refusal.specs.Numbers.{firstMet, refusalUnless, sheet, notFinite}
+use Rattle.refusal.specs.Numbers.{firstRefusal, refusalUnless, sheet, notFinite}
 use Rattle.refusal.specs.Ranges.{finite}
 use Rattle.electrolyte_parameters.specs.declared.ElectrolyteParams.{ElectrolyteParams}
 use Rattle.electrolyte_parameters.specs.Params.{transportFit, paramsFit}
@@ -20,8 +20,8 @@ use Rattle.electrolyte_profile.specs.Places.{floor, profileFits, uniformProfile
 use Rattle.electrolyte_profile.specs.Step.{profileNew}
 use Rattle.electrolyte_profile.specs.Again.{profile-again, uniform-fits}
 use Rattle.electrolyte.specs.declared.ElectrolyteState.{ElectrolyteState}
-use Rattle.electrolyte.specs.declared.StateAnswer.{StateAnswer}
-use Rattle.electrolyte.specs.State.{total, noState, withProfile, driveOf}
+use Rattle.electrolyte.specs.declared.ElectrolyteAnswer.{ElectrolyteAnswer}
+use Rattle.electrolyte.specs.State.{total, noState, withProfile, stepParams}
 use Rattle.electrolyte.specs.Calls.{buildRefusal, stateRefusal, stepRefusal, answer, built, accepted, stepped}
 use Rattle.electrolyte.specs.Accepted.{build-total, build-params, state-build, state-profile, state-total, step-state}
 
@@ -30,9 +30,9 @@ abbrev most : Float
 most = f64 0x40f8_6a00_0000_0000
 
 -- c_e_init, 1 to 1e5, is finite and above the floor
-init-held : (x : Float) → T (le one x) → T (le x most) → T (finite x) × T (le floor x)
+init-in-range : (x : Float) → T (le one x) → T (le x most) → T (finite x) × T (le floor x)
 unfolding ofBits
-init-held x p q = (between-finite one x most tt tt p q, within-ge (tested-within one x most tt tt p q) floor tt tt tt)
+init-in-range x p q = (between-finite one x most tt tt p q, within-ge (tested-within one x most tt tt p q) floor tt tt tt)
 
 -- the two tests of c_e_init stand before four others
 init-tests : (h a b c d f g : Bool) → T (h && a && b && c && d && f && g) → T a × T b
@@ -45,11 +45,11 @@ init-fits : (p : ElectrolyteParams) → T (paramsFit p) → T (finite (p .«c_e_
 init-fits p h =
     let t = init-tests (transportFit p) (le one (p .«c_e_init»)) (le (p .«c_e_init») most)
     (le (f64 0) (p .«e_a_de»)) (le (p .«e_a_de») most) (le (f64 0) (p .«e_a_kappa»)) (le (p .«e_a_kappa») most) h in
-    init-held (p .«c_e_init») (t .0) (t .1)
+    init-in-range (p .«c_e_init») (t .0) (t .1)
 
 -- ---- what a build hands out
 still-none : (e : ElectrolyteState) (c : List Float) → buildRefusal e ≡ 0 → T (profileFits c (total e)) → stateRefusal (withProfile e c) ≡ 0
-unfolding stateRefusal buildRefusal firstMet refusalUnless
+unfolding stateRefusal buildRefusal firstRefusal refusalUnless
 still-none e c b h = rw b (by-test (profileFits c (total e)) h)
   where
     by-test : (ok : Bool) → T ok → refusalUnless ok sheet ≡ 0
@@ -71,7 +71,7 @@ build-again e h =
 
 -- ---- what a step hands out
 -- the answer of a step that meets r before it is made, and whose profile is c
-abbrev chosen : ElectrolyteState → ℕ → Bool → List Float → StateAnswer
+abbrev chosen : ElectrolyteState → ℕ → Bool → List Float → ElectrolyteAnswer
 chosen e r ok c = cond (eqb r 0) (cond ok (answer 0 (withProfile e c)) (answer notFinite e)) (answer r e)
 
 again-by : (e : ElectrolyteState) (c : List Float) (r : ℕ) (ok : Bool) → (r ≡ 0 → T ok → stateRefusal (withProfile e c) ≡ 0) → chosen e r ok c .refusal ≡ 0 → stateRefusal (chosen e r ok c .state) ≡ 0
@@ -86,11 +86,11 @@ kept-by e c (suc r) ok h = rw eqb·suc-zero
 
 module _ (e : ElectrolyteState) (jNeg jPos dt t : Float) where
   abbrev next : List Float
-  next = profileNew (driveOf e jNeg jPos dt t) (e .«c_e»)
+  next = profileNew (stepParams e jNeg jPos dt t) (e .«c_e»)
 
   next-fits : stateRefusal e ≡ 0 → T (allFinite next) → T (profileFits next (total e))
-  unfolding driveOf
-  next-fits h k = profile-again (driveOf e jNeg jPos dt t) (e .«c_e») (state-total e h) (state-profile e h) k
+  unfolding stepParams
+  next-fits h k = profile-again (stepParams e jNeg jPos dt t) (e .«c_e») (state-total e h) (state-profile e h) k
 
   -- an accepted step hands out a state that passes the checks
   pub step-again : stepped e jNeg jPos dt t .refusal ≡ 0 → stateRefusal (stepped e jNeg jPos dt t .state) ≡ 0

@@ -6,11 +6,11 @@ use lib.Dec.{leb}
 use lib.Ieee.{Float, le}
 use Rattle.binary64.specs.Operators.{_⊖_, _⊗_, _⊘_, f64, count}
 use Rattle.elementary.specs.Exp.{one}
-use Rattle.choice.specs.Choice.{minOf}
+use Rattle.min_max.specs.MinMax.{minOf}
 use Rattle.electrolyte_parameters.specs.declared.ElectrolyteParams.{ElectrolyteParams}
 use Rattle.electrolyte_parameters.specs.Params.{diffusivityEff}
 use Rattle.electrolyte_profile.specs.declared.Region.{Region}
-use Rattle.electrolyte_profile.specs.declared.Drive.{Drive}
+use Rattle.electrolyte_profile.specs.declared.ElectrolyteStepParams.{ElectrolyteStepParams}
 use Rattle.electrolyte_profile.specs.Places.{zeros, sumOf}
 use Rattle.electrolyte.specs.declared.ElectrolyteState.{ElectrolyteState}
 
@@ -103,8 +103,8 @@ regionOf p eps l n src t = record { eps = eps; dx = width l n; «d_eff» = diffu
 abbrev source : ElectrolyteState → Float → Float
 source e j = (one ⊖ e .params .«t_plus») ⊗ j
 
-unfoldable pub driveOf : ElectrolyteState → Float → Float → Float → Float → Drive
-driveOf e jNeg jPos dt t = record {
+unfoldable pub stepParams : ElectrolyteState → Float → Float → Float → Float → ElectrolyteStepParams
+stepParams e jNeg jPos dt t = record {
   neg = regionOf (e .params) (e .«eps_neg») (e .«l_neg») (e .«n_neg») (source e jNeg) t;
   sep = regionOf (e .params) (e .«eps_sep») (e .«l_sep») (e .«n_sep») (f64 0) t;
   pos = regionOf (e .params) (e .«eps_pos») (e .«l_pos») (e .«n_pos») (source e jPos) t;

@@ -1,7 +1,7 @@
 // The electrolyte over anode, separator and cathode: three regions and the concentration profile. A changed translation of
 // src/battery/p2d/electrolyte.rs (`ElectrolyteState`, without its potential).
 use electrolyte_parameters::ElectrolyteParams;
-use electrolyte_profile::Drive;
+use electrolyte_profile::ElectrolyteStepParams;
 use electrolyte_profile::Region;
 use electrolyte_profile::advanced;
 use electrolyte_profile::all_finite;
@@ -11,8 +11,8 @@ use electrolyte_profile::uniform;
 ghost use mathlib.Core.Path.{_≡_};
 ghost use Prim.Native.Nat.{_≤_};
 ghost use Rattle.binary64.specs.Operators.{_⊘_, count};
-ghost use Rattle.refusal.specs.Answers.{said};
-ghost use Rattle.electrolyte.specs.State.{total, countsFit, regionsFit, unfilled, noState, withProfile, averageOf, leastOf, stableInterval, regionOf, driveOf};
+ghost use Rattle.refusal.specs.Answers.{outcomeOf};
+ghost use Rattle.electrolyte.specs.State.{total, countsFit, regionsFit, unfilled, noState, withProfile, averageOf, leastOf, stableInterval, regionOf, stepParams};
 ghost use Rattle.electrolyte.specs.Calls.{counted, buildRefusal, stateRefusal, built, nTotal, cAvg, stepRefusal, stepped, dtStable};
 
 // A profile over the three regions, by value: the first n_neg + n_sep + n_pos places of c_e are used, the others +0.
@@ -35,7 +35,7 @@ pub struct ElectrolyteState {
 }
 
 // A refusal's number, 0 for none, and the state: the new one; of a refused step the one given, of a refused build all zeros.
-pub struct StateAnswer {
+pub struct ElectrolyteAnswer {
     pub refusal: u64,
     pub state: ElectrolyteState,
 }
@@ -57,7 +57,7 @@ fn per_node(x: f64, n: usize) -> f64
 fn least(a: f64, b: f64, c: f64) -> f64
     ensures { λ r. ⌜ r ≡ leastOf a b c ⌝ }
 {
-    choice::min(choice::min(a, b), c)
+    min_max::min(min_max::min(a, b), c)
 }
 
 // What a step works with in a region of the length l with n nodes.
@@ -138,7 +138,7 @@ impl ElectrolyteState {
     {
         let params = self.params;
         let grid = refusal::refusal_unless(self.counts_fit(), refusal::GRID);
-        refusal::first_met(
+        refusal::first_refusal(
             grid,
             refusal::refusal_unless(params.fits() & self.regions_fit(), refusal::SHEET),
         )
@@ -176,9 +176,9 @@ impl ElectrolyteState {
             refusal::TEMPERATURE,
         );
         let unfit = self.refusal();
-        refusal::first_met(
+        refusal::first_refusal(
             unfit,
-            refusal::first_met(load, refusal::first_met(interval, temperature)),
+            refusal::first_refusal(load, refusal::first_refusal(interval, temperature)),
         )
     }
 
@@ -193,9 +193,9 @@ impl ElectrolyteState {
     }
 
     // What a step works with. The effective diffusivities are worked out here, once.
-    fn drive(self, j_n_neg: f64, j_n_pos: f64, dt: f64, temp_k: f64) -> Drive
+    fn step_params(self, j_n_neg: f64, j_n_pos: f64, dt: f64, temp_k: f64) -> ElectrolyteStepParams
         requires { ⌜ total self ≤ 96 ⌝ }
-        ensures { λ r. ⌜ r ≡ driveOf self «j_n_neg» «j_n_pos» dt «temp_k» ⌝ }
+        ensures { λ r. ⌜ r ≡ stepParams self «j_n_neg» «j_n_pos» dt «temp_k» ⌝ }
     {
         let params = self.params;
         let src_coeff = 1.0 - params.t_plus;
@@ -216,7 +216,7 @@ impl ElectrolyteState {
             src_coeff * j_n_pos,
             temp_k,
         );
-        Drive {
+        ElectrolyteStepParams {
             neg,
             sep,
             pos,
@@ -273,7 +273,7 @@ impl ElectrolyteState {
         n_neg: usize,
         n_sep: usize,
         n_pos: usize,
-    ) -> StateAnswer
+    ) -> ElectrolyteAnswer
         ensures { λ r. ⌜ r ≡ built (unfilled params «l_neg» «l_sep» «l_pos» «eps_neg» «eps_sep» «eps_pos» «n_neg» «n_sep» «n_pos») ⌝ }
     {
         let c_e = [0.0; 96];
@@ -292,13 +292,13 @@ impl ElectrolyteState {
         };
         let refusal = given.build_refusal();
         if refusal != 0 {
-            return StateAnswer {
+            return ElectrolyteAnswer {
                 refusal,
                 state: no_state(),
             };
         }
         let filled = uniform(params.c_e_init, given.nodes());
-        StateAnswer {
+        ElectrolyteAnswer {
             refusal: 0,
             state: given.with_profile(filled),
         }
@@ -317,7 +317,7 @@ impl ElectrolyteState {
 
     // The mean concentration, mol/m^3.
     pub fn c_avg(self) -> refusal::Answer
-        ensures { λ r. ⌜ said r ≡ cAvg self ⌝ }
+        ensures { λ r. ⌜ outcomeOf r ≡ cAvg self ⌝ }
     {
         let refusal = self.refusal();
         if refusal != 0 {
@@ -327,25 +327,25 @@ impl ElectrolyteState {
     }
 
     // The state after one explicit step of dt seconds. j_n_neg and j_n_pos are the reactions in anode and cathode, mol/(m^3 s).
-    pub fn step_concentration(self, j_n_neg: f64, j_n_pos: f64, dt: f64, temp_k: f64) -> StateAnswer
+    pub fn step_concentration(self, j_n_neg: f64, j_n_pos: f64, dt: f64, temp_k: f64) -> ElectrolyteAnswer
         ensures { λ r. ⌜ r ≡ stepped self «j_n_neg» «j_n_pos» dt «temp_k» ⌝ }
     {
         let refusal = self.step_refusal(j_n_neg, j_n_pos, dt, temp_k);
         if refusal != 0 {
-            return StateAnswer {
+            return ElectrolyteAnswer {
                 refusal,
                 state: self,
             };
         }
         let old = self.c_e;
-        let new = advanced(self.drive(j_n_neg, j_n_pos, dt, temp_k), old);
+        let new = advanced(self.step_params(j_n_neg, j_n_pos, dt, temp_k), old);
         if !all_finite(new) {
-            return StateAnswer {
+            return ElectrolyteAnswer {
                 refusal: refusal::NOT_FINITE,
                 state: self,
             };
         }
-        StateAnswer {
+        ElectrolyteAnswer {
             refusal: 0,
             state: self.with_profile(new),
         }
@@ -353,11 +353,11 @@ impl ElectrolyteState {
 
     // The largest stable interval, s.
     pub fn dt_stable(self, temp_k: f64) -> refusal::Answer
-        ensures { λ r. ⌜ said r ≡ dtStable self «temp_k» ⌝ }
+        ensures { λ r. ⌜ outcomeOf r ≡ dtStable self «temp_k» ⌝ }
     {
         let out = refusal::refusal_unless(refusal::temperature_fits(temp_k), refusal::TEMPERATURE);
         refusal::answered(
-            refusal::first_met(self.refusal(), out),
+            refusal::first_refusal(self.refusal(), out),
             self.stable_interval(temp_k),
         )
     }

@@ -9,8 +9,8 @@ use Rattle.electrolyte.specs.declared.ElectrolyteState.{ElectrolyteState}
 
 -- ---- the electrolyte's seven parameters
 
-unfoldable pub saltAt : List ℕ → ElectrolyteParams
-saltAt s = record {
+unfoldable pub electrolyteParamsAt : List ℕ → ElectrolyteParams
+electrolyteParamsAt s = record {
   «d_e_ref» = floatAt s 0;
   «kappa_ref» = floatAt s 1;
   «t_plus» = floatAt s 2;
@@ -20,15 +20,15 @@ saltAt s = record {
   «e_a_kappa» = floatAt s 6;
 }
 
-unfoldable pub putSalt : List ℕ → ElectrolyteParams → List ℕ
-putSalt s p =
+unfoldable pub putElectrolyteParams : List ℕ → ElectrolyteParams → List ℕ
+putElectrolyteParams s p =
     putRow s 0 (p .«d_e_ref» ∷ p .«kappa_ref» ∷ p .«t_plus» ∷ p .bruggeman ∷ p .«c_e_init» ∷ p .«e_a_de» ∷ p .«e_a_kappa» ∷ [])
 
 -- ---- an electrolyte: parameters, lengths, porosities, counts of nodes, 96 places
 
 unfoldable pub electrolyteAt : List ℕ → ElectrolyteState
 electrolyteAt s = record {
-  params = saltAt s;
+  params = electrolyteParamsAt s;
   «l_neg» = floatAt s 7;
   «l_sep» = floatAt s 8;
   «l_pos» = floatAt s 9;
@@ -49,4 +49,4 @@ putRegions s x nNeg nSep nPos = putWord (putWord (putWord (putRow s 7 x) 13 nNeg
 
 unfoldable pub putElectrolyte : List ℕ → ElectrolyteState → List ℕ
 putElectrolyte s e =
-    putRow (putRegions (putSalt s (e .params)) (regionNumbers e) (e .«n_neg») (e .«n_sep») (e .«n_pos»)) 16 (e .«c_e»)
+    putRow (putRegions (putElectrolyteParams s (e .params)) (regionNumbers e) (e .«n_neg») (e .«n_sep») (e .«n_pos»)) 16 (e .«c_e»)

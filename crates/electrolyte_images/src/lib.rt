@@ -6,11 +6,11 @@ use electrolyte_parameters::ElectrolyteParams;
 use image_rows::read_places;
 use image_rows::write_places;
 ghost use mathlib.Core.Path.{_≡_};
-ghost use Rattle.electrolyte_images.specs.Images.{saltAt, putSalt, electrolyteAt, putRegions, putElectrolyte};
+ghost use Rattle.electrolyte_images.specs.Images.{electrolyteParamsAt, putElectrolyteParams, electrolyteAt, putRegions, putElectrolyte};
 
 // The electrolyte's parameters in the first seven words.
-pub fn salt_at(s: &[u8]) -> ElectrolyteParams
-    ensures { λ r. ⌜ r ≡ saltAt (now (s .entry)) ⌝ }
+pub fn electrolyte_params_at(s: &[u8]) -> ElectrolyteParams
+    ensures { λ r. ⌜ r ≡ electrolyteParamsAt (now (s .entry)) ⌝ }
 {
     let mut x = [0.0; 7];
     read_places(s, 0, &mut x);
@@ -25,8 +25,8 @@ pub fn salt_at(s: &[u8]) -> ElectrolyteParams
     }
 }
 
-pub fn put_salt(s: &mut [u8], p: ElectrolyteParams)
-    ensures { λ _. ⌜ now (s .exit) ≡ putSalt (now (s .entry)) p ⌝ }
+pub fn put_electrolyte_params(s: &mut [u8], p: ElectrolyteParams)
+    ensures { λ _. ⌜ now (s .exit) ≡ putElectrolyteParams (now (s .entry)) p ⌝ }
 {
     let x = [
         p.d_e_ref,
@@ -44,7 +44,7 @@ pub fn put_salt(s: &mut [u8], p: ElectrolyteParams)
 pub fn electrolyte_at(s: &[u8]) -> ElectrolyteState
     ensures { λ r. ⌜ r ≡ electrolyteAt (now (s .entry)) ⌝ }
 {
-    let params = salt_at(s);
+    let params = electrolyte_params_at(s);
     let mut x = [0.0; 6];
     read_places(s, 7, &mut x);
     let mut c_e = [0.0; 96];
@@ -78,7 +78,7 @@ pub fn put_electrolyte(s: &mut [u8], e: ElectrolyteState)
     ensures { λ _. ⌜ now (s .exit) ≡ putElectrolyte (now (s .entry)) e ⌝ }
 {
     let x = [e.l_neg, e.l_sep, e.l_pos, e.eps_neg, e.eps_sep, e.eps_pos];
-    put_salt(s, e.params);
+    put_electrolyte_params(s, e.params);
     put_regions(s, x, e.n_neg, e.n_sep, e.n_pos);
     write_places(s, 16, &e.c_e);
 }

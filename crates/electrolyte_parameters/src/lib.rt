@@ -2,7 +2,7 @@
 // (`ElectrolyteParams`).
 
 ghost use mathlib.Core.Path.{_≡_};
-ghost use Rattle.refusal.specs.Answers.{said};
+ghost use Rattle.refusal.specs.Answers.{outcomeOf};
 ghost use Rattle.electrolyte_parameters.specs.Params.{paramsFit, lipf6EcDmc, atTemperature, diffusivityEff, conductivityEff};
 ghost use Rattle.electrolyte_parameters.specs.Calls.{rateRefusal, dE, kappaCall, dEEff, kappaEff};
 
@@ -36,7 +36,7 @@ fn rate_refusal(fits: bool, temp_k: f64) -> u64
 {
     let unfit = refusal::refusal_unless(fits, refusal::SHEET);
     let out = refusal::refusal_unless(refusal::temperature_fits(temp_k), refusal::TEMPERATURE);
-    refusal::first_met(unfit, out)
+    refusal::first_refusal(unfit, out)
 }
 
 impl ElectrolyteParams {
@@ -93,7 +93,7 @@ impl ElectrolyteParams {
 
     // The diffusivity corrected for the temperature, m^2/s.
     pub fn d_e(self, temp_k: f64) -> refusal::Answer
-        ensures { λ r. ⌜ said r ≡ dE self «temp_k» ⌝ }
+        ensures { λ r. ⌜ outcomeOf r ≡ dE self «temp_k» ⌝ }
     {
         refusal::answered(
             rate_refusal(self.fits(), temp_k),
@@ -103,7 +103,7 @@ impl ElectrolyteParams {
 
     // The conductivity corrected for the temperature, S/m.
     pub fn kappa(self, temp_k: f64) -> refusal::Answer
-        ensures { λ r. ⌜ said r ≡ kappaCall self «temp_k» ⌝ }
+        ensures { λ r. ⌜ outcomeOf r ≡ kappaCall self «temp_k» ⌝ }
     {
         refusal::answered(
             rate_refusal(self.fits(), temp_k),
@@ -113,7 +113,7 @@ impl ElectrolyteParams {
 
     // The effective diffusivity in a porous medium, m^2/s.
     pub fn d_e_eff(self, porosity: f64, temp_k: f64) -> refusal::Answer
-        ensures { λ r. ⌜ said r ≡ dEEff self porosity «temp_k» ⌝ }
+        ensures { λ r. ⌜ outcomeOf r ≡ dEEff self porosity «temp_k» ⌝ }
     {
         let fits = self.fits() & refusal::within(porosity, 0.01, 1.0);
         refusal::answered(
@@ -124,7 +124,7 @@ impl ElectrolyteParams {
 
     // The effective conductivity in a porous medium, S/m.
     pub fn kappa_eff(self, porosity: f64, temp_k: f64) -> refusal::Answer
-        ensures { λ r. ⌜ said r ≡ kappaEff self porosity «temp_k» ⌝ }
+        ensures { λ r. ⌜ outcomeOf r ≡ kappaEff self porosity «temp_k» ⌝ }
     {
         let fits = self.fits() & refusal::within(porosity, 0.01, 1.0);
         refusal::answered(

@@ -11,10 +11,10 @@ use lib.Ieee.{Float, nan, inf, fin, le, lt, isNan, toBits, ofBits}
 use borrow.Author.Tests.{leb-true, leb-false, ltb-true, ltb-false}
 use Rattle.binary64.specs.Operators.{f64}
 use Rattle.binary64.specs.Order.{not→lt}
-use Rattle.choice.specs.Choice.{maxOf}
+use Rattle.min_max.specs.MinMax.{maxOf}
 use Rattle.refusal.specs.Ranges.{finite, plusZero}
-use Rattle.turns.specs.Turns.{first-below, first-above, all-at, all-of}
-use Rattle.electrolyte_profile.specs.declared.Drive.{Drive}
+use Rattle.iterate.specs.Iterate.{first-below, first-above, all-at, all-of}
+use Rattle.electrolyte_profile.specs.declared.ElectrolyteStepParams.{ElectrolyteStepParams}
 use Rattle.electrolyte_profile.specs.Places.{floor, placeFits, profileFits, zeros, uniformProfile, allFinite}
 use Rattle.electrolyte_profile.specs.Step.{nodeFrom, nodeNew, profileNew}
 
@@ -64,19 +64,19 @@ over x p true h = floor-itself
 over x p false h = not-below x p h (le floor x) refl
 
 -- whatever it is given, the floor gives at least 1e-10
-pub floor-held : (x : Float) → T (le floor (maxOf x floor))
+pub floor-clamped : (x : Float) → T (le floor (maxOf x floor))
 unfolding isNan lt le ofBits
-floor-held nan = tt
-floor-held (inf true) = tt
-floor-held (inf false) = tt
-floor-held (fin s m e) = over (fin s m e) tt (lt (fin s m e) floor) refl
+floor-clamped nan = tt
+floor-clamped (inf true) = tt
+floor-clamped (inf false) = tt
+floor-clamped (fin s m e) = over (fin s m e) tt (lt (fin s m e) floor) refl
 
-node-floor : (v : Drive) (c : List Float) (i : ℕ) → T (le floor (nodeNew v c i))
+node-floor : (v : ElectrolyteStepParams) (c : List Float) (i : ℕ) → T (le floor (nodeNew v c i))
 unfolding nodeNew nodeFrom
-node-floor v c i = floor-held _
+node-floor v c i = floor-clamped _
 
 -- ---- the profile after a step
-module _ (v : Drive) (c : List Float) (small : v .n ≤ 96) (h : T (profileFits c (v .n))) (k : T (allFinite (profileNew v c))) where
+module _ (v : ElectrolyteStepParams) (c : List Float) (small : v .n ≤ 96) (h : T (profileFits c (v .n))) (k : T (allFinite (profileNew v c))) where
   place-finite : (i : ℕ) → i < 96 → T (finite (getD (profileNew v c) i nan))
   unfolding allFinite
   place-finite i l = all-at (λ j. finite (getD (profileNew v c) j nan)) 96 i l k

@@ -7,7 +7,7 @@ use lib.ListN.{getD, replicate}
 use lib.Ieee.{Float, nan, le, neg}
 use Rattle.binary64.specs.Operators.{_⊕_, f64}
 use Rattle.refusal.specs.Ranges.{finite, plusZero}
-use Rattle.turns.specs.Turns.{firstBy, allBelow}
+use Rattle.iterate.specs.Iterate.{firstBy, allBelow}
 
 -- the least that a node may hold, 1e-10
 abbrev pub floor : Float

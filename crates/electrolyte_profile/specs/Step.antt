@@ -6,14 +6,14 @@ use lib.Dec.{eqb, ltb}
 use lib.ListN.{getD}
 use lib.Ieee.{Float, nan}
 use Rattle.binary64.specs.Operators.{_⊕_, _⊖_, _⊗_, _⊘_, f64}
-use Rattle.choice.specs.Choice.{maxOf}
-use Rattle.turns.specs.Turns.{firstBy}
+use Rattle.min_max.specs.MinMax.{maxOf}
+use Rattle.iterate.specs.Iterate.{firstBy}
 use Rattle.electrolyte_profile.specs.declared.Region.{Region}
-use Rattle.electrolyte_profile.specs.declared.Drive.{Drive}
+use Rattle.electrolyte_profile.specs.declared.ElectrolyteStepParams.{ElectrolyteStepParams}
 use Rattle.electrolyte_profile.specs.Places.{floor}
 
 -- the region of the node i
-unfoldable pub regionAt : Drive → ℕ → Region
+unfoldable pub regionAt : ElectrolyteStepParams → ℕ → Region
 regionAt v i = cond (ltb i (v .«past_neg»)) (v .neg) (cond (ltb i (v .«past_sep»)) (v .sep) (v .pos))
 
 -- the neighbours of the node i of n; each end is its own
@@ -35,9 +35,9 @@ floored x = maxOf x floor
 unfoldable pub nodeFrom : Region → Float → Float → Float → Float → Float
 nodeFrom r dt left here right = floored (here ⊕ dt ⊗ ((r .«d_eff» ⊗ ((left ⊖ two ⊗ here ⊕ right) ⊘ (r .dx ⊗ r .dx)) ⊕ r .src) ⊘ r .eps))
 
-unfoldable pub nodeNew : Drive → List Float → ℕ → Float
+unfoldable pub nodeNew : ElectrolyteStepParams → List Float → ℕ → Float
 nodeNew v c i = nodeFrom (regionAt v i) (v .dt) (leftOf c i) (getD c i nan) (rightOf c i (v .n))
 
 -- every node anew from the old profile, the unused places kept
-unfoldable pub profileNew : Drive → List Float → List Float
+unfoldable pub profileNew : ElectrolyteStepParams → List Float → List Float
 profileNew v c = firstBy (v .n) (nodeNew v c) c

@@ -15,7 +15,7 @@ pub struct Region {
 }
 
 // What a step works with: the regions, the first node past the anode, past the separator and past all, and the interval.
-pub struct Drive {
+pub struct ElectrolyteStepParams {
     pub neg: Region,
     pub sep: Region,
     pub pos: Region,
@@ -82,7 +82,7 @@ pub fn all_finite(c: [f64; 96]) -> bool
 }
 
 // The region of the node i.
-fn region_at(v: Drive, i: usize) -> Region
+fn region_at(v: ElectrolyteStepParams, i: usize) -> Region
     ensures { λ r. ⌜ r ≡ regionAt v i ⌝ }
 {
     if i < v.past_neg {
@@ -125,11 +125,11 @@ fn moved(r: Region, dt: f64, left: f64, here: f64, right: f64) -> f64
 {
     let d2c = (left - 2.0 * here + right) / (r.dx * r.dx);
     let dc = (r.d_eff * d2c + r.src) / r.eps;
-    choice::max(here + dt * dc, 1e-10)
+    min_max::max(here + dt * dc, 1e-10)
 }
 
 // The node i after the step, from the old profile.
-fn node_new(v: Drive, c: &[f64; 96], i: usize) -> f64
+fn node_new(v: ElectrolyteStepParams, c: &[f64; 96], i: usize) -> f64
     requires { ⌜ (i < v .n) × (v .n ≤ 96) ⌝ }
     ensures { λ r. ⌜ r ≡ nodeNew v (now (c .entry)) i ⌝ }
 {
@@ -139,7 +139,7 @@ fn node_new(v: Drive, c: &[f64; 96], i: usize) -> f64
 }
 
 // The profile after the step: every node from the old profile.
-pub fn advanced(v: Drive, c: [f64; 96]) -> [f64; 96]
+pub fn advanced(v: ElectrolyteStepParams, c: [f64; 96]) -> [f64; 96]
     requires { ⌜ v .n ≤ 96 ⌝ }
     ensures { λ r. ⌜ r ≡ profileNew v c ⌝ }
 {

@@ -17,7 +17,7 @@ use Rattle.square_root.specs.Standard.{natural}
 use Rattle.square_root.proofs.Range.{sqrt-within}
 use Rattle.elementary.specs.Exp.{one}
 use Rattle.elementary.specs.Ln.{lnOf}
-use Rattle.choice.specs.Choice.{absOf}
+use Rattle.min_max.specs.MinMax.{absOf}
 use Rattle.elementary.specs.Asinh.{asinhAt, asinhOf}
 use Rattle.elementary.proofs.Constants.{at-1}
 use Rattle.elementary.proofs.LnRange.{ln-finite}

@@ -15,7 +15,7 @@ use Rattle.binary64.specs.RangeOps.{mul-most, div-most, div-count, add-most}
 use Rattle.binary64.specs.RangeTests.{tested-sized}
 use Rattle.elementary.specs.Exp.{one, series, squarings, powered, expOf, highest, lowest, scale}
 use Rattle.elementary.proofs.ExpLaws.{exp-high, exp-low, exp-mid, powered-is}
-use Rattle.choice.proofs.ChoiceLaws.{not-lt-le}
+use Rattle.min_max.proofs.ChoiceLaws.{not-lt-le}
 use Rattle.elementary.proofs.Constants.{at-1, at-1024}
 
 abbrev pub notNegative : Float → Bool

@@ -18,7 +18,7 @@ use Rattle.fraction.specs.Field.{≈F-sym, ≤F-of-≈F}
 use Rattle.fraction.specs.Order.{lt-le-trans, nat-lt}
 use Rattle.fraction.specs.Certificate.{quote, le-by}
 use Rattle.binary64.specs.Operators.{_⊕_, _⊗_, _⊘_, count, negative}
-use Rattle.binary64.specs.Held.{own-round}
+use Rattle.binary64.specs.Representable.{own-round}
 use Rattle.binary64.specs.Order.{le→below}
 use Rattle.binary64.specs.OrderLaws.{add-le, mul-le, mul-ge, div-le}
 use Rattle.binary64.specs.Range.{Most, Within, Sized, most-wider}

@@ -14,7 +14,7 @@ use Rattle.binary64.specs.Operators.{_⊕_, _⊖_, _⊗_, _⊘_, f64, count}
 use Rattle.binary64.specs.Sign.{round-neg}
 use Rattle.elementary.specs.Exp.{one}
 use Rattle.elementary.specs.Ln.{two, ln2, terms, lnParts, raise, lnSplit, threeHalves, twentyThree}
-use Rattle.choice.proofs.Format.{minus-up, minus-down}
+use Rattle.min_max.proofs.Format.{minus-up, minus-down}
 
 -- ---- the series
 pub terms-end : (j : ℕ) (q a : Float) → j ≡ 0 → terms j q a ≡ a

@@ -22,7 +22,7 @@ use Rattle.binary64.specs.RangeOps.{mul-most, div-most, div-between, div-count,
 use Rattle.binary64.specs.RangeTests.{int-between, within-positive}
 use Rattle.elementary.specs.Exp.{one}
 use Rattle.elementary.specs.Ln.{two, ln2, terms, lnParts, raise, lnSplit, mant, expo, lnOf, threeHalves, twentyThree}
-use Rattle.choice.proofs.Format.{held, lead-le, lead-lt, minus-up, minus-down}
+use Rattle.min_max.proofs.Format.{representable, lead-le, lead-lt, minus-up, minus-down}
 use Rattle.elementary.proofs.LnLaws.{parts-is}
 use Rattle.elementary.proofs.Constants.{at-1, at-2, at-23, ln2-most}
 
@@ -161,7 +161,7 @@ fits-range (inf _) f p = absurd p
 fits-range (fin true m e) f p = absurd p
 fits-range (fin false zero e) f p = absurd p
 fits-range (fin false (suc m) e) f p =
-    let h = held false m e f in
+    let h = representable false m e f in
     (h .most, le-trans (h .least) (le-trans (le-of-eq (sym (one-mul (2 ^ 1074)))) (mul-le-mul-right (2 ^ 1074) (mul-pos (zero-lt-suc m) (up-pos e)))))
 
 pub ln-finite : (x : Float) → T (fits binary64 x) → T (positive x) → Sized (lnOf x) 11939 16

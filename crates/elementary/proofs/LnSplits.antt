@@ -17,7 +17,7 @@ use Rattle.square_root.specs.Parts.{Normal}
 use Rattle.square_root.specs.Standard.{belowZero}
 use Rattle.square_root.proofs.Patterns.{low-bits}
 use Rattle.elementary.specs.Ln.{mant, expo, lnSplit, lnOf}
-use Rattle.choice.proofs.Format.{held, size-pos, lead-le, minus-up}
+use Rattle.min_max.proofs.Format.{representable, size-pos, lead-le, minus-up}
 use Rattle.elementary.proofs.LnLaws.{minus-same}
 
 -- ---- an odd number with i zeros after it is written as itself (private in the logic's `Lib/Ieee/Bits.antt`)
@@ -139,7 +139,7 @@ ln-split (fin true m e) N c w f h p r = absurd (true≢false (h .0))
 ln-split (fin false zero e) N c w f h p r = absurd (lt-irrefl 0 (subst (λ (x : ℕ). 0 < x) (sym (h .1) ∙ ap (λ (x : ℕ). x * 2 ^ 1074) (zero-mul (up e)) ∙ zero-mul (2 ^ 1074)) (mul-pos p (down-pos e))))
 ln-split (fin false (suc m) (pos a)) N c w f h p r =
     let n = suc m in
-    let s = held false m (pos a) f in
+    let s = representable false m (pos a) f in
     let eq : n * 2 ^ (a + 1126) ≡ c * 2 ^ w =
     ap (λ (x : ℕ). n * x) (pow-add 2 a 1126) ∙ sym (mul-assoc n (2 ^ a) (2 ^ 1126)) ∙ ap (λ (x : ℕ). n * 2 ^ a * x) (pow-add 2 1074 52)
     ∙ sym (mul-assoc (n * 2 ^ a) (2 ^ 1074) (2 ^ 52)) ∙ ap (λ (x : ℕ). x * 2 ^ 52) (h .1 ∙ mul-one N) ∙ r .same in
@@ -149,7 +149,7 @@ ln-split (fin false (suc m) (pos a)) N c w f h p r =
     ∙ ap (lnSplit (ofBits binary64 (0x3fe0_0000_0000_0000 + c))) (whole-exp a (size n - 1) w jl (b .1))
 ln-split (fin false (suc m) (negsuc d)) N c w f h p r =
     let n = suc m in
-    let s = held false m (negsuc d) f in
+    let s = representable false m (negsuc d) f in
     let eq : n * 2 ^ 1126 ≡ c * 2 ^ (w + suc d) =
     ap (λ (x : ℕ). n * x) (pow-add 2 1074 52) ∙ sym (mul-assoc n (2 ^ 1074) (2 ^ 52)) ∙ ap (λ (x : ℕ). x * 2 ^ 1074 * 2 ^ 52) (sym (mul-one n)) ∙ ap (λ (x : ℕ). x * 2 ^ 52) (h .1)
     ∙ mul-right-comm N (2 ^ suc d) (2 ^ 52) ∙ ap (λ (x : ℕ). x * 2 ^ suc d) (r .same) ∙ mul-assoc c (2 ^ w) (2 ^ suc d) ∙ ap (λ (x : ℕ). c * x) (sym (pow-add 2 w (suc d))) in

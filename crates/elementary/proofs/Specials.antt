@@ -7,10 +7,10 @@ use Rattle.binary64.specs.Operators.{_⊗_, f64}
 use Rattle.square_root.specs.Root.{sqrtOf, rounded, wholeRoot, rootBelow}
 use Rattle.elementary.specs.Exp.{one, series, squarings, powered, expOf}
 use Rattle.elementary.specs.Ln.{terms, lnParts, lnSplit, lnOf}
-use Rattle.choice.specs.Choice.{absOf, signumOf, clampOf, maxOf, minOf}
+use Rattle.min_max.specs.MinMax.{absOf, signumOf, clampOf, maxOf, minOf}
 use Rattle.elementary.specs.Asinh.{asinhOf}
 use Rattle.elementary.specs.Power.{powfOf}
-use Rattle.choice.specs.Count.{ceilOf}
+use Rattle.min_max.specs.Count.{ceilOf}
 
 pub record Specials : Type 0 where
   pub exp-nan : expOf nan ≡ nan

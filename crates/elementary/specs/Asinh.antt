@@ -5,7 +5,7 @@ use Rattle.binary64.specs.Operators.{_⊕_, _⊗_, negative}
 use Rattle.square_root.specs.Root.{sqrtOf}
 use Rattle.elementary.specs.Exp.{one}
 use Rattle.elementary.specs.Ln.{lnOf}
-use Rattle.choice.specs.Choice.{absOf}
+use Rattle.min_max.specs.MinMax.{absOf}
 
 abbrev pub asinhAt : Float → Float
 asinhAt a = lnOf (a ⊕ sqrtOf ((a ⊗ a) ⊕ one))

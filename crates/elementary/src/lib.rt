@@ -164,9 +164,9 @@ pub fn ln(x: f64) -> f64
 pub fn asinh(x: f64) -> f64
     ensures { λ r. ⌜ r ≡ asinhOf x ⌝ }
 {
-    let a = choice::abs(x);
+    let a = min_max::abs(x);
     let r = ln(a + square_root::sqrt(a * a + 1.0));
-    if choice::is_negative(x) {
+    if min_max::is_negative(x) {
         return -r;
     }
     r

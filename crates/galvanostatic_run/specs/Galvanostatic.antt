@@ -8,18 +8,18 @@ use lib.Ieee.{Float, le}
 use Rattle.binary64.specs.Operators.{f64}
 use Rattle.elementary.specs.Exp.{one}
 use Rattle.refusal.specs.Numbers as Numbers
-use Rattle.refusal.specs.Numbers.{firstMet, refusalUnless}
+use Rattle.refusal.specs.Numbers.{firstRefusal, refusalUnless}
 use Rattle.refusal.specs.Ranges.{finite}
-use Rattle.runs.specs.Endings.{Ended, byVoltage, byTime, byRefusal, endingSaid, endingOf}
+use Rattle.runs.specs.Endings.{Ended, byVoltage, byTime, byRefusal, endedBy, endingOf}
 use Rattle.runs.specs.Rows.{runAfter, rowsAfter}
 use Rattle.dfn_parameters.specs.Ranges.{gridFits}
 use Rattle.dfn.specs.Checks.{stepRefusal}
 use Rattle.dfn.specs.Step.{stepped}
 use Rattle.dfn.specs.declared.DfnSolver.{DfnSolver}
 use Rattle.dfn.specs.declared.DfnStep.{DfnStep}
-use Rattle.dfn.specs.declared.DfnAnswer.{DfnAnswer}
-use Rattle.galvanostatic_run.specs.declared.Feed.{Feed}
-use Rattle.galvanostatic_run.specs.declared.Course.{Course}
+use Rattle.dfn.specs.declared.DfnStepAnswer.{DfnStepAnswer}
+use Rattle.galvanostatic_run.specs.declared.RunSettings.{RunSettings}
+use Rattle.galvanostatic_run.specs.declared.RunState.{RunState}
 use Rattle.galvanostatic_run.specs.declared.DfnRun.{DfnRun}
 
 -- ---- a row
@@ -38,60 +38,60 @@ unfoldable pub overAfter : Float → DfnStep → ℕ
 overAfter limit r = cond (r .cutoff) byVoltage (cond (le limit (r .«time_s»)) byTime 0)
 
 -- the run after a step
-unfoldable pub followed : Feed → Course → DfnAnswer → Course
+unfoldable pub followed : RunSettings → RunState → DfnStepAnswer → RunState
 followed w s a =
     cond (eqb (a .refusal) 0)
     (record { cell = a .cell; row = rowOf (a .report); rows = s .rows + 1; over = overAfter (w .limit) (a .report); refusal = 0 })
     (record { cell = a .cell; row = s .row; rows = s .rows; over = byRefusal; refusal = a .refusal })
 
-unfoldable pub turned : Feed → Course → Course
+unfoldable pub turned : RunSettings → RunState → RunState
 turned w s = followed w s (stepped (s .cell) (w .current) (w .dt))
 
 -- ---- k turns
-unfoldable pub started : DfnSolver → Course
+unfoldable pub started : DfnSolver → RunState
 started d = record { cell = d; row = replicate 8 (f64 0); rows = 0; over = 0; refusal = 0 }
 
-abbrev pub overOf : Course → ℕ
+abbrev pub overOf : RunState → ℕ
 overOf s = s .over
 
-abbrev pub lastRow : Course → List Float
+abbrev pub lastRow : RunState → List Float
 lastRow s = s .row
 
 -- ---- the run: how it ended, the count of rows, the cell after them
-pub record RunSaid : Type 0 where
+pub record RunOutcome : Type 0 where
   pub ended : Ended
   pub rows : ℕ
   pub cell : DfnSolver
 
-abbrev pub runSaid : DfnRun → RunSaid
-runSaid r = record { ended = endingSaid (r .ending); rows = r .rows; cell = r .cell }
+abbrev pub runOutcome : DfnRun → RunOutcome
+runOutcome r = record { ended = endedBy (r .ending); rows = r .rows; cell = r .cell }
 
-unfoldable pub finishedRun : Course → RunSaid
+unfoldable pub finishedRun : RunState → RunOutcome
 finishedRun s = record { ended = endingOf (s .over) (s .refusal); rows = s .rows; cell = s .cell }
 
 -- the turns for which there is room, and the slice that they leave
-unfoldable pub allTurns : Feed → Course → ℕ → RunSaid
+unfoldable pub allTurns : RunSettings → RunState → ℕ → RunOutcome
 allTurns w s total = finishedRun (runAfter overOf (turned w) lastRow total s)
 
-unfoldable pub allRows : Feed → Course → ℕ → List Float → List Float
+unfoldable pub allRows : RunSettings → RunState → ℕ → List Float → List Float
 allRows w s total l = rowsAfter overOf (turned w) lastRow total s l
 
 -- 1, 10, 2, 3, 4, tested before the first step
-unfoldable pub runRefusal : DfnSolver → Feed → ℕ → ℕ
+unfoldable pub runRefusal : DfnSolver → RunSettings → ℕ → ℕ
 runRefusal d w n =
-    firstMet (refusalUnless (gridFits (d .config)) Numbers.grid)
-    (firstMet (refusalUnless (leb 8 n) Numbers.badLength)
-    (firstMet (stepRefusal d (w .current) (w .dt)) (refusalUnless (finite (w .limit)) Numbers.interval)))
+    firstRefusal (refusalUnless (gridFits (d .config)) Numbers.grid)
+    (firstRefusal (refusalUnless (leb 8 n) Numbers.badLength)
+    (firstRefusal (stepRefusal d (w .current) (w .dt)) (refusalUnless (finite (w .limit)) Numbers.interval)))
 
-abbrev pub feedOf : Float → Float → Float → Feed
-feedOf current dt limit = record { current = current; dt = dt; limit = limit }
+abbrev pub runSettings : Float → Float → Float → RunSettings
+runSettings current dt limit = record { current = current; dt = dt; limit = limit }
 
 -- what the call answers on a slice of n places, and what it leaves in the slice: as many turns as there are whole rows
-unfoldable pub galvanostatic : DfnSolver → Float → Float → Float → ℕ → RunSaid
+unfoldable pub galvanostatic : DfnSolver → Float → Float → Float → ℕ → RunOutcome
 galvanostatic d current dt limit n =
-    cond (eqb (runRefusal d (feedOf current dt limit) n) 0) (allTurns (feedOf current dt limit) (started d) (n / 8))
-    (record { ended = record { ending = byRefusal; refusal = runRefusal d (feedOf current dt limit) n }; rows = 0; cell = d })
+    cond (eqb (runRefusal d (runSettings current dt limit) n) 0) (allTurns (runSettings current dt limit) (started d) (n / 8))
+    (record { ended = record { ending = byRefusal; refusal = runRefusal d (runSettings current dt limit) n }; rows = 0; cell = d })
 
 unfoldable pub galvanostaticRows : DfnSolver → Float → Float → Float → List Float → List Float
 galvanostaticRows d current dt limit l =
-    cond (eqb (runRefusal d (feedOf current dt limit) (length l)) 0) (allRows (feedOf current dt limit) (started d) (length l / 8) l) l
+    cond (eqb (runRefusal d (runSettings current dt limit) (length l)) 0) (allRows (runSettings current dt limit) (started d) (length l / 8) l) l

@@ -12,17 +12,17 @@ use runs::put_row;
 ghost use mathlib.Core.Path.{_≡_};
 ghost use Prim.Native.Nat.{_*_, _^_, _≤_, _<_};
 ghost use lib.ListN.{length};
-ghost use Rattle.galvanostatic_run.specs.Galvanostatic.{overAfter, flagOf, rowOf, turned, started, runSaid, finishedRun, allTurns, allRows, runRefusal, galvanostatic, galvanostaticRows};
+ghost use Rattle.galvanostatic_run.specs.Galvanostatic.{overAfter, flagOf, rowOf, turned, started, runOutcome, finishedRun, allTurns, allRows, runRefusal, galvanostatic, galvanostaticRows};
 
 // The current, A, the interval and the time limit, s.
-pub struct Feed {
+pub struct RunSettings {
     pub current: f64,
     pub dt: f64,
     pub limit: f64,
 }
 
 // A run on its way: the cell, the last row, how many rows there are; 0 while it goes on, else the number of its ending, and a refusal's number.
-pub struct Course {
+pub struct RunState {
     pub cell: DfnSolver,
     pub row: [f64; 8],
     pub rows: usize,
@@ -74,7 +74,7 @@ fn row_of(r: DfnStep) -> [f64; 8]
 }
 
 // One turn of a run that is not over.
-fn turn(w: Feed, s: Course) -> Course
+fn turn(w: RunSettings, s: RunState) -> RunState
     requires { ⌜ s .rows < 2 ^ 61 ⌝ }
     ensures { λ r. ⌜ r ≡ turned w s ⌝ }
 {
@@ -83,7 +83,7 @@ fn turn(w: Feed, s: Course) -> Course
     let cell = a.cell;
     if a.refusal != 0 {
         let row = s.row;
-        return Course {
+        return RunState {
             cell,
             row,
             rows: s.rows,
@@ -93,7 +93,7 @@ fn turn(w: Feed, s: Course) -> Course
     }
     let report = a.report;
     let row = row_of(report);
-    Course {
+    RunState {
         cell,
         row,
         rows: s.rows + 1,
@@ -103,10 +103,10 @@ fn turn(w: Feed, s: Course) -> Course
 }
 
 // The run before its first step.
-fn start(cell: DfnSolver) -> Course
+fn start(cell: DfnSolver) -> RunState
     ensures { λ r. ⌜ r ≡ started cell ⌝ }
 {
-    Course {
+    RunState {
         cell,
         row: [0.0; 8],
         rows: 0,
@@ -116,8 +116,8 @@ fn start(cell: DfnSolver) -> Course
 }
 
 // What a run that has stopped answers.
-fn finished(s: Course) -> DfnRun
-    ensures { λ r. ⌜ runSaid r ≡ finishedRun s ⌝ }
+fn finished(s: RunState) -> DfnRun
+    ensures { λ r. ⌜ runOutcome r ≡ finishedRun s ⌝ }
 {
     let cell = s.cell;
     DfnRun {
@@ -128,9 +128,9 @@ fn finished(s: Course) -> DfnRun
 }
 
 // At most `total` turns of a run, each step with its row.
-fn run_rows(w: Feed, first: Course, out: &mut [f64], total: usize) -> DfnRun
+fn run_rows(w: RunSettings, first: RunState, out: &mut [f64], total: usize) -> DfnRun
     requires { ⌜ (first .over ≡ 0) × ((first .rows ≡ 0) × ((total < 2 ^ 61) × (total * 8 ≤ length (now out)))) ⌝ }
-    ensures answer { λ r. ⌜ runSaid r ≡ allTurns w first total ⌝ }
+    ensures answer { λ r. ⌜ runOutcome r ≡ allTurns w first total ⌝ }
     ensures rows { λ r. ⌜ now (out .exit) ≡ allRows w first total (now (out .entry)) ⌝ }
 {
     let mut run = first;
@@ -151,7 +151,7 @@ fn run_rows(w: Feed, first: Course, out: &mut [f64], total: usize) -> DfnRun
 }
 
 // The number of the table that refuses the whole run: 1, 10, 2, 3, 4.
-fn run_refusal(cell: DfnSolver, w: Feed, places: usize) -> u64
+fn run_refusal(cell: DfnSolver, w: RunSettings, places: usize) -> u64
     ensures { λ r. ⌜ r ≡ runRefusal cell w places ⌝ }
 {
     let config = cell.config;
@@ -159,9 +159,9 @@ fn run_refusal(cell: DfnSolver, w: Feed, places: usize) -> u64
     let short = refusal::refusal_unless(8 <= places, refusal::LENGTH);
     let limit = refusal::refusal_unless(refusal::is_finite(w.limit), refusal::INTERVAL);
     let step = cell.step_refusal(w.current, w.dt);
-    refusal::first_met(
+    refusal::first_refusal(
         grid,
-        refusal::first_met(short, refusal::first_met(step, limit)),
+        refusal::first_refusal(short, refusal::first_refusal(step, limit)),
     )
 }
 
@@ -173,10 +173,10 @@ pub fn run_galvanostatic(
     max_time_s: f64,
     rows: &mut [f64],
 ) -> DfnRun
-    ensures answer { λ r. ⌜ runSaid r ≡ galvanostatic cell «current_a» «dt_s» «max_time_s» (length (now (rows .entry))) ⌝ }
+    ensures answer { λ r. ⌜ runOutcome r ≡ galvanostatic cell «current_a» «dt_s» «max_time_s» (length (now (rows .entry))) ⌝ }
     ensures rows { λ r. ⌜ now (rows .exit) ≡ galvanostaticRows cell «current_a» «dt_s» «max_time_s» (now (rows .entry)) ⌝ }
 {
-    let w = Feed {
+    let w = RunSettings {
         current: current_a,
         dt: dt_s,
         limit: max_time_s,

@@ -8,22 +8,22 @@ use Rattle.electrode.specs.declared.ElectrodeParams.{ElectrodeParams}
 use Rattle.electrode.specs.Sheet.{graphiteAnode, lfpCathode, nmcCathode}
 use Rattle.particle.specs.declared.ParticleAnswer.{ParticleAnswer}
 use Rattle.particle.specs.Calls as P
-use Rattle.solver.specs.declared.SpmAnswer.{SpmAnswer}
+use Rattle.solver.specs.declared.SpmBuildAnswer.{SpmBuildAnswer}
 use Rattle.solver.specs.Cell as S
-use Rattle.electrolyte.specs.declared.StateAnswer.{StateAnswer}
+use Rattle.electrolyte.specs.declared.ElectrolyteAnswer.{ElectrolyteAnswer}
 use Rattle.electrolyte_parameters.specs.Params.{lipf6EcDmc}
 use Rattle.electrolyte.specs.State.{unfilled}
 use Rattle.electrolyte.specs.Calls as E
 use Rattle.dfn_parameters.specs.declared.DfnParams.{DfnParams}
 use Rattle.dfn_parameters.specs.Ready.{nmcGraphite, lfpGraphite}
-use Rattle.dfn.specs.declared.DfnBuild.{DfnBuild}
+use Rattle.dfn.specs.declared.DfnBuildAnswer.{DfnBuildAnswer}
 use Rattle.dfn.specs.Build as D
 use Rattle.cell_images.specs.Images.{putCell}
 use Rattle.sheet_images.specs.Images.{sheetAt, configAt, putSheet, putParticle}
-use Rattle.electrolyte_images.specs.Images.{saltAt, putSalt, putElectrolyte}
+use Rattle.electrolyte_images.specs.Images.{electrolyteParamsAt, putElectrolyteParams, putElectrolyte}
 use Rattle.parameter_images.specs.Images.{paramsAt, putParams}
 use Rattle.parameter_images.specs.Images as G
-use Rattle.porous_images.specs.Images as I
+use Rattle.dfn_images.specs.Images as I
 use Rattle.image_rows.specs.Written.{written}
 
 -- ---- ready records: 1 graphite_anode, 2 lfp_cathode, 3 nmc_cathode, 4 lipf6_ec_dmc, 5 nmc_graphite, 6 lfp_graphite
@@ -36,7 +36,7 @@ readyParams call = cond (eqb call 5) nmcGraphite lfpGraphite
 
 unfoldable pub readyPut : ℕ → List ℕ → List ℕ
 readyPut call a =
-    cond (leb call 3) (putSheet a 0 (readySheet call)) (cond (eqb call 4) (putSalt a lipf6EcDmc) (putParams a (readyParams call)))
+    cond (leb call 3) (putSheet a 0 (readySheet call)) (cond (eqb call 4) (putElectrolyteParams a lipf6EcDmc) (putParams a (readyParams call)))
 
 -- ---- new records from their images
 
@@ -45,23 +45,23 @@ unfoldable pub particleMade : List ℕ → ParticleAnswer
 particleMade s = P.made (sheetAt s 0) (wordAt s 10)
 
 -- 8 graphite_lfp, 9 graphite_nmc: a configuration; 10: a configuration and two sheets
-unfoldable pub cellBuilt : ℕ → List ℕ → SpmAnswer
+unfoldable pub cellBuilt : ℕ → List ℕ → SpmBuildAnswer
 cellBuilt call s =
     cond (eqb call 8) (S.ready (configAt s) lfpCathode)
     (cond (eqb call 9) (S.ready (configAt s) nmcCathode) (S.built (configAt s) (sheetAt s 6) (sheetAt s 16)))
 
 -- 11: an electrolyte's image without its places
-unfoldable pub electrolyteBuilt : List ℕ → StateAnswer
+unfoldable pub electrolyteBuilt : List ℕ → ElectrolyteAnswer
 electrolyteBuilt s =
     E.built
-    (unfilled (saltAt s) (floatAt s 7) (floatAt s 8) (floatAt s 9) (floatAt s 10) (floatAt s 11) (floatAt s 12) (wordAt s 13) (wordAt s 14) (wordAt s 15))
+    (unfilled (electrolyteParamsAt s) (floatAt s 7) (floatAt s 8) (floatAt s 9) (floatAt s 10) (floatAt s 11) (floatAt s 12) (wordAt s 13) (wordAt s 14) (wordAt s 15))
 
 -- 12: parameters and grid
-unfoldable pub dfnMade : List ℕ → DfnBuild
+unfoldable pub dfnMade : List ℕ → DfnBuildAnswer
 dfnMade s = D.made (paramsAt s) (G.configAt s)
 
-unfoldable pub newNumber : ℕ → List ℕ → ℕ
-newNumber call s =
+unfoldable pub newReturn : ℕ → List ℕ → ℕ
+newReturn call s =
     cond (eqb call 7) (particleMade s .refusal)
     (cond (leb call 10) (cellBuilt call s .refusal) (cond (eqb call 11) (electrolyteBuilt s .refusal) (dfnMade s .refusal)))
 

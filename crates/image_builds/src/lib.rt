@@ -7,7 +7,7 @@ use electrode::ElectrodeParams;
 use electrolyte::ElectrolyteState;
 use electrolyte_images::electrolyte_at;
 use electrolyte_images::put_electrolyte;
-use electrolyte_images::put_salt;
+use electrolyte_images::put_electrolyte_params;
 use electrolyte_parameters::ElectrolyteParams;
 use parameter_images::params_at;
 use parameter_images::put_params;
@@ -16,15 +16,15 @@ use sheet_images::config_at;
 use sheet_images::put_particle;
 use sheet_images::put_sheet;
 use sheet_images::sheet_at;
-use solver::SpmAnswer;
+use solver::SpmBuildAnswer;
 use solver::SpmSolver;
 ghost use mathlib.Core.Path.{_≡_};
 ghost use Rattle.cell_images.specs.Images.{putCell};
 ghost use Rattle.sheet_images.specs.Images.{putParticle};
 ghost use Rattle.electrolyte_images.specs.Images.{putElectrolyte};
-ghost use Rattle.porous_images.specs.Images as P;
+ghost use Rattle.dfn_images.specs.Images as P;
 ghost use Rattle.image_rows.specs.Written.{written};
-ghost use Rattle.image_builds.specs.Builds.{readySheet, readyParams, readyPut, particleMade, cellBuilt, electrolyteBuilt, dfnMade, newNumber, newAfter, buildLength, builtLength};
+ghost use Rattle.image_builds.specs.Builds.{readySheet, readyParams, readyPut, particleMade, cellBuilt, electrolyteBuilt, dfnMade, newReturn, newAfter, buildLength, builtLength};
 
 fn ready_sheet(call: u64) -> ElectrodeParams
     ensures { λ r. ⌜ r ≡ readySheet call ⌝ }
@@ -52,13 +52,13 @@ pub fn put_ready(call: u64, answer: &mut [u8])
     if call <= 3 {
         put_sheet(answer, 0, ready_sheet(call));
     } else if call == 4 {
-        put_salt(answer, ElectrolyteParams::lipf6_ec_dmc());
+        put_electrolyte_params(answer, ElectrolyteParams::lipf6_ec_dmc());
     } else {
         put_params(answer, ready_params(call));
     }
 }
 
-fn built_cell(call: u64, image: &[u8]) -> SpmAnswer
+fn built_cell(call: u64, image: &[u8]) -> SpmBuildAnswer
     ensures { λ r. ⌜ r ≡ cellBuilt call (now (image .entry)) ⌝ }
 {
     let config = config_at(image);
@@ -69,7 +69,7 @@ fn built_cell(call: u64, image: &[u8]) -> SpmAnswer
     }
 }
 
-fn built_electrolyte(image: &[u8]) -> electrolyte::StateAnswer
+fn built_electrolyte(image: &[u8]) -> electrolyte::ElectrolyteAnswer
     ensures { λ r. ⌜ r ≡ electrolyteBuilt (now (image .entry)) ⌝ }
 {
     let e = electrolyte_at(image);
@@ -135,7 +135,7 @@ fn new_dfn(image: &[u8], answer: &mut [u8]) -> u64
     let refusal = new.refusal;
     if refusal == 0 {
         let made = new.cell;
-        porous_images::put_cell(answer, made);
+        dfn_images::put_cell(answer, made);
     }
     refusal
 }
@@ -143,7 +143,7 @@ fn new_dfn(image: &[u8], answer: &mut [u8]) -> u64
 // Number `call`, 7 to 12: a new particle, cell, electrolyte or Doyle-Fuller-Newman cell from its image, written to the
 // answer; or the number of the refusal, with nothing written.
 pub fn put_new(call: u64, image: &[u8], answer: &mut [u8]) -> u64
-    ensures number { λ r. ⌜ r ≡ newNumber call (now (image .entry)) ⌝ }
+    ensures number { λ r. ⌜ r ≡ newReturn call (now (image .entry)) ⌝ }
     ensures written { λ _. ⌜ now (answer .exit) ≡ newAfter call (now (image .entry)) (now (answer .entry)) ⌝ }
 {
     if call == 7 {

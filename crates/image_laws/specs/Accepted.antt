@@ -8,13 +8,13 @@ use borrow.Author.Tests.{eqb-true, eq-eqb}
 use lib.Dec.{T, eqb, eqb·suc-zero}
 use lib.ListN.{length}
 use Rattle.refusal.specs.Numbers as N
-use Rattle.runs.specs.Told.{told}
-use Rattle.boundary.specs.Calls.{lengths, met}
+use Rattle.runs.specs.RunAnswers.{writesAnswer}
+use Rattle.boundary.specs.Calls.{lengths, afterLengths}
 
 -- an answer that is x where the inputs' number k is 0 and else y, which has the number k
-module _ {A : Type 0} (number : A → ℕ) (k : ℕ) (x y : A) (e : number y ≡ k) (h : number (cond (eqb k 0) x y) ≡ 0) where
+module _ {A : Type 0} (refusal : A → ℕ) (k : ℕ) (x y : A) (e : refusal y ≡ k) (h : refusal (cond (eqb k 0) x y) ≡ 0) where
   refused-number : (j : ℕ) → k ≡ suc j → k ≡ 0
-  refused-number j d = let z : number y ≡ 0 = rw (d, eqb·suc-zero j) at h in sym e ∙ z
+  refused-number j d = let z : refusal y ≡ 0 = rw (d, eqb·suc-zero j) at h in sym e ∙ z
 
   -- it is accepted: its inputs pass
   pub inputs-pass : k ≡ 0
@@ -29,10 +29,10 @@ module _ {A : Type 0} (number : A → ℕ) (k : ℕ) (x y : A) (e : number y ≡
   accepted-is = rw (eq-eqb k 0 inputs-pass)
 
 -- a number that is 0 although a test has its say
-pub met-both : (b : Bool) (k : ℕ) → met b k ≡ 0 → (b ≡ true) × (k ≡ 0)
-unfolding met
-met-both true k h = (refl, h)
-met-both false k h = let z : N.badLength ≡ 0 = h in absurd (omega (arith, z))
+pub after-lengths : (b : Bool) (k : ℕ) → afterLengths b k ≡ 0 → (b ≡ true) × (k ≡ 0)
+unfolding afterLengths
+after-lengths true k h = (refl, h)
+after-lengths false k h = let z : N.badLength ≡ 0 = h in absurd (omega (arith, z))
 
 pub first-true : (x y : Bool) → x && y ≡ true → x ≡ true
 first-true true y e = refl
@@ -47,19 +47,19 @@ second-true false false e = e
 pub record Accepted (s a : List ℕ) (m n k : ℕ) (new : List ℕ) : Type 0 where
   pub image : length s ≡ m
   pub answer : length a ≡ n
-  pub number : k ≡ 0
+  pub refusal : k ≡ 0
   pub writes : cond (lengths (length s) m (length a) n) new a ≡ new
 
-pub accepted : (s a : List ℕ) (m n k : ℕ) (new : List ℕ) → met (lengths (length s) m (length a) n) k ≡ 0 → Accepted s a m n k new
+pub accepted : (s a : List ℕ) (m n k : ℕ) (new : List ℕ) → afterLengths (lengths (length s) m (length a) n) k ≡ 0 → Accepted s a m n k new
 accepted s a m n k new h =
-    let c = met-both (lengths (length s) m (length a) n) k h in
+    let c = after-lengths (lengths (length s) m (length a) n) k h in
     record {
       image = eqb-true (length s) m (first-true (eqb (length s) m) (eqb (length a) n) (c .0));
       answer = eqb-true (length a) n (second-true (eqb (length s) m) (eqb (length a) n) (c .0));
-      number = c .1;
+      refusal = c .1;
       writes = rw (c .0);
     }
 
 -- a run that returns 0 has written its answer
-pub no-refusal : (refusal rows : ℕ) → refusal ≡ 0 → T (told refusal rows)
+pub no-refusal : (refusal rows : ℕ) → refusal ≡ 0 → T (writesAnswer refusal rows)
 no-refusal refusal rows h = rw (eq-eqb refusal 0 h) tt

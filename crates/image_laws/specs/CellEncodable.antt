@@ -12,19 +12,19 @@ use lib.Ieee.Fits.{add-fits, cond-fits}
 use Rattle.matrix_rows.specs.Loops.{either}
 use Rattle.binary64.specs.Operators.{_⊕_, _⊗_, _⊘_, f64, count}
 use Rattle.refusal.specs.Numbers.{notFinite}
-use Rattle.turns.specs.Turns.{times, first-length}
+use Rattle.iterate.specs.Iterate.{times, first-length}
 use Rattle.electrode.specs.Sheet.{sheetFits, diffusivityAt}
 use Rattle.electrode.specs.declared.ElectrodeParams.{ElectrodeParams}
-use Rattle.diffusion.specs.SubStep.{Drive, rate, node, subStep}
+use Rattle.diffusion.specs.SubStep.{SubStepParams, rate, node, subStep}
 use Rattle.profile.specs.Places.{finiteProfile}
 use Rattle.particle.specs.declared.ParticleDiffusion.{ParticleDiffusion}
 use Rattle.particle.specs.declared.ParticleAnswer.{ParticleAnswer}
 use Rattle.particle.specs.Checks.{particleRefusal, nodes-of}
-use Rattle.particle.specs.Particle.{withProfile, driveWith}
+use Rattle.particle.specs.Particle.{withProfile, subStepParamsOf}
 use Rattle.particle.specs.Calls as P
 use Rattle.particle_laws.specs.Ranges.{sheet-passed}
 use Rattle.solver.specs.declared.SpmSolver.{SpmSolver}
-use Rattle.solver.specs.declared.SpmStep.{SpmStep}
+use Rattle.solver.specs.declared.SpmStepAnswer.{SpmStepAnswer}
 use Rattle.solver.specs.Cell.{cellRefusal}
 use Rattle.solver.specs.Step as S
 use Rattle.solver_step.specs.Moves.{profileAfter}
@@ -81,33 +81,33 @@ cellAt-encodable s h =
     record { config = record { nodes = omega (arith, n); numbers = configAt-row s }; anode = particleAt-encodable s 6 a; cathode = particleAt-encodable s 81 c; clock = float-encodable s 156 }
 
 -- ---- what a step makes: each new place is a sum or one of the two bounds
-node-encodable : (v : Drive) → T (fits binary64 (v .c_max)) → (c : ℕ → Float) (i : ℕ) → T (fits binary64 (node v c i))
+node-encodable : (v : SubStepParams) → T (fits binary64 (v .c_max)) → (c : ℕ → Float) (i : ℕ) → T (fits binary64 (node v c i))
 unfolding node
 node-encodable v f c i =
     let x = c i ⊕ v .dt ⊗ rate v c i in
     let y = cond (lt x (f64 0)) (f64 0) x in
     cond-fits binary64 (lt (v .c_max) y) (v .c_max) y f (cond-fits binary64 (lt x (f64 0)) (f64 0) x (ofBits-fits binary64 0) (add-fits binary64 (c i) (v .dt ⊗ rate v c i)))
 
-step-row : (v : Drive) → T (fits binary64 (v .c_max)) → (c : List Float) → EncodableRow c → EncodableRow (subStep v c)
+step-row : (v : SubStepParams) → T (fits binary64 (v .c_max)) → (c : List Float) → EncodableRow c → EncodableRow (subStep v c)
 unfolding subStep
 step-row v f c h = first-encodable (v .n) (node v (λ i. getD c i nan)) c (node-encodable v f (λ i. getD c i nan)) h
 
-step-long : (v : Drive) (c : List Float) → length (subStep v c) ≡ length c
+step-long : (v : SubStepParams) (c : List Float) → length (subStep v c) ≡ length c
 unfolding subStep
 step-long v c = first-length (node v (λ i. getD c i nan)) c (v .n)
 
-sub-step-encodable : (p : ParticleDiffusion) (c : List Float) (d j dt : Float) → EncodableParticle (withProfile p c) → EncodableParticle (withProfile p (subStep (driveWith p d j dt) c))
+sub-step-encodable : (p : ParticleDiffusion) (c : List Float) (d j dt : Float) → EncodableParticle (withProfile p c) → EncodableParticle (withProfile p (subStep (subStepParamsOf p d j dt) c))
 sub-step-encodable p c d j dt h = record {
   sheet = h .sheet;
   nodes = h .nodes;
-  long = step-long (driveWith p d j dt) c ∙ h .long;
-  places = step-row (driveWith p d j dt) (h .sheet .numbers .place 2) c (h .places);
+  long = step-long (subStepParamsOf p d j dt) c ∙ h .long;
+  places = step-row (subStepParamsOf p d j dt) (h .sheet .numbers .place 2) c (h .places);
 }
 
-times-encodable : (k : ℕ) (p : ParticleDiffusion) (d j dt : Float) → EncodableParticle p → EncodableParticle (withProfile p (times k (subStep (driveWith p d j dt)) (p .«c_s»)))
+times-encodable : (k : ℕ) (p : ParticleDiffusion) (d j dt : Float) → EncodableParticle p → EncodableParticle (withProfile p (times k (subStep (subStepParamsOf p d j dt)) (p .«c_s»)))
 unfolding times
 times-encodable zero p d j dt h = h
-times-encodable (suc k) p d j dt h = sub-step-encodable p (times k (subStep (driveWith p d j dt)) (p .«c_s»)) d j dt (times-encodable k p d j dt h)
+times-encodable (suc k) p d j dt h = sub-step-encodable p (times k (subStep (subStepParamsOf p d j dt)) (p .«c_s»)) d j dt (times-encodable k p d j dt h)
 
 profile-encodable : (p : ParticleDiffusion) (d j dt : Float) (k : ℕ) → EncodableParticle p → EncodableParticle (withProfile p (profileAfter p d j dt k))
 unfolding profileAfter
@@ -126,7 +126,7 @@ next-encodable s i dt t h = record {
 pub step-encodable : (s : SpmSolver) (i dt t : Float) → EncodableCell s → EncodableCell (S.stepped s i dt t .solver)
 step-encodable s i dt t h = go (S.stepped s i dt t) (leads s i dt t)
   where
-    go : (a : SpmStep) → Leads s i dt t a → EncodableCell (a .solver)
+    go : (a : SpmStepAnswer) → Leads s i dt t a → EncodableCell (a .solver)
     go a (Leads.refused k) = h
     go a (Leads.moved g p f) = next-encodable s i dt t h
 
@@ -138,6 +138,6 @@ accepted-encodable p c h k = either (λ (a : ParticleAnswer). EncodableParticle 
 pub particle-step-encodable : (p : ParticleDiffusion) (j dt t : Float) → EncodableParticle p → EncodableParticle (P.stepped p j dt t .particle)
 unfolding P.stepped
 particle-step-encodable p j dt t h =
-    let c = subStep (driveWith p (diffusivityAt (p .params) t) j dt) (p .«c_s») in
+    let c = subStep (subStepParamsOf p (diffusivityAt (p .params) t) j dt) (p .«c_s») in
     either (λ (a : ParticleAnswer). EncodableParticle (a .particle)) (eqb (P.stepRefusal p j dt t) 0) (P.accepted p c) (P.particleAnswer (P.stepRefusal p j dt t) p)
     (accepted-encodable p c (sub-step-encodable p (p .«c_s») (diffusivityAt (p .params) t) j dt h) h) h

@@ -13,7 +13,7 @@ use Rattle.particle.specs.Checks.{particleRefusal}
 use Rattle.particle.specs.declared.ParticleAnswer.{ParticleAnswer}
 use Rattle.particle.specs.Calls as P
 use Rattle.solver.specs.declared.SpmSolver.{SpmSolver}
-use Rattle.solver.specs.declared.SpmStep.{SpmStep}
+use Rattle.solver.specs.declared.SpmStepAnswer.{SpmStepAnswer}
 use Rattle.solver.specs.Cell.{cellRefusal}
 use Rattle.solver.specs.Step as S
 use Rattle.solver_laws.specs.Electrodes.{count-most}
@@ -22,7 +22,7 @@ use Rattle.codec.specs.Words.{wordAt}
 use Rattle.image_rows.specs.Written.{written}
 use Rattle.sheet_images.specs.Images.{particleAt}
 use Rattle.cell_images.specs.Images.{cellAt, putCell, stateNumbers, putReport}
-use Rattle.cell_calls.specs.Steps.{particleNumber, particleAfter, cellNumber, cellAfter}
+use Rattle.cell_calls.specs.Steps.{particleReturn, particleAfter, cellReturn, cellAfter}
 use Rattle.image_laws.specs.Accepted.{inputs-pass}
 use Rattle.image_laws.specs.Encodable.{EncodableRow, []ᵉ, _∷ᵉ_}
 use Rattle.image_laws.specs.Layout.{Holds, holds, holds-alone}
@@ -31,9 +31,9 @@ use Rattle.image_laws.specs.Reports.{cellReportAt, writes-cell-report, r
 use Rattle.image_laws.specs.CellEncodable.{particleAt-encodable, cellAt-encodable, step-encodable, particle-step-encodable}
 
 -- ---- a particle
-module _ (s : List ℕ) (j dt t : Float) (a : List ℕ) (h : particleNumber s j dt t ≡ 0) where
+module _ (s : List ℕ) (j dt t : Float) (a : List ℕ) (h : particleReturn s j dt t ≡ 0) where
   particle-passes : particleRefusal (particleAt s 0) ≡ 0
-  unfolding particleNumber P.stepped
+  unfolding particleReturn P.stepped
   particle-passes =
       P.step-particle (particleAt s 0) j dt t (inputs-pass (λ (x : ParticleAnswer). x .refusal) (P.stepRefusal (particleAt s 0) j dt t) _ _ refl h)
 
@@ -42,11 +42,11 @@ module _ (s : List ℕ) (j dt t : Float) (a : List ℕ) (h : particleNumber s j 
 
   pub particle-answer : 600 ≤ length a → Holds 75 particleIn a (particleAfter s j dt t a) (P.stepped (particleAt s 0) j dt t .particle)
   unfolding particleAfter written
-  particle-answer l = rw (eq-eqb (particleNumber s j dt t) 0 h) (holds-alone particle-layout a (P.stepped (particleAt s 0) j dt t .particle) stepped-particle l)
+  particle-answer l = rw (eq-eqb (particleReturn s j dt t) 0 h) (holds-alone particle-layout a (P.stepped (particleAt s 0) j dt t .particle) stepped-particle l)
 
 -- ---- a cell
 -- what an accepted step tells: the cell passes the checks, the sub-steps are few, the numbers of the report are binary64's
-record Stepped (c : SpmSolver) (i : Float) (r : SpmStep) : Type 0 where
+record Stepped (c : SpmSolver) (i : Float) (r : SpmStepAnswer) : Type 0 where
   passes : cellRefusal c ≡ 0
   few : r .«sub_steps» ≤ 4096
   report : T (fits binary64 i) → EncodableRow (stateNumbers (r .state))
@@ -63,19 +63,19 @@ report-encodable c i dt t f =
 step-tells : (c : SpmSolver) (i dt t : Float) → S.stepped c i dt t .refusal ≡ 0 → Stepped c i (S.stepped c i dt t)
 step-tells c i dt t = go (S.stepped c i dt t) (leads c i dt t)
   where
-    go : (r : SpmStep) → Leads c i dt t r → r .refusal ≡ 0 → Stepped c i r
+    go : (r : SpmStepAnswer) → Leads c i dt t r → r .refusal ≡ 0 → Stepped c i r
     go r (Leads.refused k) z = absurd (omega (arith, z))
     go r (Leads.moved h g f) z = record { passes = S.input-cell c i dt t h; few = count-most _ g; report = report-encodable c i dt t }
 
-module _ (s : List ℕ) (i dt t : Float) (a : List ℕ) (h : cellNumber s i dt t ≡ 0) (l : length a ≡ 1328) where
-  abbrev after : SpmStep
+module _ (s : List ℕ) (i dt t : Float) (a : List ℕ) (h : cellReturn s i dt t ≡ 0) (l : length a ≡ 1328) where
+  abbrev after : SpmStepAnswer
   after = S.stepped (cellAt s) i dt t
 
   abbrev new : List ℕ
   new = putCell a (after .solver)
 
   tells : Stepped (cellAt s) i after
-  unfolding cellNumber
+  unfolding cellReturn
   tells = step-tells (cellAt s) i dt t h
 
   stepped-cell : EncodableCell (after .solver)
@@ -83,7 +83,7 @@ module _ (s : List ℕ) (i dt t : Float) (a : List ℕ) (h : cellNumber s i dt t
 
   answer-is : cellAfter s i dt t a ≡ putReport new (after .state) (after .«sub_steps»)
   unfolding cellAfter written
-  answer-is = rw (eq-eqb (cellNumber s i dt t) 0 h)
+  answer-is = rw (eq-eqb (cellReturn s i dt t) 0 h)
 
   room : 1328 ≤ length new
   room = rw (writes-cell a (after .solver) stepped-cell .size ∙ l) (lit≤ tt)

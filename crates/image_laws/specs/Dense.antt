@@ -7,9 +7,9 @@ use lib.ListN.{length, set, replicate, length-set, length-replicate}
 use lib.Ieee.{Float, binary64, fits}
 use lib.Ieee.Fits.{sub-fits, div-fits}
 use Rattle.binary64.specs.Operators.{_⊘_, f64}
-use Rattle.choice.specs.Choice.{absOf}
-use Rattle.refusal.specs.Numbers.{firstMet}
-use Rattle.turns.specs.Turns.{first-length}
+use Rattle.min_max.specs.MinMax.{absOf}
+use Rattle.refusal.specs.Numbers.{firstRefusal}
+use Rattle.iterate.specs.Iterate.{first-length}
 use Rattle.matrix_rows.specs.Loops.{either, Tried, range-keeps, try-keeps}
 use Rattle.matrix_rows.specs.Places.{at, entry}
 use Rattle.matrix_rows.specs.Rows.{swapped}
@@ -71,7 +71,7 @@ solution-encodable a b n h =
 pub solved-encodable : (a b : List Float) (n : ℕ) → EncodableRow b → EncodableColumn (solved a b n .x)
 unfolding solved answer
 solved-encodable a b n h =
-    either EncodableColumn (eqb (firstMet (inputRefusal a b n) (solutionRefusal a b n)) 0) (solution a b n .value) (replicate 32 (f64 0)) (solution-encodable a b n h)
+    either EncodableColumn (eqb (firstRefusal (inputRefusal a b n) (solutionRefusal a b n)) 0) (solution a b n .value) (replicate 32 (f64 0)) (solution-encodable a b n h)
     (record { count = length-replicate 32 (f64 0); places = copies-encodable 32 (f64 0) (literal 0) })
 
 -- a row of doubles from C

@@ -11,10 +11,10 @@ use lib.Ieee.{binary64}
 use lib.Ieee.Fits.{mul-fits, and-l}
 use borrow.Author.Tests.{eq-eqb}
 use Rattle.binary64.specs.Operators.{_⊗_}
-use Rattle.refusal.specs.Numbers.{grid, sheet, none-met, passed}
+use Rattle.refusal.specs.Numbers.{grid, sheet, neither-refused, passed}
 use Rattle.electrolyte_profile.specs.Places.{uniformProfile}
 use Rattle.electrolyte.specs.declared.ElectrolyteState.{ElectrolyteState}
-use Rattle.electrolyte.specs.declared.StateAnswer.{StateAnswer}
+use Rattle.electrolyte.specs.declared.ElectrolyteAnswer.{ElectrolyteAnswer}
 use Rattle.electrolyte.specs.State.{total, withProfile}
 use Rattle.electrolyte.specs.Calls as E
 use Rattle.electrolyte.specs.Accepted as EA
@@ -22,30 +22,30 @@ use Rattle.dfn_parameters.specs.declared.DfnParams.{DfnParams}
 use Rattle.dfn_parameters.specs.declared.DfnConfig.{DfnConfig}
 use Rattle.dfn_parameters.specs.Ranges.{parametersFit, gridFits, limitsFit}
 use Rattle.dfn.specs.Checks as DC
-use Rattle.dfn.specs.declared.DfnBuild.{DfnBuild}
+use Rattle.dfn.specs.declared.DfnBuildAnswer.{DfnBuildAnswer}
 use Rattle.dfn.specs.Build as D
 use Rattle.image_rows.specs.Written.{written}
 use Rattle.electrolyte_images.specs.Images.{electrolyteAt, regionNumbers}
 use Rattle.parameter_images.specs.Images.{paramsAt, paramsNumbers}
 use Rattle.parameter_images.specs.Images as G
-use Rattle.porous_images.specs.Images.{cellAt}
-use Rattle.image_builds.specs.Builds.{electrolyteBuilt, dfnMade, newNumber, newAfter}
+use Rattle.dfn_images.specs.Images.{cellAt}
+use Rattle.image_builds.specs.Builds.{electrolyteBuilt, dfnMade, newReturn, newAfter}
 use Rattle.image_laws.specs.Accepted.{inputs-pass, accepted-is}
 use Rattle.image_laws.specs.Encodable.{EncodableRow, []ᵉ, _∷ᵉ_, filled-encodable, filled-length, literal, float-encodable}
 use Rattle.image_laws.specs.Layout.{Holds, holds-alone}
-use Rattle.image_laws.specs.ElectrolyteImages.{saltNumbers, EncodableElectrolyte, electrolyte-layout}
+use Rattle.image_laws.specs.ElectrolyteImages.{electrolyteParamsNumbers, EncodableElectrolyte, electrolyte-layout}
 use Rattle.image_laws.specs.DfnImages.{EncodableParams, EncodableGrid, EncodableDfn, dfn-layout}
-use Rattle.image_laws.specs.ElectrolyteSteps.{saltAt-encodable}
+use Rattle.image_laws.specs.ElectrolyteSteps.{electrolyteParamsAt-encodable}
 use Rattle.image_laws.specs.DfnEncodable.{paramsAt-encodable, gridAt-encodable}
 
 -- ---- an electrolyte
-module _ (e : ElectrolyteState) (hs : EncodableRow (saltNumbers (e .params))) (hr : EncodableRow (regionNumbers e)) where
+module _ (e : ElectrolyteState) (hs : EncodableRow (electrolyteParamsNumbers (e .params))) (hr : EncodableRow (regionNumbers e)) where
   filled-state : E.buildRefusal e ≡ 0 → EncodableElectrolyte (withProfile e (uniformProfile (e .params .«c_e_init») (total e)))
   unfolding uniformProfile
   filled-state q =
       let n = EA.build-total e q in
       record {
-        salt = hs;
+        cE = hs;
         regions = hr;
         neg = omega (arith, n);
         sep = omega (arith, n);
@@ -57,27 +57,27 @@ module _ (e : ElectrolyteState) (hs : EncodableRow (saltNumbers (e .params))) (h
   electrolyte-encodable : E.built e .refusal ≡ 0 → EncodableElectrolyte (E.built e .state)
   unfolding E.built
   electrolyte-encodable z =
-      let number : StateAnswer → ℕ = λ x. x .refusal in
-      rw (accepted-is number (E.buildRefusal e) (E.answer 0 (withProfile e (uniformProfile (e .params .«c_e_init») (total e)))) _ refl z)
-      (filled-state (inputs-pass number (E.buildRefusal e) _ _ refl z))
+      let refusal : ElectrolyteAnswer → ℕ = λ x. x .refusal in
+      rw (accepted-is refusal (E.buildRefusal e) (E.answer 0 (withProfile e (uniformProfile (e .params .«c_e_init») (total e)))) _ refl z)
+      (filled-state (inputs-pass refusal (E.buildRefusal e) _ _ refl z))
 
 -- call 11
-module _ (s a : List ℕ) (h : newNumber 11 s ≡ 0) where
+module _ (s a : List ℕ) (h : newReturn 11 s ≡ 0) where
   new-electrolyte : EncodableElectrolyte (electrolyteBuilt s .state)
-  unfolding newNumber electrolyteBuilt
+  unfolding newReturn electrolyteBuilt
   new-electrolyte =
-      electrolyte-encodable _ (saltAt-encodable s)
+      electrolyte-encodable _ (electrolyteParamsAt-encodable s)
       (float-encodable s 7 ∷ᵉ float-encodable s 8 ∷ᵉ float-encodable s 9 ∷ᵉ float-encodable s 10 ∷ᵉ float-encodable s 11 ∷ᵉ float-encodable s 12 ∷ᵉ []ᵉ) h
 
   pub electrolyte-built : 896 ≤ length a → Holds 112 electrolyteAt a (newAfter 11 s a) (electrolyteBuilt s .state)
-  unfolding newNumber newAfter written
+  unfolding newReturn newAfter written
   electrolyte-built l = rw (eq-eqb (electrolyteBuilt s .refusal) 0 h) (holds-alone electrolyte-layout a (electrolyteBuilt s .state) new-electrolyte l)
 
 -- ---- a Doyle-Fuller-Newman cell
-dfn-met : (p : DfnParams) (g : DfnConfig) → D.newRefusal p g ≡ 0 → T (gridFits g) × T (parametersFit p)
+dfn-valid : (p : DfnParams) (g : DfnConfig) → D.newRefusal p g ≡ 0 → T (gridFits g) × T (parametersFit p)
 unfolding D.newRefusal
-dfn-met p g h =
-    let m = none-met _ _ h in
+dfn-valid p g h =
+    let m = neither-refused _ _ h in
     (passed (gridFits g) grid (zero-lt-suc 0) (m .0), and-l (parametersFit p) (limitsFit g) (passed (parametersFit p && limitsFit g) sheet (zero-lt-suc 1) (m .1)))
 
 dfn-fresh : (p : DfnParams) (g : DfnConfig) → EncodableParams p → EncodableGrid g → EncodableDfn (D.fresh p g)
@@ -89,8 +89,8 @@ dfn-fresh p g h k = record {
   neg-places = filled-encodable 512 (DC.usedNeg g) (p .«theta_neg_0» ⊗ p .«c_s_neg_max») (mul-fits binary64 (p .«theta_neg_0») (p .«c_s_neg_max»));
   pos-long = filled-length 512 (DC.usedPos g) (p .«theta_pos_0» ⊗ p .«c_s_pos_max»);
   pos-places = filled-encodable 512 (DC.usedPos g) (p .«theta_pos_0» ⊗ p .«c_s_pos_max») (mul-fits binary64 (p .«theta_pos_0») (p .«c_s_pos_max»));
-  salt-long = filled-length 33 (DC.usedSalt g) (p .«c_e0»);
-  salt-places = filled-encodable 33 (DC.usedSalt g) (p .«c_e0») (h .numbers .place 16);
+  electrolyte-long = filled-length 33 (DC.usedElectrolyte g) (p .«c_e0»);
+  electrolyte-places = filled-encodable 33 (DC.usedElectrolyte g) (p .«c_e0») (h .numbers .place 16);
   last = literal _ ∷ᵉ literal _ ∷ᵉ literal _ ∷ᵉ h .numbers .place 8 ∷ᵉ h .numbers .place 14 ∷ᵉ []ᵉ;
 }
 
@@ -99,18 +99,18 @@ unfolding D.made
 dfn-encodable s z =
     let p = paramsAt s in
     let g = G.configAt s in
-    let number : DfnBuild → ℕ = λ x. x .refusal in
-    let m = dfn-met p g (inputs-pass number (D.newRefusal p g) _ _ refl z) in
-    let n = DC.coefficients-met p (m .1) in
-    rw (accepted-is number (D.newRefusal p g) (record { refusal = 0; cell = D.fresh p g }) _ refl z)
-    (dfn-fresh p g (paramsAt-encodable s (n .0) (n .1)) (gridAt-encodable s (DC.grid-met g (m .0))))
+    let refusal : DfnBuildAnswer → ℕ = λ x. x .refusal in
+    let m = dfn-valid p g (inputs-pass refusal (D.newRefusal p g) _ _ refl z) in
+    let n = DC.coefficients-valid p (m .1) in
+    rw (accepted-is refusal (D.newRefusal p g) (record { refusal = 0; cell = D.fresh p g }) _ refl z)
+    (dfn-fresh p g (paramsAt-encodable s (n .0) (n .1)) (gridAt-encodable s (DC.grid-valid g (m .0))))
 
 -- call 12
-module _ (s a : List ℕ) (h : newNumber 12 s ≡ 0) where
+module _ (s a : List ℕ) (h : newReturn 12 s ≡ 0) where
   new-dfn : EncodableDfn (dfnMade s .cell)
-  unfolding newNumber dfnMade
+  unfolding newReturn dfnMade
   new-dfn = dfn-encodable s h
 
   pub dfn-built : 9008 ≤ length a → Holds 1126 cellAt a (newAfter 12 s a) (dfnMade s .cell)
-  unfolding newNumber newAfter written
+  unfolding newReturn newAfter written
   dfn-built l = rw (eq-eqb (dfnMade s .refusal) 0 h) (holds-alone dfn-layout a (dfnMade s .cell) new-dfn l)

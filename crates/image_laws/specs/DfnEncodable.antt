@@ -12,24 +12,24 @@ use lib.Ieee.Fits.{add-fits, sub-fits, div-fits, cond-fits}
 use Rattle.matrix_rows.specs.Loops.{either}
 use Rattle.binary64.specs.Operators.{f64}
 use Rattle.refusal.specs.Numbers.{notFinite}
-use Rattle.turns.specs.Turns.{first-length}
-use Rattle.places.specs.Places.{places-length}
+use Rattle.iterate.specs.Iterate.{first-length}
+use Rattle.array_update.specs.ArrayUpdate.{places-length}
 use Rattle.dfn_parameters.specs.declared.DfnParams.{DfnParams}
 use Rattle.dfn_electrolyte.specs.declared.Region.{Region}
 use Rattle.dfn_electrolyte.specs.Electrolyte as DE
-use Rattle.dfn_solid.specs.declared.Grain.{Grain}
+use Rattle.dfn_solid.specs.declared.ParticleParams.{ParticleParams}
 use Rattle.dfn_solid.specs.Solid as DS
 use Rattle.dfn_places.specs.Places.{changeAfter}
 use Rattle.dfn_voltage.specs.Voltage.{voltageOf}
 use Rattle.dfn.specs.declared.DfnSolver.{DfnSolver}
 use Rattle.dfn.specs.declared.DfnStep.{DfnStep}
-use Rattle.dfn.specs.declared.DfnAnswer.{DfnAnswer}
+use Rattle.dfn.specs.declared.DfnStepAnswer.{DfnStepAnswer}
 use Rattle.dfn.specs.Checks as DC
 use Rattle.dfn.specs.Step as D
 use Rattle.codec.specs.Words.{wordAt, placesAt}
 use Rattle.parameter_images.specs.Images.{paramsOf, paramsAt, paramsNumbers, configAt}
-use Rattle.porous_images.specs.Images.{cellAt, reportNumbers}
-use Rattle.porous_calls.specs.Steps.{electrolyteAfter}
+use Rattle.dfn_images.specs.Images.{cellAt, reportNumbers}
+use Rattle.dfn_calls.specs.Steps.{electrolyteAfter}
 use Rattle.image_laws.specs.Encodable.{EncodableRow, []ᵉ, _∷ᵉ_, first-encodable, placesBy-encodable, clamp-fits, max-fits, abs-fits, literal, float-encodable, places-encodable, places-count}
 use Rattle.image_laws.specs.DfnImages.{EncodableParams, EncodableGrid, EncodableDfn}
 
@@ -60,7 +60,7 @@ gridAt-encodable s g = record { neg = omega (arith, g .most-neg); pos = omega (a
 pub dfnAt-encodable : (s : List ℕ) → DC.cellRefusal (cellAt s) ≡ 0 → EncodableDfn (cellAt s)
 unfolding cellAt
 dfnAt-encodable s h =
-    let m = DC.cell-met (cellAt s) h in
+    let m = DC.cell-valid (cellAt s) h in
     record {
       params = paramsAt-encodable s (m .coeffs-neg) (m .coeffs-pos);
       grid = gridAt-encodable s (m .nodes);
@@ -68,27 +68,27 @@ dfnAt-encodable s h =
       neg-places = places-encodable 512 s 64;
       pos-long = places-count 512 s 576;
       pos-places = places-encodable 512 s 576;
-      salt-long = places-count 33 s 1088;
-      salt-places = places-encodable 33 s 1088;
+      electrolyte-long = places-count 33 s 1088;
+      electrolyte-places = places-encodable 33 s 1088;
       last = float-encodable s 1121 ∷ᵉ float-encodable s 1122 ∷ᵉ float-encodable s 1123 ∷ᵉ float-encodable s 1124 ∷ᵉ float-encodable s 1125 ∷ᵉ []ᵉ;
     }
 
 -- ---- and a step of it
-salt-node : (u v : Region) (c d : List Float) → EncodableRow c → (i : ℕ) → T (fits binary64 (DE.nodeWith u v c d i))
+electrolyte-node : (u v : Region) (c d : List Float) → EncodableRow c → (i : ℕ) → T (fits binary64 (DE.nodeWith u v c d i))
 unfolding DE.nodeWith DE.movedWith
-salt-node u v c d h i =
+electrolyte-node u v c d h i =
     cond-fits binary64 (ltb 0 i && ltb (i + 1) (u .n)) _ _ (add-fits binary64 _ _)
     (cond-fits binary64 (ltb (u .n) i && ltb (i + 1) (u .n + 1 + v .n)) _ _ (add-fits binary64 _ _) (h .place i))
 
-salt-encodable : (u v : Region) (c d : List Float) → EncodableRow c → EncodableRow (DE.nodesWith u v c d)
+electrolyte-encodable : (u v : Region) (c d : List Float) → EncodableRow c → EncodableRow (DE.nodesWith u v c d)
 unfolding DE.nodesWith
-salt-encodable u v c d h = first-encodable _ _ c (λ i. clamp-fits (DE.nodeWith u v c d i) _ _ (salt-node u v c d h i) (ofBits-fits binary64 _) (ofBits-fits binary64 _)) h
+electrolyte-encodable u v c d h = first-encodable _ _ c (λ i. clamp-fits (DE.nodeWith u v c d i) _ _ (electrolyte-node u v c d h i) (ofBits-fits binary64 _) (ofBits-fits binary64 _)) h
 
-salt-long : (u v : Region) (c d : List Float) → length (DE.nodesWith u v c d) ≡ length c
+electrolyte-long : (u v : Region) (c d : List Float) → length (DE.nodesWith u v c d) ≡ length c
 unfolding DE.nodesWith
-salt-long u v c d = first-length _ c _
+electrolyte-long u v c d = first-length _ c _
 
-module _ (v : Grain) (c d : List Float) (f : T (fits binary64 (v .«c_max»))) (h : EncodableRow c) where
+module _ (v : ParticleParams) (c d : List Float) (f : T (fits binary64 (v .«c_max»))) (h : EncodableRow c) where
   inner-encodable : (k i : ℕ) → T (fits binary64 (DS.innerWith v c d k i))
   unfolding DS.innerWith
   inner-encodable k i = add-fits binary64 _ _
@@ -109,13 +109,13 @@ module _ (v : Grain) (c d : List Float) (f : T (fits binary64 (v .«c_max»))) (
   unfolding DS.particlesWith DS.particleWith
   particles-encodable zero = h
   particles-encodable (suc m) =
-      placesBy-encodable (m * v .n) (v .n) (DS.heldNode v c d (m * v .n)) (DS.particlesWith v c d m)
+      placesBy-encodable (m * v .n) (v .n) (DS.clampedNode v c d (m * v .n)) (DS.particlesWith v c d m)
       (λ i. clamp-fits (DS.nodeWith v c d (m * v .n) i) (f64 0) (v .«c_max») (solid-node (m * v .n) i) (ofBits-fits binary64 0) f) (particles-encodable m)
 
   particles-long : (m : ℕ) → length (DS.particlesWith v c d m) ≡ length c
   unfolding DS.particlesWith DS.particleWith
   particles-long zero = refl
-  particles-long (suc m) = places-length (m * v .n) (DS.heldNode v c d (m * v .n)) (DS.particlesWith v c d m) (v .n) ∙ particles-long m
+  particles-long (suc m) = places-length (m * v .n) (DS.clampedNode v c d (m * v .n)) (DS.particlesWith v c d m) (v .n) ∙ particles-long m
 
 voltage-fits : (p : DfnParams) (a b mid i : Float) → T (fits binary64 (voltageOf p a b mid i))
 unfolding voltageOf
@@ -138,8 +138,8 @@ dfn-moved d i dt f h = record {
   neg-places = particles-encodable _ (d .«c_s_neg») _ (neg-most (d .params) (h .params .numbers)) (h .neg-places) _;
   pos-long = particles-long _ (d .«c_s_pos») _ (pos-most (d .params) (h .params .numbers)) (h .pos-places) _ ∙ h .pos-long;
   pos-places = particles-encodable _ (d .«c_s_pos») _ (pos-most (d .params) (h .params .numbers)) (h .pos-places) _;
-  salt-long = salt-long _ _ (d .«c_e») _ ∙ h .salt-long;
-  salt-places = salt-encodable _ _ (d .«c_e») _ (h .salt-places);
+  electrolyte-long = electrolyte-long _ _ (d .«c_e») _ ∙ h .electrolyte-long;
+  electrolyte-places = electrolyte-encodable _ _ (d .«c_e») _ (h .electrolyte-places);
   last = add-fits binary64 _ _ ∷ᵉ voltage-fits (d .params) _ _ _ i ∷ᵉ f ∷ᵉ div-fits binary64 _ _ ∷ᵉ div-fits binary64 _ _ ∷ᵉ []ᵉ;
 }
 
@@ -148,8 +148,8 @@ unfolding D.stepped D.advanced D.followed D.answered
 dfn-step-encodable d i dt f h =
     let r = D.reportOf d (D.movedBy d i dt) i dt in
     let new = D.cellWith d (D.movedBy d i dt) r in
-    let all : DfnAnswer = record { refusal = 0; report = r; cell = new } in
-    let P : DfnAnswer → Type 0 = λ a. EncodableDfn (a .cell) in
+    let all : DfnStepAnswer = record { refusal = 0; report = r; cell = new } in
+    let P : DfnStepAnswer → Type 0 = λ a. EncodableDfn (a .cell) in
     either P (eqb (DC.stepRefusal d i dt) 0) (cond (D.allNumbers new r) all (D.refusedWith notFinite d)) (D.refusedWith (DC.stepRefusal d i dt) d)
     (either P (D.allNumbers new r) all (D.refusedWith notFinite d) (dfn-moved d i dt f h) h) h
 
@@ -174,8 +174,8 @@ unfolding D.stepped D.advanced D.followed D.answered D.reportOf D.noReport
 dfn-report-encodable d i dt f =
     let r = D.reportOf d (D.movedBy d i dt) i dt in
     let new = D.cellWith d (D.movedBy d i dt) r in
-    let all : DfnAnswer = record { refusal = 0; report = r; cell = new } in
-    let P : DfnAnswer → Type 0 = λ a. EncodableReport (a .report) in
+    let all : DfnStepAnswer = record { refusal = 0; report = r; cell = new } in
+    let P : DfnStepAnswer → Type 0 = λ a. EncodableReport (a .report) in
     let none : EncodableReport D.noReport = record { numbers = literal _ ∷ᵉ literal _ ∷ᵉ literal _ ∷ᵉ literal _ ∷ᵉ literal _ ∷ᵉ literal _ ∷ᵉ []ᵉ; count = lit≤ tt } in
     either P (eqb (DC.stepRefusal d i dt) 0) (cond (D.allNumbers new r) all (D.refusedWith notFinite d)) (D.refusedWith (DC.stepRefusal d i dt) d)
     (either P (D.allNumbers new r) all (D.refusedWith notFinite d) (record { numbers = moved-report d i dt f; count = lit≤ tt }) none) none

@@ -12,7 +12,7 @@ use Rattle.dfn_parameters.specs.declared.DfnParams.{DfnParams}
 use Rattle.dfn_parameters.specs.declared.DfnConfig.{DfnConfig}
 use Rattle.dfn.specs.declared.DfnSolver.{DfnSolver}
 use Rattle.parameter_images.specs.Images.{paramsOf, paramsAt, paramsNumbers, putParams, configAt, putConfig}
-use Rattle.porous_images.specs.Images.{cellAt, putCell}
+use Rattle.dfn_images.specs.Images.{cellAt, putCell}
 use Rattle.image_laws.specs.Words.{word-read-back, float-read-back}
 use Rattle.image_laws.specs.Encodable.{EncodableRow}
 use Rattle.image_laws.specs.Rows.{Writes, SameWords, same-part, same-below, same-float, writes-then, writes-word, writes-float, writes-places, place-read-back, row-read-back, row-same}
@@ -191,8 +191,8 @@ pub record EncodableDfn (d : DfnSolver) : Type 0 where
   pub neg-places : EncodableRow (d .«c_s_neg»)
   pub pos-long : length (d .«c_s_pos») ≡ 512
   pub pos-places : EncodableRow (d .«c_s_pos»)
-  pub salt-long : length (d .«c_e») ≡ 33
-  pub salt-places : EncodableRow (d .«c_e»)
+  pub electrolyte-long : length (d .«c_e») ≡ 33
+  pub electrolyte-places : EncodableRow (d .«c_e»)
   pub last : EncodableRow (lastNumbers d)
 
 pub dfn-same : (s s' : List ℕ) → SameWords 0 1126 s s' → cellAt s' ≡ cellAt s
@@ -243,7 +243,7 @@ module _ (s : List ℕ) (d : DfnSolver) (k : EncodableDfn d) where
   w4 = writes-row 512 d3 576 (d .«c_s_pos») (k .pos-long)
 
   w5 : Writes 1088 1121 d4 d5
-  w5 = writes-row 33 d4 1088 (d .«c_e») (k .salt-long)
+  w5 = writes-row 33 d4 1088 (d .«c_e») (k .electrolyte-long)
 
   w6 : Writes 1121 1126 d5 d6
   w6 = writes-places 5 d5 1121 (lastNumbers d)
@@ -278,9 +278,9 @@ module _ (s : List ℕ) (d : DfnSolver) (k : EncodableDfn d) where
       row-same 512 d3 d6 64 (same-below (lit≤ tt) w46) ∙ row-read-back 512 d2 64 (d .«c_s_neg») (k .neg-long) (rw l2 (omega (arith, h))) (k .neg-places) in
       let pos : placesAt 512 d6 576 ≡ d .«c_s_pos» =
       row-same 512 d4 d6 576 (same-below (lit≤ tt) w56) ∙ row-read-back 512 d3 576 (d .«c_s_pos») (k .pos-long) (rw l3 (omega (arith, h))) (k .pos-places) in
-      let salt : placesAt 33 d6 1088 ≡ d .«c_e» = row-same 33 d5 d6 1088 (same-below (lit≤ tt) w6) ∙ row-read-back 33 d4 1088 (d .«c_e») (k .salt-long) (rw l4 (omega (arith, h))) (k .salt-places) in
+      let cE : placesAt 33 d6 1088 ≡ d .«c_e» = row-same 33 d5 d6 1088 (same-below (lit≤ tt) w6) ∙ row-read-back 33 d4 1088 (d .«c_e») (k .electrolyte-long) (rw l4 (omega (arith, h))) (k .electrolyte-places) in
       let at : (i j : ℕ) → i < 5 → j ≡ 1121 + i → floatAt d6 j ≡ getD (lastNumbers d) i nan = place-read-back d5 1121 (lastNumbers d) (rw l5 (omega (arith, h))) (k .last) in
-      rw (params, grid, neg, pos, salt, at 0 1121 (lit≤ tt) refl, at 1 1122 (lit≤ tt) refl, at 2 1123 (lit≤ tt) refl, at 3 1124 (lit≤ tt) refl, at 4 1125 (lit≤ tt) refl)
+      rw (params, grid, neg, pos, cE, at 0 1121 (lit≤ tt) refl, at 1 1122 (lit≤ tt) refl, at 2 1123 (lit≤ tt) refl, at 3 1124 (lit≤ tt) refl, at 4 1125 (lit≤ tt) refl)
 
 pub dfn-layout : Layout 1126 cellAt putCell EncodableDfn
 dfn-layout = record { same = dfn-same; writes = writes-dfn; read-back = dfn-read-back }

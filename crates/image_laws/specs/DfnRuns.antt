@@ -10,21 +10,21 @@ use lib.ListN.{length}
 use lib.Ieee.{Float, binary64, fits}
 use lib.Ieee.Bits.{is-true}
 use Rattle.matrix_rows.specs.Loops.{either}
-use Rattle.refusal.specs.Numbers.{none-met, notFinite}
-use Rattle.runs.specs.Told.{told}
+use Rattle.refusal.specs.Numbers.{neither-refused, notFinite}
+use Rattle.runs.specs.RunAnswers.{writesAnswer}
 use Rattle.runs.specs.Rows.{runAfter}
 use Rattle.runs.specs.Endings.{byRefusal}
 use Rattle.dfn.specs.declared.DfnSolver.{DfnSolver}
-use Rattle.dfn.specs.declared.DfnAnswer.{DfnAnswer}
+use Rattle.dfn.specs.declared.DfnStepAnswer.{DfnStepAnswer}
 use Rattle.dfn.specs.Checks as DC
 use Rattle.dfn.specs.Step as D
-use Rattle.galvanostatic_run.specs.declared.Feed.{Feed}
-use Rattle.galvanostatic_run.specs.declared.Course.{Course}
-use Rattle.galvanostatic_run.specs.Galvanostatic.{RunSaid, feedOf, started, followed, turned, overOf, lastRow, finishedRun, allTurns, runRefusal, galvanostatic}
+use Rattle.galvanostatic_run.specs.declared.RunSettings.{RunSettings}
+use Rattle.galvanostatic_run.specs.declared.RunState.{RunState}
+use Rattle.galvanostatic_run.specs.Galvanostatic.{RunOutcome, runSettings, started, followed, turned, overOf, lastRow, finishedRun, allTurns, runRefusal, galvanostatic}
 use Rattle.codec.specs.Words.{wordAt}
 use Rattle.image_rows.specs.Written.{putEnding}
-use Rattle.porous_images.specs.Images.{cellAt, putCell}
-use Rattle.porous_calls.specs.Runs.{galvanostaticAfter}
+use Rattle.dfn_images.specs.Images.{cellAt, putCell}
+use Rattle.dfn_calls.specs.Runs.{galvanostaticAfter}
 use Rattle.image_laws.specs.Layout.{Holds, holds}
 use Rattle.image_laws.specs.Reports.{writes-ending, ending-read-back, rows-read-back}
 use Rattle.image_laws.specs.DfnImages.{EncodableDfn, writes-dfn, dfn-layout}
@@ -37,26 +37,26 @@ unfolding D.stepped D.advanced D.followed D.answered
 dfn-step-refused d i dt =
     let r = D.reportOf d (D.movedBy d i dt) i dt in
     let new = D.cellWith d (D.movedBy d i dt) r in
-    let all : DfnAnswer = record { refusal = 0; report = r; cell = new } in
-    let P : DfnAnswer → Type 0 = λ a. (a .refusal ≡ 0 → ⊥) → a .cell ≡ d in
+    let all : DfnStepAnswer = record { refusal = 0; report = r; cell = new } in
+    let P : DfnStepAnswer → Type 0 = λ a. (a .refusal ≡ 0 → ⊥) → a .cell ≡ d in
     either P (eqb (DC.stepRefusal d i dt) 0) (cond (D.allNumbers new r) all (D.refusedWith notFinite d)) (D.refusedWith (DC.stepRefusal d i dt) d)
     (either P (D.allNumbers new r) all (D.refusedWith notFinite d) (λ n. absurd (n refl)) (λ n. refl)) (λ n. refl)
 
 -- ---- what a run makes of its cell
-module _ (w : Feed) where
-  turned-encodable : T (fits binary64 (w .current)) → (c : Course) → EncodableDfn (c .cell) → EncodableDfn (turned w c .cell)
+module _ (w : RunSettings) where
+  turned-encodable : T (fits binary64 (w .current)) → (c : RunState) → EncodableDfn (c .cell) → EncodableDfn (turned w c .cell)
   unfolding turned followed
   turned-encodable f c h =
       let a = D.stepped (c .cell) (w .current) (w .dt) in
       let k = dfn-step-encodable (c .cell) (w .current) (w .dt) f h in
-      either (λ (x : Course). EncodableDfn (x .cell)) (eqb (a .refusal) 0) _ _ k k
+      either (λ (x : RunState). EncodableDfn (x .cell)) (eqb (a .refusal) 0) _ _ k k
 
-  turned-rows : (c : Course) → turned w c .rows ≤ c .rows + 1
+  turned-rows : (c : RunState) → turned w c .rows ≤ c .rows + 1
   unfolding turned followed
-  turned-rows c = either (λ (x : Course). x .rows ≤ c .rows + 1) (eqb (D.stepped (c .cell) (w .current) (w .dt) .refusal) 0) _ _ (le-refl (c .rows + 1)) (omega arith)
+  turned-rows c = either (λ (x : RunState). x .rows ≤ c .rows + 1) (eqb (D.stepped (c .cell) (w .current) (w .dt) .refusal) 0) _ _ (le-refl (c .rows + 1)) (omega arith)
 
   -- a run without a row leaves the cell
-  turned-idle : (d : DfnSolver) (c : Course) → (c .rows ≡ 0 → c .cell ≡ d) → turned w c .rows ≡ 0 → turned w c .cell ≡ d
+  turned-idle : (d : DfnSolver) (c : RunState) → (c .rows ≡ 0 → c .cell ≡ d) → turned w c .rows ≡ 0 → turned w c .cell ≡ d
   unfolding turned followed
   turned-idle d c f = go (D.stepped (c .cell) (w .current) (w .dt) .refusal) refl
     where
@@ -68,53 +68,53 @@ module _ (w : Feed) where
           (dfn-step-refused (c .cell) (w .current) (w .dt) (λ (x : D.stepped (c .cell) (w .current) (w .dt) .refusal ≡ 0). let v : suc k ≡ 0 = sym e ∙ x in omega (arith, v)) ∙ f y)
 
 module _ (d : DfnSolver) (i dt limit : Float) (places : ℕ) where
-  abbrev over : RunSaid
-  over = allTurns (feedOf i dt limit) (started d) (places / 8)
+  abbrev over : RunOutcome
+  over = allTurns (runSettings i dt limit) (started d) (places / 8)
 
-  abbrev none : RunSaid
-  none = record { ended = record { ending = byRefusal; refusal = runRefusal d (feedOf i dt limit) places }; rows = 0; cell = d }
+  abbrev none : RunOutcome
+  none = record { ended = record { ending = byRefusal; refusal = runRefusal d (runSettings i dt limit) places }; rows = 0; cell = d }
 
   pub dfn-run-encodable : T (fits binary64 i) → EncodableDfn d → EncodableDfn (galvanostatic d i dt limit places .cell)
   unfolding galvanostatic allTurns finishedRun started
   dfn-run-encodable f h =
-      either (λ (x : RunSaid). EncodableDfn (x .cell)) (eqb (runRefusal d (feedOf i dt limit) places) 0) over none
-      (run-keeps overOf (turned (feedOf i dt limit)) lastRow (λ (c : Course). EncodableDfn (c .cell)) (turned-encodable (feedOf i dt limit) f) (places / 8) (started d) h) h
+      either (λ (x : RunOutcome). EncodableDfn (x .cell)) (eqb (runRefusal d (runSettings i dt limit) places) 0) over none
+      (run-keeps overOf (turned (runSettings i dt limit)) lastRow (λ (c : RunState). EncodableDfn (c .cell)) (turned-encodable (runSettings i dt limit) f) (places / 8) (started d) h) h
 
   pub dfn-run-idle : galvanostatic d i dt limit places .rows ≡ 0 → galvanostatic d i dt limit places .cell ≡ d
   unfolding galvanostatic allTurns finishedRun started
   dfn-run-idle =
-      either (λ (x : RunSaid). x .rows ≡ 0 → x .cell ≡ d) (eqb (runRefusal d (feedOf i dt limit) places) 0) over none
-      (run-keeps overOf (turned (feedOf i dt limit)) lastRow (λ (c : Course). c .rows ≡ 0 → c .cell ≡ d) (turned-idle (feedOf i dt limit) d) (places / 8) (started d) (λ z. refl)) (λ z. refl)
+      either (λ (x : RunOutcome). x .rows ≡ 0 → x .cell ≡ d) (eqb (runRefusal d (runSettings i dt limit) places) 0) over none
+      (run-keeps overOf (turned (runSettings i dt limit)) lastRow (λ (c : RunState). c .rows ≡ 0 → c .cell ≡ d) (turned-idle (runSettings i dt limit) d) (places / 8) (started d) (λ z. refl)) (λ z. refl)
 
   dfn-rows-most : galvanostatic d i dt limit places .rows ≤ places
   unfolding galvanostatic allTurns finishedRun started
   dfn-rows-most =
-      let n : runAfter overOf (turned (feedOf i dt limit)) lastRow (places / 8) (started d) .rows ≤ 0 + places / 8 =
-      run-rows overOf (turned (feedOf i dt limit)) lastRow (λ (c : Course). c .rows) (turned-rows (feedOf i dt limit)) (places / 8) (started d) in
-      either (λ (x : RunSaid). x .rows ≤ places) (eqb (runRefusal d (feedOf i dt limit) places) 0) over none (omega (arith, n)) (omega arith)
+      let n : runAfter overOf (turned (runSettings i dt limit)) lastRow (places / 8) (started d) .rows ≤ 0 + places / 8 =
+      run-rows overOf (turned (runSettings i dt limit)) lastRow (λ (c : RunState). c .rows) (turned-rows (runSettings i dt limit)) (places / 8) (started d) in
+      either (λ (x : RunOutcome). x .rows ≤ places) (eqb (runRefusal d (runSettings i dt limit) places) 0) over none (omega (arith, n)) (omega arith)
 
   dfn-run-ending : galvanostatic d i dt limit places .ended .ending ≤ 4
   unfolding galvanostatic allTurns finishedRun
-  dfn-run-ending = either (λ (x : RunSaid). x .ended .ending ≤ 4) (eqb (runRefusal d (feedOf i dt limit) places) 0) over none (ending-most _ _) (le-refl 4)
+  dfn-run-ending = either (λ (x : RunOutcome). x .ended .ending ≤ 4) (eqb (runRefusal d (runSettings i dt limit) places) 0) over none (ending-most _ _) (le-refl 4)
 
   -- an answer that is written comes from a cell that passes the checks
-  written-run : T (told (galvanostatic d i dt limit places .ended .refusal) (galvanostatic d i dt limit places .rows)) → runRefusal d (feedOf i dt limit) places ≡ 0
+  written-run : T (writesAnswer (galvanostatic d i dt limit places .ended .refusal) (galvanostatic d i dt limit places .rows)) → runRefusal d (runSettings i dt limit) places ≡ 0
   unfolding galvanostatic
-  written-run = go (runRefusal d (feedOf i dt limit) places) refl
+  written-run = go (runRefusal d (runSettings i dt limit) places) refl
     where
-      go : (k : ℕ) → runRefusal d (feedOf i dt limit) places ≡ k → T (told (galvanostatic d i dt limit places .ended .refusal) (galvanostatic d i dt limit places .rows))
-          → runRefusal d (feedOf i dt limit) places ≡ 0
+      go : (k : ℕ) → runRefusal d (runSettings i dt limit) places ≡ k → T (writesAnswer (galvanostatic d i dt limit places .ended .refusal) (galvanostatic d i dt limit places .rows))
+          → runRefusal d (runSettings i dt limit) places ≡ 0
       go zero e t = e
       go (suc k) e t = absurd (rw (e, eqb·suc-zero k, eqb·suc-zero k) at t)
 
-  run-passes : runRefusal d (feedOf i dt limit) places ≡ 0 → DC.cellRefusal d ≡ 0
+  run-passes : runRefusal d (runSettings i dt limit) places ≡ 0 → DC.cellRefusal d ≡ 0
   unfolding runRefusal
-  run-passes h = DC.step-cell d i dt (none-met _ _ (none-met _ _ (none-met _ _ h .1) .1) .0)
+  run-passes h = DC.step-cell d i dt (neither-refused _ _ (neither-refused _ _ (neither-refused _ _ h .1) .1) .0)
 
 -- ---- the answer
 module _ (s : List ℕ) (i dt limit : Float) (places : ℕ) (a : List ℕ) (l : length a ≡ 9024) (f : T (fits binary64 i))
-    (h : T (told (galvanostatic (cellAt s) i dt limit places .ended .refusal) (galvanostatic (cellAt s) i dt limit places .rows))) where
-  abbrev run : RunSaid
+    (h : T (writesAnswer (galvanostatic (cellAt s) i dt limit places .ended .refusal) (galvanostatic (cellAt s) i dt limit places .rows))) where
+  abbrev run : RunOutcome
   run = galvanostatic (cellAt s) i dt limit places
 
   abbrev new : List ℕ
@@ -125,7 +125,7 @@ module _ (s : List ℕ) (i dt limit : Float) (places : ℕ) (a : List ℕ) (l : 
 
   answer-is : galvanostaticAfter s i dt limit places a ≡ putEnding new 1126 (run .ended .ending) (run .rows)
   unfolding galvanostaticAfter
-  answer-is = rw (is-true (told (run .ended .refusal) (run .rows)) h)
+  answer-is = rw (is-true (writesAnswer (run .ended .refusal) (run .rows)) h)
 
   pub dfn-run-answer : Holds 1126 cellAt a (galvanostaticAfter s i dt limit places a) (galvanostatic (cellAt s) i dt limit places .cell)
   dfn-run-answer =

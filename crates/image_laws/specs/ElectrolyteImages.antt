@@ -10,23 +10,23 @@ use lib.Ieee.{Float, nan}
 use Rattle.codec.specs.Words.{wordAt, putWord, floatAt, putRow}
 use Rattle.electrolyte_parameters.specs.declared.ElectrolyteParams.{ElectrolyteParams}
 use Rattle.electrolyte.specs.declared.ElectrolyteState.{ElectrolyteState}
-use Rattle.electrolyte_images.specs.Images.{saltAt, putSalt, electrolyteAt, regionNumbers, putRegions, putElectrolyte}
+use Rattle.electrolyte_images.specs.Images.{electrolyteParamsAt, putElectrolyteParams, electrolyteAt, regionNumbers, putRegions, putElectrolyte}
 use Rattle.image_laws.specs.Words.{word-read-back}
 use Rattle.image_laws.specs.Encodable.{EncodableRow}
 use Rattle.image_laws.specs.Rows.{Writes, SameWords, same-part, same-below, same-float, writes-then, writes-word, writes-places, place-read-back, row-read-back, row-same}
 use Rattle.image_laws.specs.Layout.{Layout}
 
 -- ---- the salt: seven numbers
-abbrev pub saltNumbers : ElectrolyteParams → List Float
-saltNumbers p = p .«d_e_ref» ∷ p .«kappa_ref» ∷ p .«t_plus» ∷ p .bruggeman ∷ p .«c_e_init» ∷ p .«e_a_de» ∷ p .«e_a_kappa» ∷ []
+abbrev pub electrolyteParamsNumbers : ElectrolyteParams → List Float
+electrolyteParamsNumbers p = p .«d_e_ref» ∷ p .«kappa_ref» ∷ p .«t_plus» ∷ p .bruggeman ∷ p .«c_e_init» ∷ p .«e_a_de» ∷ p .«e_a_kappa» ∷ []
 
-pub writes-salt : (s : List ℕ) (p : ElectrolyteParams) → Writes 0 7 s (putSalt s p)
-unfolding putSalt
-writes-salt s p = writes-places 7 s 0 (saltNumbers p)
+pub writes-electrolyte-params : (s : List ℕ) (p : ElectrolyteParams) → Writes 0 7 s (putElectrolyteParams s p)
+unfolding putElectrolyteParams
+writes-electrolyte-params s p = writes-places 7 s 0 (electrolyteParamsNumbers p)
 
-pub salt-same : (s s' : List ℕ) → SameWords 0 7 s s' → saltAt s' ≡ saltAt s
-unfolding saltAt
-salt-same s s' p =
+pub electrolyte-params-same : (s s' : List ℕ) → SameWords 0 7 s s' → electrolyteParamsAt s' ≡ electrolyteParamsAt s
+unfolding electrolyteParamsAt
+electrolyte-params-same s s' p =
     rw (
       same-float p 0 (lit≤ tt) (lit≤ tt),
       same-float p 1 (lit≤ tt) (lit≤ tt),
@@ -37,15 +37,15 @@ salt-same s s' p =
       same-float p 6 (lit≤ tt) (lit≤ tt),
     )
 
-pub salt-read-back : (s : List ℕ) (p : ElectrolyteParams) → 56 ≤ length s → EncodableRow (saltNumbers p) → saltAt (putSalt s p) ≡ p
-unfolding saltAt putSalt
-salt-read-back s p h k =
-    let at : (i : ℕ) → i < 7 → floatAt (putRow s 0 (saltNumbers p)) i ≡ getD (saltNumbers p) i nan = λ i l. place-read-back s 0 (saltNumbers p) h k i i l (omega arith) in
+pub electrolyte-params-read-back : (s : List ℕ) (p : ElectrolyteParams) → 56 ≤ length s → EncodableRow (electrolyteParamsNumbers p) → electrolyteParamsAt (putElectrolyteParams s p) ≡ p
+unfolding electrolyteParamsAt putElectrolyteParams
+electrolyte-params-read-back s p h k =
+    let at : (i : ℕ) → i < 7 → floatAt (putRow s 0 (electrolyteParamsNumbers p)) i ≡ getD (electrolyteParamsNumbers p) i nan = λ i l. place-read-back s 0 (electrolyteParamsNumbers p) h k i i l (omega arith) in
     rw (at 0 (lit≤ tt), at 1 (lit≤ tt), at 2 (lit≤ tt), at 3 (lit≤ tt), at 4 (lit≤ tt), at 5 (lit≤ tt), at 6 (lit≤ tt))
 
 -- ---- an electrolyte: the salt, six numbers, three counts, 96 places
 pub record EncodableElectrolyte (e : ElectrolyteState) : Type 0 where
-  pub salt : EncodableRow (saltNumbers (e .params))
+  pub cE : EncodableRow (electrolyteParamsNumbers (e .params))
   pub regions : EncodableRow (regionNumbers e)
   pub neg : e .«n_neg» < 2 ^ 64
   pub sep : e .«n_sep» < 2 ^ 64
@@ -55,7 +55,7 @@ pub record EncodableElectrolyte (e : ElectrolyteState) : Type 0 where
 
 module _ (s : List ℕ) (e : ElectrolyteState) (k : EncodableElectrolyte e) where
   abbrev e1 : List ℕ
-  e1 = putSalt s (e .params)
+  e1 = putElectrolyteParams s (e .params)
 
   abbrev e2 : List ℕ
   e2 = putRow e1 7 (regionNumbers e)
@@ -73,7 +73,7 @@ module _ (s : List ℕ) (e : ElectrolyteState) (k : EncodableElectrolyte e) wher
   e6 = putRow e5 16 (e .«c_e»)
 
   v1 : Writes 0 7 s e1
-  v1 = writes-salt s (e .params)
+  v1 = writes-electrolyte-params s (e .params)
 
   v2 : Writes 7 13 e1 e2
   v2 = writes-places 6 e1 7 (regionNumbers e)
@@ -104,7 +104,7 @@ module _ (s : List ℕ) (e : ElectrolyteState) (k : EncodableElectrolyte e) wher
       let l3 : length e3 ≡ length s = v3 .size ∙ l2 in
       let l4 : length e4 ≡ length s = v4 .size ∙ l3 in
       let l5 : length e5 ≡ length s = v5 .size ∙ l4 in
-      let salt : saltAt e6 ≡ e .params = salt-same e2 e6 (same-below (lit≤ tt) v36) ∙ salt-same e1 e2 (same-below (lit≤ tt) v2) ∙ salt-read-back s (e .params) (omega (arith, h)) (k .salt) in
+      let cE : electrolyteParamsAt e6 ≡ e .params = electrolyte-params-same e2 e6 (same-below (lit≤ tt) v36) ∙ electrolyte-params-same e1 e2 (same-below (lit≤ tt) v2) ∙ electrolyte-params-read-back s (e .params) (omega (arith, h)) (k .cE) in
       let at : (i j : ℕ) → i < 6 → j ≡ 7 + i → floatAt e6 j ≡ getD (regionNumbers e) i nan =
       λ i j l m. same-float (same-below {a = 0} {b = 13} (lit≤ tt) v36) j (omega arith) (omega (arith, l, m)) ∙ place-read-back e1 7 (regionNumbers e) (rw (v1 .size) (omega (arith, h))) (k .regions) i j l m in
       let neg : wordAt e6 13 ≡ e .«n_neg» =
@@ -112,7 +112,7 @@ module _ (s : List ℕ) (e : ElectrolyteState) (k : EncodableElectrolyte e) wher
       let sep : wordAt e6 14 ≡ e .«n_sep» = v6 .outside 14 (inl (lit≤ tt)) ∙ v5 .outside 14 (inl (lit≤ tt)) ∙ word-read-back e3 14 (e .«n_sep») (rw l3 (omega (arith, h))) (k .sep) in
       let pos : wordAt e6 15 ≡ e .«n_pos» = v6 .outside 15 (inl (lit≤ tt)) ∙ word-read-back e4 15 (e .«n_pos») (rw l4 (omega (arith, h))) (k .pos) in
       rw (
-        salt,
+        cE,
         at 0 7 (lit≤ tt) refl,
         at 1 8 (lit≤ tt) refl,
         at 2 9 (lit≤ tt) refl,
@@ -129,7 +129,7 @@ pub electrolyte-same : (s s' : List ℕ) → SameWords 0 112 s s' → electrolyt
 unfolding electrolyteAt
 electrolyte-same s s' p =
     rw (
-      salt-same s s' (same-part (lit≤ tt) (lit≤ tt) p),
+      electrolyte-params-same s s' (same-part (lit≤ tt) (lit≤ tt) p),
       same-float p 7 (lit≤ tt) (lit≤ tt),
       same-float p 8 (lit≤ tt) (lit≤ tt),
       same-float p 9 (lit≤ tt) (lit≤ tt),

@@ -11,34 +11,34 @@ use lib.Ieee.Fits.{add-fits}
 use borrow.Author.Tests.{eq-eqb}
 use Rattle.matrix_rows.specs.Loops.{either}
 use Rattle.refusal.specs.Numbers.{notFinite}
-use Rattle.turns.specs.Turns.{first-length}
-use Rattle.electrolyte_profile.specs.declared.Drive.{Drive}
+use Rattle.iterate.specs.Iterate.{first-length}
+use Rattle.electrolyte_profile.specs.declared.ElectrolyteStepParams.{ElectrolyteStepParams}
 use Rattle.electrolyte_profile.specs.Places as EP
 use Rattle.electrolyte_profile.specs.Step.{nodeFrom, nodeNew, profileNew}
 use Rattle.electrolyte.specs.declared.ElectrolyteState.{ElectrolyteState}
-use Rattle.electrolyte.specs.declared.StateAnswer.{StateAnswer}
-use Rattle.electrolyte.specs.State.{withProfile, driveOf}
+use Rattle.electrolyte.specs.declared.ElectrolyteAnswer.{ElectrolyteAnswer}
+use Rattle.electrolyte.specs.State.{withProfile, stepParams}
 use Rattle.electrolyte.specs.Calls as E
 use Rattle.electrolyte.specs.Accepted as EA
 use Rattle.image_rows.specs.Written.{written}
-use Rattle.electrolyte_images.specs.Images.{saltAt, electrolyteAt}
-use Rattle.porous_calls.specs.Steps.{electrolyteNumber, electrolyteAfter}
+use Rattle.electrolyte_images.specs.Images.{electrolyteParamsAt, electrolyteAt}
+use Rattle.dfn_calls.specs.Steps.{electrolyteReturn, electrolyteAfter}
 use Rattle.image_laws.specs.Accepted.{inputs-pass, accepted}
 use Rattle.image_laws.specs.Encodable.{EncodableRow, []ᵉ, _∷ᵉ_, first-encodable, max-fits, float-encodable, places-encodable, places-count}
 use Rattle.image_laws.specs.Layout.{Holds, holds-alone}
-use Rattle.image_laws.specs.ElectrolyteImages.{saltNumbers, EncodableElectrolyte, electrolyte-layout}
+use Rattle.image_laws.specs.ElectrolyteImages.{electrolyteParamsNumbers, EncodableElectrolyte, electrolyte-layout}
 
 -- ---- an electrolyte of an image
-pub saltAt-encodable : (s : List ℕ) → EncodableRow (saltNumbers (saltAt s))
-unfolding saltAt
-saltAt-encodable s = float-encodable s 0 ∷ᵉ float-encodable s 1 ∷ᵉ float-encodable s 2 ∷ᵉ float-encodable s 3 ∷ᵉ float-encodable s 4 ∷ᵉ float-encodable s 5 ∷ᵉ float-encodable s 6 ∷ᵉ []ᵉ
+pub electrolyteParamsAt-encodable : (s : List ℕ) → EncodableRow (electrolyteParamsNumbers (electrolyteParamsAt s))
+unfolding electrolyteParamsAt
+electrolyteParamsAt-encodable s = float-encodable s 0 ∷ᵉ float-encodable s 1 ∷ᵉ float-encodable s 2 ∷ᵉ float-encodable s 3 ∷ᵉ float-encodable s 4 ∷ᵉ float-encodable s 5 ∷ᵉ float-encodable s 6 ∷ᵉ []ᵉ
 
 pub electrolyteAt-encodable : (s : List ℕ) → E.stateRefusal (electrolyteAt s) ≡ 0 → EncodableElectrolyte (electrolyteAt s)
 unfolding electrolyteAt
 electrolyteAt-encodable s h =
     let n = EA.state-total (electrolyteAt s) h in
     record {
-      salt = saltAt-encodable s;
+      cE = electrolyteParamsAt-encodable s;
       regions = float-encodable s 7 ∷ᵉ float-encodable s 8 ∷ᵉ float-encodable s 9 ∷ᵉ float-encodable s 10 ∷ᵉ float-encodable s 11 ∷ᵉ float-encodable s 12 ∷ᵉ []ᵉ;
       neg = omega (arith, n);
       sep = omega (arith, n);
@@ -47,14 +47,14 @@ electrolyteAt-encodable s h =
       places = places-encodable 96 s 16;
     }
 
-electrolyte-node : (v : Drive) (c : List Float) (i : ℕ) → T (fits binary64 (nodeNew v c i))
+electrolyte-node : (v : ElectrolyteStepParams) (c : List Float) (i : ℕ) → T (fits binary64 (nodeNew v c i))
 unfolding nodeNew nodeFrom
 electrolyte-node v c i = max-fits _ EP.floor (add-fits binary64 _ _) (ofBits-fits binary64 _)
 
-electrolyte-profile : (e : ElectrolyteState) (v : Drive) → EncodableElectrolyte e → EncodableElectrolyte (withProfile e (profileNew v (e .«c_e»)))
+electrolyte-profile : (e : ElectrolyteState) (v : ElectrolyteStepParams) → EncodableElectrolyte e → EncodableElectrolyte (withProfile e (profileNew v (e .«c_e»)))
 unfolding profileNew
 electrolyte-profile e v h = record {
-  salt = h .salt;
+  cE = h .cE;
   regions = h .regions;
   neg = h .neg;
   sep = h .sep;
@@ -66,24 +66,24 @@ electrolyte-profile e v h = record {
 pub electrolyte-step-encodable : (e : ElectrolyteState) (jNeg jPos dt t : Float) → EncodableElectrolyte e → EncodableElectrolyte (E.stepped e jNeg jPos dt t .state)
 unfolding E.stepped E.accepted
 electrolyte-step-encodable e jNeg jPos dt t h =
-    let c = profileNew (driveOf e jNeg jPos dt t) (e .«c_e») in
-    let P : StateAnswer → Type 0 = λ a. EncodableElectrolyte (a .state) in
+    let c = profileNew (stepParams e jNeg jPos dt t) (e .«c_e») in
+    let P : ElectrolyteAnswer → Type 0 = λ a. EncodableElectrolyte (a .state) in
     either P (eqb (E.stepRefusal e jNeg jPos dt t) 0) (E.accepted e c) (E.answer (E.stepRefusal e jNeg jPos dt t) e)
-    (either P (EP.allFinite c) (E.answer 0 (withProfile e c)) (E.answer notFinite e) (electrolyte-profile e (driveOf e jNeg jPos dt t) h) h) h
+    (either P (EP.allFinite c) (E.answer 0 (withProfile e c)) (E.answer notFinite e) (electrolyte-profile e (stepParams e jNeg jPos dt t) h) h) h
 
 -- ---- a step's answer
-module _ (s : List ℕ) (jNeg jPos dt t : Float) (a : List ℕ) (h : electrolyteNumber s jNeg jPos dt t ≡ 0) where
+module _ (s : List ℕ) (jNeg jPos dt t : Float) (a : List ℕ) (h : electrolyteReturn s jNeg jPos dt t ≡ 0) where
   abbrev after : ElectrolyteState
   after = E.stepped (electrolyteAt s) jNeg jPos dt t .state
 
   electrolyte-passes : E.stateRefusal (electrolyteAt s) ≡ 0
-  unfolding electrolyteNumber E.stepped
+  unfolding electrolyteReturn E.stepped
   electrolyte-passes =
-      EA.step-state (electrolyteAt s) jNeg jPos dt t (inputs-pass (λ (x : StateAnswer). x .refusal) (E.stepRefusal (electrolyteAt s) jNeg jPos dt t) _ _ refl h)
+      EA.step-state (electrolyteAt s) jNeg jPos dt t (inputs-pass (λ (x : ElectrolyteAnswer). x .refusal) (E.stepRefusal (electrolyteAt s) jNeg jPos dt t) _ _ refl h)
 
   stepped-electrolyte : EncodableElectrolyte after
   stepped-electrolyte = electrolyte-step-encodable (electrolyteAt s) jNeg jPos dt t (electrolyteAt-encodable s electrolyte-passes)
 
   pub electrolyte-answer : 896 ≤ length a → Holds 112 electrolyteAt a (electrolyteAfter s jNeg jPos dt t a) (E.stepped (electrolyteAt s) jNeg jPos dt t .state)
   unfolding electrolyteAfter written
-  electrolyte-answer l = rw (eq-eqb (electrolyteNumber s jNeg jPos dt t) 0 h) (holds-alone electrolyte-layout a after stepped-electrolyte l)
+  electrolyte-answer l = rw (eq-eqb (electrolyteReturn s jNeg jPos dt t) 0 h) (holds-alone electrolyte-layout a after stepped-electrolyte l)

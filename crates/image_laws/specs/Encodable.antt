@@ -9,9 +9,9 @@ use lib.Ieee.{Float, nan, inf, fin, isNan, lt, binary64, fits, ofBits}
 use lib.Ieee.Bits.{ofBits-fits}
 use lib.Ieee.Fits.{nan-fits, cond-fits, and-l, and-r}
 use Rattle.binary64.specs.Operators.{f64}
-use Rattle.choice.specs.Choice.{absOf, clampOf, maxOf}
-use Rattle.turns.specs.Turns.{firstBy, first-length}
-use Rattle.places.specs.Places.{placesBy}
+use Rattle.min_max.specs.MinMax.{absOf, clampOf, maxOf}
+use Rattle.iterate.specs.Iterate.{firstBy, first-length}
+use Rattle.array_update.specs.ArrayUpdate.{placesBy}
 use Rattle.codec.specs.Words.{floatAt, placesAt}
 
 infixr 40 _∷ᵉ_

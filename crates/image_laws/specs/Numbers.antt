@@ -8,7 +8,7 @@ use lib.ListN.{length}
 use lib.Ieee.{Float, lt, binary64, fits}
 use lib.Ieee.Fits.{add-fits, sub-fits, mul-fits, div-fits, cond-fits, ofInt-fits}
 use Rattle.binary64.specs.Operators.{f64}
-use Rattle.refusal.specs.Answers.{Said, outcome}
+use Rattle.refusal.specs.Answers.{Outcome, outcome}
 use Rattle.matrix_rows.specs.Loops.{either}
 use Rattle.curves.specs.Curves.{graphiteCurve, lfpCurve, nmcCurve, chemistryCurve, chemistrySlope}
 use Rattle.electrode.specs.declared.ElectrodeParams.{ElectrodeParams}
@@ -29,14 +29,14 @@ use Rattle.electrolyte.specs.State.{averageOf, stableInterval}
 use Rattle.electrolyte.specs.Calls as E
 use Rattle.sheet_images.specs.Images.{sheetAt, particleAt}
 use Rattle.cell_images.specs.Images.{cellAt}
-use Rattle.electrolyte_images.specs.Images.{saltAt, electrolyteAt}
-use Rattle.image_numbers.specs.Numbers.{sheetNumber, particleNumber, cellNumber, rateNumber, nodesSaid, electrolyteNumber, numberSaid}
+use Rattle.electrolyte_images.specs.Images.{electrolyteParamsAt, electrolyteAt}
+use Rattle.image_numbers.specs.Numbers.{sheetNumber, particleNumber, cellNumber, rateNumber, nodesOutcome, electrolyteNumber, numberOutcome}
 use Rattle.image_laws.specs.Encodable.{EncodableRow, []ᵉ, _∷ᵉ_, clamp-fits, literal, places-encodable}
 
 -- what an answer has: numbers of binary64, and one of them where nothing refuses
-pub record Answered (a : Said) : Type 0 where
+pub record Answered (a : Outcome) : Type 0 where
   pub places : EncodableRow (a .values)
-  pub one : a .number ≡ 0 → length (a .values) ≡ 1
+  pub one : a .refusal ≡ 0 → length (a .values) ≡ 1
 
 outcome-answered : (n : ℕ) (x : Float) → T (fits binary64 x) → Answered (outcome n x)
 unfolding outcome
@@ -95,11 +95,11 @@ rate-answered call p porosity t =
     (either Answered (eqb call 14) _ _ (outcome-answered _ _ (mul-fits binary64 _ _))
     (either Answered (eqb call 15) _ _ (outcome-answered _ _ (mul-fits binary64 _ _)) (outcome-answered _ _ (mul-fits binary64 _ _))))
 
-nodes-answered : (e : ElectrolyteState) → Answered (nodesSaid e)
-unfolding nodesSaid E.nTotal
+nodes-answered : (e : ElectrolyteState) → Answered (nodesOutcome e)
+unfolding nodesOutcome E.nTotal
 nodes-answered e = go (E.stateRefusal e) refl
   where
-    go : (k : ℕ) → E.stateRefusal e ≡ k → Answered (nodesSaid e)
+    go : (k : ℕ) → E.stateRefusal e ≡ k → Answered (nodesOutcome e)
     go zero q = rw q (record { places = ofInt-fits binary64 _ ∷ᵉ []ᵉ; one = λ z. refl })
     go (suc k) q = rw (q, eqb·suc-zero k) (record { places = []ᵉ; one = λ (z : suc k ≡ 0). absurd (omega (arith, z)) })
 
@@ -113,10 +113,10 @@ unfolding particleAt
 particleAt-places s = places-encodable 64 s 11
 
 -- all nineteen
-pub number-answered : (call : ℕ) (s : List ℕ) (x y : Float) → Answered (numberSaid call s x y)
-unfolding numberSaid
+pub number-answered : (call : ℕ) (s : List ℕ) (x y : Float) → Answered (numberOutcome call s x y)
+unfolding numberOutcome
 number-answered call s x y =
     either Answered (leb call 5) _ _ (sheet-answered call (sheetAt s 0) x)
     (either Answered (leb call 10) _ _ (particle-answered call (particleAt s 0) x (particleAt-places s))
     (either Answered (leb call 12) _ _ (cell-answered call (cellAt s))
-    (either Answered (leb call 16) _ _ (rate-answered call (saltAt s) x y) (electrolyte-answered call (electrolyteAt s) x))))
+    (either Answered (leb call 16) _ _ (rate-answered call (electrolyteParamsAt s) x y) (electrolyte-answered call (electrolyteAt s) x))))

@@ -13,7 +13,7 @@ use lib.Ieee.{Float}
 use borrow.Author.Tests.{eq-eqb, ne-eqb, le-leb, lt-leb, eqb-true}
 use Rattle.binary64.specs.Operators.{f64}
 use Rattle.refusal.specs.Numbers as N
-use Rattle.runs.specs.Told.{told}
+use Rattle.runs.specs.RunAnswers.{writesAnswer}
 use Rattle.electrolyte_parameters.specs.Params.{lipf6EcDmc}
 use Rattle.particle.specs.Calls as P
 use Rattle.solver.specs.Step as S
@@ -26,91 +26,91 @@ use Rattle.codec.specs.Words.{wordAt, placesAt, putRow}
 use Rattle.image_rows.specs.Written.{written}
 use Rattle.sheet_images.specs.Images.{sheetAt, particleAt}
 use Rattle.cell_images.specs.Images.{cellAt}
-use Rattle.electrolyte_images.specs.Images.{saltAt, electrolyteAt}
+use Rattle.electrolyte_images.specs.Images.{electrolyteParamsAt, electrolyteAt}
 use Rattle.parameter_images.specs.Images.{paramsAt}
-use Rattle.porous_images.specs.Images as I
+use Rattle.dfn_images.specs.Images as I
 use Rattle.cell_calls.specs.Steps as CS
 use Rattle.cell_calls.specs.Runs as CR
-use Rattle.porous_calls.specs.Steps as PS
-use Rattle.porous_calls.specs.Runs as PR
-use Rattle.image_numbers.specs.Numbers.{numberSaid, numberLength}
-use Rattle.image_builds.specs.Builds.{readySheet, readyParams, particleMade, cellBuilt, electrolyteBuilt, dfnMade, newNumber, newAfter, readyPut, buildLength, builtLength}
+use Rattle.dfn_calls.specs.Steps as PS
+use Rattle.dfn_calls.specs.Runs as PR
+use Rattle.image_numbers.specs.Numbers.{numberOutcome, numberLength}
+use Rattle.image_builds.specs.Builds.{readySheet, readyParams, particleMade, cellBuilt, electrolyteBuilt, dfnMade, newReturn, newAfter, readyPut, buildLength, builtLength}
 use Rattle.boundary.specs.Calls as B
 use Rattle.boundary.specs.Runs as BR
-use Rattle.image_laws.specs.Accepted.{met-both, second-true, accepted, no-refusal}
+use Rattle.image_laws.specs.Accepted.{after-lengths, second-true, accepted, no-refusal}
 use Rattle.image_laws.specs.Encodable.{literal}
 use Rattle.image_laws.specs.Rows.{row-read-back}
 use Rattle.image_laws.specs.CellImages.{particleIn}
 use Rattle.image_laws.specs.Reports.{cellReportAt, dfnReportAt}
 use Rattle.image_laws.specs.CellSteps.{particle-answer, cell-answer, sub-steps-answer, report-answer}
 use Rattle.image_laws.specs.CellRuns.{run-answer, run-ending-answer, run-rows-answer}
-use Rattle.image_laws.specs.CellBuilds.{particle-built, cell-build-number, cell-build-after, cell-built}
+use Rattle.image_laws.specs.CellBuilds.{particle-built, cell-build-return, cell-build-after, cell-built}
 use Rattle.image_laws.specs.ElectrolyteSteps.{electrolyte-answer}
 use Rattle.image_laws.specs.DfnSteps.{dfn-answer, dfn-report-answer}
 use Rattle.image_laws.specs.DfnRuns.{dfn-run-answer, dfn-run-ending-answer, dfn-run-rows-answer}
 use Rattle.image_laws.specs.DfnBuilds.{electrolyte-built, dfn-built}
-use Rattle.image_laws.specs.ReadyRecords.{sheet-ready, salt-ready, params-ready}
+use Rattle.image_laws.specs.ReadyRecords.{sheet-ready, electrolyte-params-ready, params-ready}
 use Rattle.image_laws.specs.Numbers.{number-answered}
 use Rattle.image_laws.specs.Dense.{solved-encodable, doubles-encodable}
 
 -- ---- steps
-pub particle-step-read-back : (s : List ℕ) (j dt t : Float) (a : List ℕ) → B.particleNumber s j dt t (length a) ≡ 0
+pub particle-step-read-back : (s : List ℕ) (j dt t : Float) (a : List ℕ) → B.particleReturn s j dt t (length a) ≡ 0
     → particleAt (B.particleAfter s j dt t a) 0 ≡ P.stepped (particleAt s 0) j dt t .particle
-unfolding B.particleNumber B.particleAfter
+unfolding B.particleReturn B.particleAfter
 particle-step-read-back s j dt t a h =
-    let c = accepted s a 600 600 (CS.particleNumber s j dt t) (CS.particleAfter s j dt t a) h in
-    ap particleIn (c .writes) ∙ particle-answer s j dt t a (c .number) (rw (c .answer) (le-refl 600)) .whole
+    let c = accepted s a 600 600 (CS.particleReturn s j dt t) (CS.particleAfter s j dt t a) h in
+    ap particleIn (c .writes) ∙ particle-answer s j dt t a (c .refusal) (rw (c .answer) (le-refl 600)) .whole
 
-pub cell-step-read-back : (s : List ℕ) (i dt t : Float) (a : List ℕ) → B.cellNumber s i dt t (length a) ≡ 0
+pub cell-step-read-back : (s : List ℕ) (i dt t : Float) (a : List ℕ) → B.cellReturn s i dt t (length a) ≡ 0
     → cellAt (take 1256 (B.cellAfter s i dt t a)) ≡ S.stepped (cellAt s) i dt t .solver
-unfolding B.cellNumber B.cellAfter
+unfolding B.cellReturn B.cellAfter
 cell-step-read-back s i dt t a h =
-    let c = accepted s a 1256 1328 (CS.cellNumber s i dt t) (CS.cellAfter s i dt t a) h in
-    ap (λ (b : List ℕ). cellAt (take 1256 b)) (c .writes) ∙ cell-answer s i dt t a (c .number) (c .answer) .first
+    let c = accepted s a 1256 1328 (CS.cellReturn s i dt t) (CS.cellAfter s i dt t a) h in
+    ap (λ (b : List ℕ). cellAt (take 1256 b)) (c .writes) ∙ cell-answer s i dt t a (c .refusal) (c .answer) .first
 
-pub cell-report-read-back : (s : List ℕ) (bits : ℕ) (dt t : Float) (a : List ℕ) → B.cellNumber s (f64 bits) dt t (length a) ≡ 0
+pub cell-report-read-back : (s : List ℕ) (bits : ℕ) (dt t : Float) (a : List ℕ) → B.cellReturn s (f64 bits) dt t (length a) ≡ 0
     → cellReportAt (B.cellAfter s (f64 bits) dt t a) ≡ S.stepped (cellAt s) (f64 bits) dt t .state
-unfolding B.cellNumber B.cellAfter
+unfolding B.cellReturn B.cellAfter
 cell-report-read-back s bits dt t a h =
-    let c = accepted s a 1256 1328 (CS.cellNumber s (f64 bits) dt t) (CS.cellAfter s (f64 bits) dt t a) h in
-    ap cellReportAt (c .writes) ∙ report-answer s (f64 bits) dt t a (c .number) (c .answer) (literal bits)
+    let c = accepted s a 1256 1328 (CS.cellReturn s (f64 bits) dt t) (CS.cellAfter s (f64 bits) dt t a) h in
+    ap cellReportAt (c .writes) ∙ report-answer s (f64 bits) dt t a (c .refusal) (c .answer) (literal bits)
 
-pub sub-steps-read-back : (s : List ℕ) (i dt t : Float) (a : List ℕ) → B.cellNumber s i dt t (length a) ≡ 0
+pub sub-steps-read-back : (s : List ℕ) (i dt t : Float) (a : List ℕ) → B.cellReturn s i dt t (length a) ≡ 0
     → wordAt (B.cellAfter s i dt t a) 165 ≡ S.stepped (cellAt s) i dt t .«sub_steps»
-unfolding B.cellNumber B.cellAfter
+unfolding B.cellReturn B.cellAfter
 sub-steps-read-back s i dt t a h =
-    let c = accepted s a 1256 1328 (CS.cellNumber s i dt t) (CS.cellAfter s i dt t a) h in
-    ap (λ (b : List ℕ). wordAt b 165) (c .writes) ∙ sub-steps-answer s i dt t a (c .number) (c .answer)
+    let c = accepted s a 1256 1328 (CS.cellReturn s i dt t) (CS.cellAfter s i dt t a) h in
+    ap (λ (b : List ℕ). wordAt b 165) (c .writes) ∙ sub-steps-answer s i dt t a (c .refusal) (c .answer)
 
-pub electrolyte-step-read-back : (s : List ℕ) (jNeg jPos dt t : Float) (a : List ℕ) → B.electrolyteNumber s jNeg jPos dt t (length a) ≡ 0
+pub electrolyte-step-read-back : (s : List ℕ) (jNeg jPos dt t : Float) (a : List ℕ) → B.electrolyteReturn s jNeg jPos dt t (length a) ≡ 0
     → electrolyteAt (B.electrolyteAfter s jNeg jPos dt t a) ≡ E.stepped (electrolyteAt s) jNeg jPos dt t .state
-unfolding B.electrolyteNumber B.electrolyteAfter
+unfolding B.electrolyteReturn B.electrolyteAfter
 electrolyte-step-read-back s jNeg jPos dt t a h =
-    let c = accepted s a 896 896 (PS.electrolyteNumber s jNeg jPos dt t) (PS.electrolyteAfter s jNeg jPos dt t a) h in
-    ap electrolyteAt (c .writes) ∙ electrolyte-answer s jNeg jPos dt t a (c .number) (rw (c .answer) (le-refl 896)) .whole
+    let c = accepted s a 896 896 (PS.electrolyteReturn s jNeg jPos dt t) (PS.electrolyteAfter s jNeg jPos dt t a) h in
+    ap electrolyteAt (c .writes) ∙ electrolyte-answer s jNeg jPos dt t a (c .refusal) (rw (c .answer) (le-refl 896)) .whole
 
-pub dfn-step-read-back : (s : List ℕ) (bits : ℕ) (dt : Float) (a : List ℕ) → B.dfnNumber s (f64 bits) dt (length a) ≡ 0
+pub dfn-step-read-back : (s : List ℕ) (bits : ℕ) (dt : Float) (a : List ℕ) → B.dfnReturn s (f64 bits) dt (length a) ≡ 0
     → I.cellAt (take 9008 (B.dfnAfter s (f64 bits) dt a)) ≡ D.stepped (I.cellAt s) (f64 bits) dt .cell
-unfolding B.dfnNumber B.dfnAfter
+unfolding B.dfnReturn B.dfnAfter
 dfn-step-read-back s bits dt a h =
-    let c = accepted s a 9008 9072 (PS.dfnNumber s (f64 bits) dt) (PS.dfnAfter s (f64 bits) dt a) h in
-    ap (λ (b : List ℕ). I.cellAt (take 9008 b)) (c .writes) ∙ dfn-answer s (f64 bits) dt a (literal bits) (c .number) (c .answer) .first
+    let c = accepted s a 9008 9072 (PS.dfnReturn s (f64 bits) dt) (PS.dfnAfter s (f64 bits) dt a) h in
+    ap (λ (b : List ℕ). I.cellAt (take 9008 b)) (c .writes) ∙ dfn-answer s (f64 bits) dt a (literal bits) (c .refusal) (c .answer) .first
 
-pub dfn-report-read-back : (s : List ℕ) (bits : ℕ) (dt : Float) (a : List ℕ) → B.dfnNumber s (f64 bits) dt (length a) ≡ 0
+pub dfn-report-read-back : (s : List ℕ) (bits : ℕ) (dt : Float) (a : List ℕ) → B.dfnReturn s (f64 bits) dt (length a) ≡ 0
     → dfnReportAt (B.dfnAfter s (f64 bits) dt a) ≡ D.stepped (I.cellAt s) (f64 bits) dt .report
-unfolding B.dfnNumber B.dfnAfter
+unfolding B.dfnReturn B.dfnAfter
 dfn-report-read-back s bits dt a h =
-    let c = accepted s a 9008 9072 (PS.dfnNumber s (f64 bits) dt) (PS.dfnAfter s (f64 bits) dt a) h in
-    ap dfnReportAt (c .writes) ∙ dfn-report-answer s (f64 bits) dt a (literal bits) (c .number) (c .answer)
+    let c = accepted s a 9008 9072 (PS.dfnReturn s (f64 bits) dt) (PS.dfnAfter s (f64 bits) dt a) h in
+    ap dfnReportAt (c .writes) ∙ dfn-report-answer s (f64 bits) dt a (literal bits) (c .refusal) (c .answer)
 
 -- ---- runs: the cell, the ending and the count of rows, where the run returns 0 or has written a row. Lengths from C are below 2 ^ 64.
 pub record DischargeReadBack (s : List ℕ) (i dt t limit : Float) (places : ℕ) (a : List ℕ) : Type 0 where
-  pub cell : cellAt (take 1256 (BR.dischargeAfter s i dt t limit places a)) ≡ DR.discharged (DR.feedOf i dt t limit) (cellAt s) places .solver
-  pub ending : wordAt (BR.dischargeAfter s i dt t limit places a) 157 ≡ DR.discharged (DR.feedOf i dt t limit) (cellAt s) places .ended .ending
-  pub rows : places < 2 ^ 64 → wordAt (BR.dischargeAfter s i dt t limit places a) 158 ≡ DR.discharged (DR.feedOf i dt t limit) (cellAt s) places .rows
+  pub cell : cellAt (take 1256 (BR.dischargeAfter s i dt t limit places a)) ≡ DR.discharged (DR.runSettings i dt t limit) (cellAt s) places .solver
+  pub ending : wordAt (BR.dischargeAfter s i dt t limit places a) 157 ≡ DR.discharged (DR.runSettings i dt t limit) (cellAt s) places .ended .ending
+  pub rows : places < 2 ^ 64 → wordAt (BR.dischargeAfter s i dt t limit places a) 158 ≡ DR.discharged (DR.runSettings i dt t limit) (cellAt s) places .rows
 
 pub discharge-read-back : (s : List ℕ) (i dt t limit : Float) (places : ℕ) (a : List ℕ) → length s ≡ 1256 → length a ≡ 1272
-    → T (told (DR.discharged (DR.feedOf i dt t limit) (cellAt s) places .ended .refusal) (DR.discharged (DR.feedOf i dt t limit) (cellAt s) places .rows))
+    → T (writesAnswer (DR.discharged (DR.runSettings i dt t limit) (cellAt s) places .ended .refusal) (DR.discharged (DR.runSettings i dt t limit) (cellAt s) places .rows))
     → DischargeReadBack s i dt t limit places a
 unfolding BR.dischargeAfter
 discharge-read-back s i dt t limit places a m n h =
@@ -121,13 +121,13 @@ discharge-read-back s i dt t limit places a m n h =
       rows = λ l. ap (λ (b : List ℕ). wordAt b 158) e ∙ run-rows-answer s i dt t limit places a n h l;
     }
 
-pub accepted-discharge-read-back : (s : List ℕ) (i dt t limit : Float) (places : ℕ) (a : List ℕ) → BR.dischargeNumber s i dt t limit places (length a) ≡ 0
+pub accepted-discharge-read-back : (s : List ℕ) (i dt t limit : Float) (places : ℕ) (a : List ℕ) → BR.dischargeReturn s i dt t limit places (length a) ≡ 0
     → DischargeReadBack s i dt t limit places a
-unfolding BR.dischargeNumber CR.dischargeNumber
+unfolding BR.dischargeReturn CR.dischargeReturn
 accepted-discharge-read-back s i dt t limit places a h =
-    let r = DR.discharged (DR.feedOf i dt t limit) (cellAt s) places in
+    let r = DR.discharged (DR.runSettings i dt t limit) (cellAt s) places in
     let c = accepted s a 1256 1272 (r .ended .refusal) a h in
-    discharge-read-back s i dt t limit places a (c .image) (c .answer) (no-refusal (r .ended .refusal) (r .rows) (c .number))
+    discharge-read-back s i dt t limit places a (c .image) (c .answer) (no-refusal (r .ended .refusal) (r .rows) (c .refusal))
 
 pub record GalvanostaticReadBack (s : List ℕ) (i dt limit : Float) (places : ℕ) (a : List ℕ) : Type 0 where
   pub cell : I.cellAt (take 9008 (BR.galvanostaticAfter s i dt limit places a)) ≡ GR.galvanostatic (I.cellAt s) i dt limit places .cell
@@ -135,7 +135,7 @@ pub record GalvanostaticReadBack (s : List ℕ) (i dt limit : Float) (places : �
   pub rows : places < 2 ^ 64 → wordAt (BR.galvanostaticAfter s i dt limit places a) 1127 ≡ GR.galvanostatic (I.cellAt s) i dt limit places .rows
 
 pub galvanostatic-read-back : (s : List ℕ) (bits : ℕ) (dt limit : Float) (places : ℕ) (a : List ℕ) → length s ≡ 9008 → length a ≡ 9024
-    → T (told (GR.galvanostatic (I.cellAt s) (f64 bits) dt limit places .ended .refusal) (GR.galvanostatic (I.cellAt s) (f64 bits) dt limit places .rows))
+    → T (writesAnswer (GR.galvanostatic (I.cellAt s) (f64 bits) dt limit places .ended .refusal) (GR.galvanostatic (I.cellAt s) (f64 bits) dt limit places .rows))
     → GalvanostaticReadBack s (f64 bits) dt limit places a
 unfolding BR.galvanostaticAfter
 galvanostatic-read-back s bits dt limit places a m n h =
@@ -147,41 +147,41 @@ galvanostatic-read-back s bits dt limit places a m n h =
       rows = λ l. ap (λ (b : List ℕ). wordAt b 1127) e ∙ dfn-run-rows-answer s i dt limit places a n (literal bits) h l;
     }
 
-pub accepted-galvanostatic-read-back : (s : List ℕ) (bits : ℕ) (dt limit : Float) (places : ℕ) (a : List ℕ) → BR.galvanostaticNumber s (f64 bits) dt limit places (length a) ≡ 0
+pub accepted-galvanostatic-read-back : (s : List ℕ) (bits : ℕ) (dt limit : Float) (places : ℕ) (a : List ℕ) → BR.galvanostaticReturn s (f64 bits) dt limit places (length a) ≡ 0
     → GalvanostaticReadBack s (f64 bits) dt limit places a
-unfolding BR.galvanostaticNumber PR.galvanostaticNumber
+unfolding BR.galvanostaticReturn PR.galvanostaticReturn
 accepted-galvanostatic-read-back s bits dt limit places a h =
     let r = GR.galvanostatic (I.cellAt s) (f64 bits) dt limit places in
     let c = accepted s a 9008 9024 (r .ended .refusal) a h in
-    galvanostatic-read-back s bits dt limit places a (c .image) (c .answer) (no-refusal (r .ended .refusal) (r .rows) (c .number))
+    galvanostatic-read-back s bits dt limit places a (c .image) (c .answer) (no-refusal (r .ended .refusal) (r .rows) (c .refusal))
 
 -- ---- builds: 7 a particle, 8 to 10 a single-particle cell, 11 an electrolyte, 12 a Doyle-Fuller-Newman cell
-pub particle-build-read-back : (s a : List ℕ) → B.buildNumber 7 s (length a) ≡ 0 → particleAt (B.buildAfter 7 s a) 0 ≡ particleMade s .particle
-unfolding B.buildNumber B.buildAfter buildLength builtLength
+pub particle-build-read-back : (s a : List ℕ) → B.buildReturn 7 s (length a) ≡ 0 → particleAt (B.buildAfter 7 s a) 0 ≡ particleMade s .particle
+unfolding B.buildReturn B.buildAfter buildLength builtLength
 particle-build-read-back s a h =
-    let c = accepted s a 88 600 (newNumber 7 s) (newAfter 7 s a) h in
-    ap particleIn (c .writes) ∙ particle-built s a (c .number) (rw (c .answer) (le-refl 600)) .whole
+    let c = accepted s a 88 600 (newReturn 7 s) (newAfter 7 s a) h in
+    ap particleIn (c .writes) ∙ particle-built s a (c .refusal) (rw (c .answer) (le-refl 600)) .whole
 
-pub cell-build-read-back : (call : ℕ) (s a : List ℕ) → 8 ≤ call → call ≤ 10 → B.buildNumber call s (length a) ≡ 0 → cellAt (B.buildAfter call s a) ≡ cellBuilt call s .solver
+pub cell-build-read-back : (call : ℕ) (s a : List ℕ) → 8 ≤ call → call ≤ 10 → B.buildReturn call s (length a) ≡ 0 → cellAt (B.buildAfter call s a) ≡ cellBuilt call s .solver
 cell-build-read-back call s a m n h =
-    let c = accepted s a (buildLength call) 1256 (newNumber call s) (newAfter call s a) (sym (cell-build-number call s a m n) ∙ h) in
-    ap cellAt (cell-build-after call s a m n ∙ c .writes) ∙ cell-built call s a m n (c .number) (rw (c .answer) (le-refl 1256)) .whole
+    let c = accepted s a (buildLength call) 1256 (newReturn call s) (newAfter call s a) (sym (cell-build-return call s a m n) ∙ h) in
+    ap cellAt (cell-build-after call s a m n ∙ c .writes) ∙ cell-built call s a m n (c .refusal) (rw (c .answer) (le-refl 1256)) .whole
 
-pub electrolyte-build-read-back : (s a : List ℕ) → B.buildNumber 11 s (length a) ≡ 0 → electrolyteAt (B.buildAfter 11 s a) ≡ electrolyteBuilt s .state
-unfolding B.buildNumber B.buildAfter buildLength builtLength
+pub electrolyte-build-read-back : (s a : List ℕ) → B.buildReturn 11 s (length a) ≡ 0 → electrolyteAt (B.buildAfter 11 s a) ≡ electrolyteBuilt s .state
+unfolding B.buildReturn B.buildAfter buildLength builtLength
 electrolyte-build-read-back s a h =
-    let c = accepted s a 128 896 (newNumber 11 s) (newAfter 11 s a) h in
-    ap electrolyteAt (c .writes) ∙ electrolyte-built s a (c .number) (rw (c .answer) (le-refl 896)) .whole
+    let c = accepted s a 128 896 (newReturn 11 s) (newAfter 11 s a) h in
+    ap electrolyteAt (c .writes) ∙ electrolyte-built s a (c .refusal) (rw (c .answer) (le-refl 896)) .whole
 
-pub dfn-build-read-back : (s a : List ℕ) → B.buildNumber 12 s (length a) ≡ 0 → I.cellAt (B.buildAfter 12 s a) ≡ dfnMade s .cell
-unfolding B.buildNumber B.buildAfter buildLength builtLength
+pub dfn-build-read-back : (s a : List ℕ) → B.buildReturn 12 s (length a) ≡ 0 → I.cellAt (B.buildAfter 12 s a) ≡ dfnMade s .cell
+unfolding B.buildReturn B.buildAfter buildLength builtLength
 dfn-build-read-back s a h =
-    let c = accepted s a 512 9008 (newNumber 12 s) (newAfter 12 s a) h in
-    ap I.cellAt (c .writes) ∙ dfn-built s a (c .number) (rw (c .answer) (le-refl 9008)) .whole
+    let c = accepted s a 512 9008 (newReturn 12 s) (newAfter 12 s a) h in
+    ap I.cellAt (c .writes) ∙ dfn-built s a (c .refusal) (rw (c .answer) (le-refl 9008)) .whole
 
 -- the ready records: 1 to 3 a sheet, 4 an electrolyte's parameters, 5 and 6 those of a Doyle-Fuller-Newman cell
-pub ready-sheet-read-back : (call : ℕ) (s a : List ℕ) → 1 ≤ call → call ≤ 3 → B.buildNumber call s (length a) ≡ 0 → sheetAt (B.buildAfter call s a) 0 ≡ readySheet call
-unfolding B.buildNumber B.buildAfter builtLength
+pub ready-sheet-read-back : (call : ℕ) (s a : List ℕ) → 1 ≤ call → call ≤ 3 → B.buildReturn call s (length a) ≡ 0 → sheetAt (B.buildAfter call s a) 0 ≡ readySheet call
+unfolding B.buildReturn B.buildAfter builtLength
 ready-sheet-read-back call s a m n h =
     let l1 = le-leb 1 call m in
     let l12 = le-leb call 12 (omega (arith, n)) in
@@ -190,14 +190,14 @@ ready-sheet-read-back call s a m n h =
     let c = accepted s a (buildLength call) 80 0 (readyPut call a) (rw (l1, l12, l3, l6) at h) in
     rw (l1, l12, l3, l6) (ap (λ (b : List ℕ). sheetAt b 0) (c .writes) ∙ sheet-ready call a n (rw (c .answer) (le-refl 80)))
 
-pub ready-salt-read-back : (s a : List ℕ) → B.buildNumber 4 s (length a) ≡ 0 → saltAt (B.buildAfter 4 s a) ≡ lipf6EcDmc
-unfolding B.buildNumber B.buildAfter buildLength builtLength
-ready-salt-read-back s a h =
+pub ready-electrolyte-params-read-back : (s a : List ℕ) → B.buildReturn 4 s (length a) ≡ 0 → electrolyteParamsAt (B.buildAfter 4 s a) ≡ lipf6EcDmc
+unfolding B.buildReturn B.buildAfter buildLength builtLength
+ready-electrolyte-params-read-back s a h =
     let c = accepted s a 0 56 0 (readyPut 4 a) h in
-    ap saltAt (c .writes) ∙ salt-ready a (rw (c .answer) (le-refl 56))
+    ap electrolyteParamsAt (c .writes) ∙ electrolyte-params-ready a (rw (c .answer) (le-refl 56))
 
-pub ready-params-read-back : (call : ℕ) (s a : List ℕ) → 5 ≤ call → call ≤ 6 → B.buildNumber call s (length a) ≡ 0 → paramsAt (B.buildAfter call s a) ≡ readyParams call
-unfolding B.buildNumber B.buildAfter builtLength
+pub ready-params-read-back : (call : ℕ) (s a : List ℕ) → 5 ≤ call → call ≤ 6 → B.buildReturn call s (length a) ≡ 0 → paramsAt (B.buildAfter call s a) ≡ readyParams call
+unfolding B.buildReturn B.buildAfter builtLength
 ready-params-read-back call s a m n h =
     let l1 = le-leb 1 call (omega (arith, m)) in
     let l12 = le-leb call 12 (omega (arith, n)) in
@@ -208,27 +208,27 @@ ready-params-read-back call s a m n h =
     rw (l1, l12, l3, e4, l6) (ap paramsAt (c .writes) ∙ params-ready call a m (rw (c .answer) (le-refl 472)))
 
 -- ---- numbers: the eight bytes are the one value that the call says
-pub number-read-back : (call : ℕ) (s : List ℕ) (x y : Float) (a : List ℕ) → B.numberCall call s x y (length a) .number ≡ 0
-    → placesAt 1 (putRow a 0 (B.numberCall call s x y (length a) .values)) 0 ≡ numberSaid call s x y .values
+pub number-read-back : (call : ℕ) (s : List ℕ) (x y : Float) (a : List ℕ) → B.numberCall call s x y (length a) .refusal ≡ 0
+    → placesAt 1 (putRow a 0 (B.numberCall call s x y (length a) .values)) 0 ≡ numberOutcome call s x y .values
 unfolding B.numberCall
 number-read-back call s x y a = go (B.listed call 19) (B.lengths (length s) (numberLength call) (length a) 8) refl refl
   where
-    go : (u v : Bool) → B.listed call 19 ≡ u → B.lengths (length s) (numberLength call) (length a) 8 ≡ v → B.numberCall call s x y (length a) .number ≡ 0
-        → placesAt 1 (putRow a 0 (B.numberCall call s x y (length a) .values)) 0 ≡ numberSaid call s x y .values
+    go : (u v : Bool) → B.listed call 19 ≡ u → B.lengths (length s) (numberLength call) (length a) 8 ≡ v → B.numberCall call s x y (length a) .refusal ≡ 0
+        → placesAt 1 (putRow a 0 (B.numberCall call s x y (length a) .values)) 0 ≡ numberOutcome call s x y .values
     go true true d e h =
         let n = number-answered call s x y in
         let l : length a ≡ 8 = eqb-true (length a) 8 (second-true (eqb (length s) (numberLength call)) (eqb (length a) 8) e) in
-        let z : numberSaid call s x y .number ≡ 0 = rw (d, e) at h in
-        rw (d, e) (row-read-back 1 a 0 (numberSaid call s x y .values) (n .one z) (rw l (le-refl 8)) (n .places))
+        let z : numberOutcome call s x y .refusal ≡ 0 = rw (d, e) at h in
+        rw (d, e) (row-read-back 1 a 0 (numberOutcome call s x y .values) (n .one z) (rw l (le-refl 8)) (n .places))
     go true false d e h = let z : N.badLength ≡ 0 = rw (d, e) at h in absurd (omega (arith, z))
     go false v d e h = let z : N.sheet ≡ 0 = rw d at h in absurd (omega (arith, z))
 
 -- ---- the solution of linear equations, whose right side is a row of doubles
-pub solution-read-back : (m : List Float) (bits : List ℕ) (n : ℕ) (a : List ℕ) → B.denseNumber m (map f64 bits) n (length a) ≡ 0
+pub solution-read-back : (m : List Float) (bits : List ℕ) (n : ℕ) (a : List ℕ) → B.denseReturn m (map f64 bits) n (length a) ≡ 0
     → placesAt 32 (B.denseAfter m (map f64 bits) n a) 0 ≡ solved m (map f64 bits) n .x
-unfolding B.denseNumber B.denseAfter written
+unfolding B.denseReturn B.denseAfter written
 solution-read-back m bits n a h =
     let r = solved m (map f64 bits) n in
-    let c = met-both (eqb (length a) 256) (r .refusal) h in
+    let c = after-lengths (eqb (length a) 256) (r .refusal) h in
     let k = solved-encodable m (map f64 bits) n (doubles-encodable bits) in
     rw (c .0, eq-eqb (r .refusal) 0 (c .1)) (row-read-back 32 a 0 (r .x) (k .count) (rw (eqb-true (length a) 256 (c .0)) (le-refl 256)) (k .places))

@@ -12,12 +12,12 @@ use Rattle.electrode.specs.Sheet.{graphiteAnode, lfpCathode, nmcCathode}
 use Rattle.electrolyte_parameters.specs.Params.{lipf6EcDmc}
 use Rattle.dfn_parameters.specs.Ready.{nmcGraphite, lfpGraphite}
 use Rattle.sheet_images.specs.Images.{sheetAt}
-use Rattle.electrolyte_images.specs.Images.{saltAt}
+use Rattle.electrolyte_images.specs.Images.{electrolyteParamsAt}
 use Rattle.parameter_images.specs.Images.{paramsAt, paramsNumbers}
 use Rattle.image_builds.specs.Builds.{readySheet, readyParams, readyPut}
 use Rattle.image_laws.specs.Encodable.{EncodableRow, allFit, closed-row}
 use Rattle.image_laws.specs.CellImages.{EncodableSheet, sheet-read-back}
-use Rattle.image_laws.specs.ElectrolyteImages.{saltNumbers, salt-read-back}
+use Rattle.image_laws.specs.ElectrolyteImages.{electrolyteParamsNumbers, electrolyte-params-read-back}
 use Rattle.image_laws.specs.DfnImages.{EncodableParams, params-read-back}
 use Rattle.image_laws.specs.CellBuilds.{graphite-encodable, lfp-encodable, nmc-encodable}
 
@@ -33,13 +33,13 @@ pub sheet-ready : (call : ℕ) (a : List ℕ) → call ≤ 3 → 80 ≤ length a
 unfolding readyPut
 sheet-ready call a m l = rw (le-leb call 3 m) (sheet-read-back a 0 (readySheet call) l (ready-sheet call))
 
-salt-row : EncodableRow (saltNumbers lipf6EcDmc)
+electrolyte-params-row : EncodableRow (electrolyteParamsNumbers lipf6EcDmc)
 unfolding lipf6EcDmc allFit fits ofBits
-salt-row = closed-row (saltNumbers lipf6EcDmc) tt
+electrolyte-params-row = closed-row (electrolyteParamsNumbers lipf6EcDmc) tt
 
-pub salt-ready : (a : List ℕ) → 56 ≤ length a → saltAt (readyPut 4 a) ≡ lipf6EcDmc
+pub electrolyte-params-ready : (a : List ℕ) → 56 ≤ length a → electrolyteParamsAt (readyPut 4 a) ≡ lipf6EcDmc
 unfolding readyPut
-salt-ready a l = salt-read-back a lipf6EcDmc l salt-row
+electrolyte-params-ready a l = electrolyte-params-read-back a lipf6EcDmc l electrolyte-params-row
 
 -- Doyle-Fuller-Newman parameters
 nmc-params : EncodableParams nmcGraphite

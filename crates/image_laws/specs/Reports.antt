@@ -14,7 +14,7 @@ use Rattle.dfn.specs.declared.DfnStep.{DfnStep}
 use Rattle.codec.specs.Words.{wordAt, floatAt, putWord, putRow}
 use Rattle.image_rows.specs.Written.{putEnding}
 use Rattle.cell_images.specs.Images as C
-use Rattle.porous_images.specs.Images as D
+use Rattle.dfn_images.specs.Images as D
 use Rattle.image_laws.specs.Words.{word-read-back}
 use Rattle.image_laws.specs.Encodable.{EncodableRow}
 use Rattle.image_laws.specs.Rows.{Writes, same-below, same-float, writes-then, writes-word, writes-places, place-read-back}

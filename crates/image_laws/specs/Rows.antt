@@ -8,7 +8,7 @@ use native.Mathlib.Nat.{not-suc-le-zero, eq-or-lt-of-le, le-of-suc-le-suc, le-re
 use lib.ListN.{length, getD, replicate, length-replicate}
 use lib.Seq.{ext-getD}
 use lib.Ieee.{Float, nan, binary64, ofBits, toBits}
-use Rattle.turns.specs.Turns.{firstBy, first-length, first-below, first-cong}
+use Rattle.iterate.specs.Iterate.{firstBy, first-length, first-below, first-cong}
 use Rattle.codec.specs.Words.{wordAt, putWord, floatAt, putFloat, putPlaces, placesAt, putRow}
 use Rattle.image_laws.specs.Words.{Outside, word-length, word-other, float-read-back}
 use Rattle.image_laws.specs.Encodable.{EncodableRow}

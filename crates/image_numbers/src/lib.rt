@@ -4,7 +4,7 @@ use electrode::ElectrodeParams;
 use electrolyte::Count;
 use electrolyte::ElectrolyteState;
 use electrolyte_images::electrolyte_at;
-use electrolyte_images::salt_at;
+use electrolyte_images::electrolyte_params_at;
 use electrolyte_parameters::ElectrolyteParams;
 use particle::ParticleDiffusion;
 use refusal::Answer;
@@ -12,11 +12,11 @@ use sheet_images::particle_at;
 use sheet_images::sheet_at;
 use solver::SpmSolver;
 ghost use mathlib.Core.Path.{_≡_};
-ghost use Rattle.refusal.specs.Answers.{said};
-ghost use Rattle.image_numbers.specs.Numbers.{sheetNumber, particleNumber, cellNumber, rateNumber, nodesSaid, electrolyteNumber, numberSaid, numberLength};
+ghost use Rattle.refusal.specs.Answers.{outcomeOf};
+ghost use Rattle.image_numbers.specs.Numbers.{sheetNumber, particleNumber, cellNumber, rateNumber, nodesOutcome, electrolyteNumber, numberOutcome, numberLength};
 
 fn sheet_number(call: u64, p: ElectrodeParams, x: f64) -> Answer
-    ensures { λ r. ⌜ said r ≡ sheetNumber call p x ⌝ }
+    ensures { λ r. ⌜ outcomeOf r ≡ sheetNumber call p x ⌝ }
 {
     match call {
         1 => p.d_s(x),
@@ -28,7 +28,7 @@ fn sheet_number(call: u64, p: ElectrodeParams, x: f64) -> Answer
 }
 
 fn particle_number(call: u64, p: ParticleDiffusion, x: f64) -> Answer
-    ensures { λ r. ⌜ said r ≡ particleNumber call p x ⌝ }
+    ensures { λ r. ⌜ outcomeOf r ≡ particleNumber call p x ⌝ }
 {
     match call {
         6 => p.dt_stable(x),
@@ -40,7 +40,7 @@ fn particle_number(call: u64, p: ParticleDiffusion, x: f64) -> Answer
 }
 
 fn cell_number(call: u64, s: SpmSolver) -> Answer
-    ensures { λ r. ⌜ said r ≡ cellNumber call s ⌝ }
+    ensures { λ r. ⌜ outcomeOf r ≡ cellNumber call s ⌝ }
 {
     match call {
         11 => s.ocv(),
@@ -49,7 +49,7 @@ fn cell_number(call: u64, s: SpmSolver) -> Answer
 }
 
 fn rate_number(call: u64, p: ElectrolyteParams, porosity: f64, temp_k: f64) -> Answer
-    ensures { λ r. ⌜ said r ≡ rateNumber call p porosity «temp_k» ⌝ }
+    ensures { λ r. ⌜ outcomeOf r ≡ rateNumber call p porosity «temp_k» ⌝ }
 {
     match call {
         13 => p.d_e(temp_k),
@@ -61,7 +61,7 @@ fn rate_number(call: u64, p: ElectrolyteParams, porosity: f64, temp_k: f64) -> A
 
 // The count of nodes as a binary64.
 fn nodes_number(e: ElectrolyteState) -> Answer
-    ensures { λ r. ⌜ said r ≡ nodesSaid e ⌝ }
+    ensures { λ r. ⌜ outcomeOf r ≡ nodesOutcome e ⌝ }
 {
     let n = e.n_total();
     match n {
@@ -71,7 +71,7 @@ fn nodes_number(e: ElectrolyteState) -> Answer
 }
 
 fn electrolyte_number(call: u64, e: ElectrolyteState, x: f64) -> Answer
-    ensures { λ r. ⌜ said r ≡ electrolyteNumber call e x ⌝ }
+    ensures { λ r. ⌜ outcomeOf r ≡ electrolyteNumber call e x ⌝ }
 {
     match call {
         17 => nodes_number(e),
@@ -82,7 +82,7 @@ fn electrolyte_number(call: u64, e: ElectrolyteState, x: f64) -> Answer
 
 // What call number `call`, 1 to 19, answers to an image and its arguments.
 pub fn number_of(call: u64, image: &[u8], x: f64, y: f64) -> Answer
-    ensures { λ r. ⌜ said r ≡ numberSaid call (now (image .entry)) x y ⌝ }
+    ensures { λ r. ⌜ outcomeOf r ≡ numberOutcome call (now (image .entry)) x y ⌝ }
 {
     if call <= 5 {
         return sheet_number(call, sheet_at(image, 0), x);
@@ -94,7 +94,7 @@ pub fn number_of(call: u64, image: &[u8], x: f64, y: f64) -> Answer
         return cell_number(call, cell_at(image));
     }
     if call <= 16 {
-        return rate_number(call, salt_at(image), x, y);
+        return rate_number(call, electrolyte_params_at(image), x, y);
     }
     electrolyte_number(call, electrolyte_at(image), x)
 }

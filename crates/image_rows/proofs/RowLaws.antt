@@ -10,7 +10,7 @@ use lib.ListN.{length, getD}
 use lib.Ieee.{Float, nan, inf, fin, binary64, isNan, eq, nanBits}
 use lib.Ieee.Bits.{nanBits-above}
 use borrow.Author.Tests.{le-leb}
-use Rattle.turns.specs.Turns.{all-at}
+use Rattle.iterate.specs.Iterate.{all-at}
 use Rattle.codec.specs.Words.{bytesAt, wordAt, putBytes, putWord}
 use Rattle.image_rows.specs.Rows.{finitePattern, finiteWords, noNan}
 

@@ -5,7 +5,7 @@ use mathlib.Core.List.{List}
 use lib.Dec.{eqb}
 use lib.ListN.{length, getD}
 use lib.Ieee.{Float, nan, eq}
-use Rattle.turns.specs.Turns.{allBelow}
+use Rattle.iterate.specs.Iterate.{allBelow}
 use Rattle.codec.specs.Words.{wordAt}
 
 -- the exponent of a word is not all ones

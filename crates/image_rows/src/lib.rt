@@ -9,7 +9,7 @@ ghost use mathlib.Core.Path.{_≡_};
 ghost use Prim.Native.Nat.{_+_, _*_, _≤_};
 ghost use lib.Dec.{T};
 ghost use lib.ListN.{length};
-ghost use Rattle.turns.specs.Turns.{firstBy};
+ghost use Rattle.iterate.specs.Iterate.{firstBy};
 ghost use Rattle.codec.specs.Words.{floatAt, putPlaces};
 ghost use Rattle.image_rows.specs.Rows.{finitePattern, finiteWords, noNan};
 ghost use Rattle.image_rows.specs.Written.{putEnding};

@@ -4,7 +4,7 @@ use mathlib.Core.Bool.{Bool, cond, _&&_}
 use lib.Ieee.{Float, le, lt, neg}
 use Rattle.binary64.specs.Operators.{_⊕_, _⊖_, _⊗_, _⊘_, f64}
 use Rattle.square_root.specs.Root.{sqrtOf}
-use Rattle.choice.specs.Choice.{clampOf, signumOf}
+use Rattle.min_max.specs.MinMax.{clampOf, signumOf}
 use Rattle.elementary.specs.Asinh.{asinhOf}
 use Rattle.electrode.specs.declared.ElectrodeParams.{ElectrodeParams}
 use Rattle.electrode.specs.Sheet.{specificArea}
@@ -26,8 +26,8 @@ configFits s =
     && le (f64 0) (s .«r_electrolyte_ohm_m2») && le (s .«r_electrolyte_ohm_m2») (f64 0x3ff0_0000_0000_0000)
 
 -- a_s * L * F
-unfoldable pub wallCurrent : ElectrodeParams → Float → Float
-wallCurrent p faraday = specificArea p ⊗ p .thickness ⊗ faraday
+unfoldable pub surfaceCurrent : ElectrodeParams → Float → Float
+surfaceCurrent p faraday = specificArea p ⊗ p .thickness ⊗ faraday
 
 -- k_bv * sqrt(c_ss * (c_s_max - c_ss) * 1000), the surface's stoichiometry clamped to 0.01 to 0.99
 unfoldable pub exchange : ParticleDiffusion → Float

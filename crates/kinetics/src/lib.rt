@@ -5,7 +5,7 @@ use particle::surface_theta;
 ghost use mathlib.Core.Path.{_≡_};
 ghost use Prim.Native.Nat.{_≤_};
 ghost use Rattle.particle.specs.Particle.{particleOf};
-ghost use Rattle.kinetics.specs.Kinetics.{configFits, wallCurrent, exchange, overpotential, terminalVoltage};
+ghost use Rattle.kinetics.specs.Kinetics.{configFits, surfaceCurrent, exchange, overpotential, terminalVoltage};
 
 pub struct SpmConfig {
     // Radial nodes of each particle.
@@ -40,8 +40,8 @@ impl SpmConfig {
 }
 
 // What a molar flux at the walls carries, as a current of the electrode's area: a_s * L * F.
-pub fn wall_current(p: ElectrodeParams, faraday: f64) -> f64
-    ensures { λ r. ⌜ r ≡ wallCurrent p faraday ⌝ }
+pub fn surface_current(p: ElectrodeParams, faraday: f64) -> f64
+    ensures { λ r. ⌜ r ≡ surfaceCurrent p faraday ⌝ }
 {
     p.area_per_volume() * p.thickness * faraday
 }
@@ -51,7 +51,7 @@ fn exchange_current(params: ElectrodeParams, n: usize, c: &[f64; 64]) -> f64
     requires { ⌜ (3 ≤ n) × (n ≤ 64) ⌝ }
     ensures { λ r. ⌜ r ≡ exchange (particleOf params n (now (c .entry))) ⌝ }
 {
-    let theta_s = choice::clamp(surface_theta(params, n, c), 0.01, 0.99);
+    let theta_s = min_max::clamp(surface_theta(params, n, c), 0.01, 0.99);
     let c_ss = theta_s * params.c_s_max;
     params.k_bv * square_root::sqrt(c_ss * (params.c_s_max - c_ss) * 1000.0)
 }
@@ -87,5 +87,5 @@ pub fn terminal_voltage(
 ) -> f64
     ensures { λ r. ⌜ r ≡ terminalVoltage «u_neg» «u_pos» «eta_neg» «eta_pos» «v_ohm» «current_a» ⌝ }
 {
-    (u_pos + eta_pos) - (u_neg + eta_neg) - v_ohm * choice::signum(current_a)
+    (u_pos + eta_pos) - (u_neg + eta_neg) - v_ohm * min_max::signum(current_a)
 }

@@ -6,7 +6,7 @@ use lib.ListN.{length, getD, replicate}
 use lib.Ieee.{Float, nan}
 use Rattle.binary64.specs.Operators.{f64}
 use Rattle.refusal.specs.Ranges.{finite}
-use Rattle.turns.specs.Turns.{allBelow}
+use Rattle.iterate.specs.Iterate.{allBelow}
 
 -- place i
 abbrev pub at : List Float → ℕ → Float

@@ -7,9 +7,9 @@ use lib.Dec.{eqb}
 use lib.ListN.{replicate}
 use lib.Ieee.{Float}
 use Rattle.binary64.specs.Operators.{_⊗_, f64}
-use Rattle.refusal.specs.Numbers.{firstMet, refusalUnless, grid, sheet, load, interval, temperature, notFinite, none-met}
+use Rattle.refusal.specs.Numbers.{firstRefusal, refusalUnless, grid, sheet, load, interval, temperature, notFinite, neither-refused}
 use Rattle.refusal.specs.Ranges.{loadFits, intervalFits, temperatureFits}
-use Rattle.refusal.specs.Answers.{Said, finiteOutcome}
+use Rattle.refusal.specs.Answers.{Outcome, finiteOutcome}
 use Rattle.electrode.specs.Sheet.{sheetFits, diffusivityAt}
 use Rattle.electrode.specs.declared.ElectrodeParams.{ElectrodeParams}
 use Rattle.diffusion.specs.SubStep.{subStep}
@@ -17,7 +17,7 @@ use Rattle.profile.specs.Places.{finiteProfile, filled}
 use Rattle.particle.specs.declared.ParticleDiffusion.{ParticleDiffusion}
 use Rattle.particle.specs.declared.ParticleAnswer.{ParticleAnswer}
 use Rattle.particle.specs.Checks.{nodesFit, particleRefusal}
-use Rattle.particle.specs.Particle.{withProfile, driveWith, stableStep, surfaceTheta, surfacePotential, average, averageTheta}
+use Rattle.particle.specs.Particle.{withProfile, subStepParamsOf, stableStep, surfaceTheta, surfacePotential, average, averageTheta}
 
 abbrev pub particleAnswer : ℕ → ParticleDiffusion → ParticleAnswer
 particleAnswer k p = record { refusal = k; particle = p }
@@ -25,7 +25,7 @@ particleAnswer k p = record { refusal = k; particle = p }
 -- ---- new
 -- a build checks 1 and 2
 unfoldable pub newRefusal : ElectrodeParams → ℕ → ℕ
-newRefusal p n = firstMet (refusalUnless (nodesFit n) grid) (refusalUnless (sheetFits p) sheet)
+newRefusal p n = firstRefusal (refusalUnless (nodesFit n) grid) (refusalUnless (sheetFits p) sheet)
 
 -- all nodes at theta_init * c_s_max
 unfoldable pub fresh : ElectrodeParams → ℕ → ParticleDiffusion
@@ -55,13 +55,13 @@ made p n = cond (eqb (newRefusal p n) 0) (particleAnswer 0 (fresh p n)) (particl
 -- ---- step
 unfoldable pub stepRefusal : ParticleDiffusion → Float → Float → Float → ℕ
 stepRefusal p j dt t =
-    firstMet (particleRefusal p)
-    (firstMet (refusalUnless (loadFits j (f64 0x42a2_309c_e540_0000)) load)
-    (firstMet (refusalUnless (intervalFits dt) interval) (refusalUnless (temperatureFits t) temperature)))
+    firstRefusal (particleRefusal p)
+    (firstRefusal (refusalUnless (loadFits j (f64 0x42a2_309c_e540_0000)) load)
+    (firstRefusal (refusalUnless (intervalFits dt) interval) (refusalUnless (temperatureFits t) temperature)))
 
 pub step-particle : (p : ParticleDiffusion) (j dt t : Float) → stepRefusal p j dt t ≡ 0 → particleRefusal p ≡ 0
 unfolding stepRefusal
-step-particle p j dt t h = none-met _ _ h .0
+step-particle p j dt t h = neither-refused _ _ h .0
 
 -- the new profile, refused with 8 where it holds a NaN or an infinity
 unfoldable pub accepted : ParticleDiffusion → List Float → ParticleAnswer
@@ -71,22 +71,22 @@ accepted p c = cond (finiteProfile c) (particleAnswer 0 (withProfile p c)) (part
 unfoldable pub stepped : ParticleDiffusion → Float → Float → Float → ParticleAnswer
 stepped p j dt t =
     cond (eqb (stepRefusal p j dt t) 0)
-    (accepted p (subStep (driveWith p (diffusivityAt (p .params) t) j dt) (p .«c_s»)))
+    (accepted p (subStep (subStepParamsOf p (diffusivityAt (p .params) t) j dt) (p .«c_s»)))
     (particleAnswer (stepRefusal p j dt t) p)
 
 -- ---- numbers
-unfoldable pub dtStable : ParticleDiffusion → Float → Said
+unfoldable pub dtStable : ParticleDiffusion → Float → Outcome
 dtStable p t =
-    finiteOutcome (firstMet (particleRefusal p) (refusalUnless (temperatureFits t) temperature)) (stableStep p (diffusivityAt (p .params) t))
+    finiteOutcome (firstRefusal (particleRefusal p) (refusalUnless (temperatureFits t) temperature)) (stableStep p (diffusivityAt (p .params) t))
 
-unfoldable pub thetaSurface : ParticleDiffusion → Said
+unfoldable pub thetaSurface : ParticleDiffusion → Outcome
 thetaSurface p = finiteOutcome (particleRefusal p) (surfaceTheta p)
 
-unfoldable pub thetaAvg : ParticleDiffusion → Said
+unfoldable pub thetaAvg : ParticleDiffusion → Outcome
 thetaAvg p = finiteOutcome (particleRefusal p) (averageTheta p)
 
-unfoldable pub cAvg : ParticleDiffusion → Said
+unfoldable pub cAvg : ParticleDiffusion → Outcome
 cAvg p = finiteOutcome (particleRefusal p) (average p)
 
-unfoldable pub ocpSurface : ParticleDiffusion → Said
+unfoldable pub ocpSurface : ParticleDiffusion → Outcome
 ocpSurface p = finiteOutcome (particleRefusal p) (surfacePotential p)

@@ -5,7 +5,7 @@ use native.Mathlib.Nat.{zero-lt-suc}
 use lib.Dec.{T, leb, leb→le}
 use lib.Ieee.Fits.{and-l, and-r}
 use mathlib.Core.Bool.{Bool, _&&_}
-use Rattle.refusal.specs.Numbers.{firstMet, refusalUnless, grid, sheet, none-met, passed}
+use Rattle.refusal.specs.Numbers.{firstRefusal, refusalUnless, grid, sheet, neither-refused, passed}
 use Rattle.refusal.specs.Ranges.{countInRange}
 use Rattle.profile.specs.Places.{profileFits}
 use Rattle.electrode.specs.Sheet.{sheetFits}
@@ -20,18 +20,18 @@ abbrev pub fieldsFit : ParticleDiffusion → Bool
 fieldsFit p = sheetFits (p .params) && profileFits (p .«c_s») (p .«n_nodes») (p .params .«c_s_max»)
 
 unfoldable pub particleRefusal : ParticleDiffusion → ℕ
-particleRefusal p = firstMet (refusalUnless (nodesFit (p .«n_nodes»)) grid) (refusalUnless (fieldsFit p) sheet)
+particleRefusal p = firstRefusal (refusalUnless (nodesFit (p .«n_nodes»)) grid) (refusalUnless (fieldsFit p) sheet)
 
 -- a particle that nothing refuses has 3 to 64 nodes, and its fields fit
-pub nodes-met : (n : ℕ) → refusalUnless (nodesFit n) grid ≡ 0 → (3 ≤ n) × (n ≤ 64)
-nodes-met n h =
+pub nodes-valid : (n : ℕ) → refusalUnless (nodesFit n) grid ≡ 0 → (3 ≤ n) × (n ≤ 64)
+nodes-valid n h =
     let t = passed (nodesFit n) grid (zero-lt-suc 0) h in
     (leb→le 3 n (and-l (leb 3 n) (leb n 64) t), leb→le n 64 (and-r (leb 3 n) (leb n 64) t))
 
 pub nodes-of : (p : ParticleDiffusion) → particleRefusal p ≡ 0 → (3 ≤ p .«n_nodes») × (p .«n_nodes» ≤ 64)
 unfolding particleRefusal
-nodes-of p h = nodes-met (p .«n_nodes») (none-met _ _ h .0)
+nodes-of p h = nodes-valid (p .«n_nodes») (neither-refused _ _ h .0)
 
 pub fields-of : (p : ParticleDiffusion) → particleRefusal p ≡ 0 → T (fieldsFit p)
 unfolding particleRefusal
-fields-of p h = passed (fieldsFit p) sheet (zero-lt-suc 1) (none-met _ _ h .1)
+fields-of p h = passed (fieldsFit p) sheet (zero-lt-suc 1) (neither-refused _ _ h .1)

@@ -9,7 +9,7 @@ use Rattle.binary64.specs.Operators.{_⊗_, _⊘_, f64, count}
 use Rattle.profile.specs.Weights.{shares, content}
 use Rattle.profile.specs.Sums.{sumsAfter, sums-are}
 use Rattle.profile.specs.declared.Sums.{Sums}
-use Rattle.diffusion.specs.SubStep.{Drive}
+use Rattle.diffusion.specs.SubStep.{SubStepParams}
 use Rattle.electrode.specs.declared.ElectrodeParams.{ElectrodeParams}
 use Rattle.electrode.specs.Curves.{openCircuit}
 use Rattle.particle.specs.declared.ParticleDiffusion.{ParticleDiffusion}
@@ -32,8 +32,8 @@ abbrev pub withProfile : ParticleDiffusion → List Float → ParticleDiffusion
 withProfile p c = particleOf (p .params) (p .«n_nodes») c
 
 -- what a sub-step of the length dt works with, by a diffusivity and a flux
-abbrev pub driveWith : ParticleDiffusion → Float → Float → Float → Drive
-driveWith p ds j dt = record { n = p .«n_nodes»; dr = spacing p; d_s = ds; c_max = p .params .«c_s_max»; j_n = j; dt = dt }
+abbrev pub subStepParamsOf : ParticleDiffusion → Float → Float → Float → SubStepParams
+subStepParamsOf p ds j dt = record { n = p .«n_nodes»; dr = spacing p; d_s = ds; c_max = p .params .«c_s_max»; j_n = j; dt = dt }
 
 -- c_s[n - 1] / c_s_max
 unfoldable pub surfaceTheta : ParticleDiffusion → Float

@@ -12,11 +12,11 @@ use sub_step::prepare;
 use sub_step::sub_steps;
 ghost use mathlib.Core.Path.{_≡_};
 ghost use Prim.Native.Nat.{_≤_};
-ghost use Rattle.refusal.specs.Answers.{said};
-ghost use Rattle.turns.specs.Turns.{times};
+ghost use Rattle.refusal.specs.Answers.{outcomeOf};
+ghost use Rattle.iterate.specs.Iterate.{times};
 ghost use Rattle.diffusion.specs.SubStep.{subStep};
 ghost use Rattle.particle.specs.Checks.{fieldsFit, particleRefusal};
-ghost use Rattle.particle.specs.Particle.{particleOf, SpacingOf, driveWith, surfaceTheta, surfacePotential, StableStepOf, average, averageTheta};
+ghost use Rattle.particle.specs.Particle.{particleOf, SpacingOf, subStepParamsOf, surfaceTheta, surfacePotential, StableStepOf, average, averageTheta};
 ghost use Rattle.particle.specs.Calls.{noParticle, made, stepRefusal, accepted, stepped, dtStable, thetaSurface, thetaAvg, cAvg, ocpSurface};
 
 pub struct ParticleDiffusion {
@@ -110,7 +110,7 @@ pub fn advance(
     turns: usize,
 ) -> [f64; 64]
     requires { ⌜ (3 ≤ n) × (n ≤ 64) ⌝ }
-    ensures { λ r. ⌜ r ≡ times turns (subStep (driveWith (particleOf params n c) «d_s» «j_n» dt)) c ⌝ }
+    ensures { λ r. ⌜ r ≡ times turns (subStep (subStepParamsOf (particleOf params n c) «d_s» «j_n» dt)) c ⌝ }
 {
     let dr = spacing(params, n);
     let v = prepare(n, dr, d_s, params.c_s_max, j_n, dt);
@@ -144,7 +144,7 @@ impl ParticleDiffusion {
             refusal::count_within(n_nodes as u64, 3, 64),
             refusal::GRID,
         );
-        let refusal = refusal::first_met(
+        let refusal = refusal::first_refusal(
             few,
             refusal::refusal_unless(params.fits(), refusal::SHEET),
         );
@@ -175,9 +175,9 @@ impl ParticleDiffusion {
             refusal::temperature_fits(temp_k),
             refusal::TEMPERATURE,
         );
-        refusal::first_met(
+        refusal::first_refusal(
             self.refusal(),
-            refusal::first_met(load, refusal::first_met(interval, temperature)),
+            refusal::first_refusal(load, refusal::first_refusal(interval, temperature)),
         )
     }
 
@@ -222,13 +222,13 @@ impl ParticleDiffusion {
 
     // The longest stable interval at a temperature, s.
     pub fn dt_stable(self, temp_k: f64) -> Answer
-        ensures { λ r. ⌜ said r ≡ dtStable self «temp_k» ⌝ }
+        ensures { λ r. ⌜ outcomeOf r ≡ dtStable self «temp_k» ⌝ }
     {
         let temperature = refusal::refusal_unless(
             refusal::temperature_fits(temp_k),
             refusal::TEMPERATURE,
         );
-        let number = refusal::first_met(self.refusal(), temperature);
+        let number = refusal::first_refusal(self.refusal(), temperature);
         if number != 0 {
             return refusal::answered(number, 0.0);
         }
@@ -239,7 +239,7 @@ impl ParticleDiffusion {
 
     // Stoichiometry at the surface.
     pub fn theta_surface(self) -> Answer
-        ensures { λ r. ⌜ said r ≡ thetaSurface self ⌝ }
+        ensures { λ r. ⌜ outcomeOf r ≡ thetaSurface self ⌝ }
     {
         let number = self.refusal();
         if number != 0 {
@@ -250,7 +250,7 @@ impl ParticleDiffusion {
 
     // Average stoichiometry.
     pub fn theta_avg(self) -> Answer
-        ensures { λ r. ⌜ said r ≡ thetaAvg self ⌝ }
+        ensures { λ r. ⌜ outcomeOf r ≡ thetaAvg self ⌝ }
     {
         let number = self.refusal();
         if number != 0 {
@@ -261,7 +261,7 @@ impl ParticleDiffusion {
 
     // Average concentration, mol/m^3.
     pub fn c_avg(self) -> Answer
-        ensures { λ r. ⌜ said r ≡ cAvg self ⌝ }
+        ensures { λ r. ⌜ outcomeOf r ≡ cAvg self ⌝ }
     {
         let number = self.refusal();
         if number != 0 {
@@ -272,7 +272,7 @@ impl ParticleDiffusion {
 
     // Open-circuit potential at the surface, V.
     pub fn ocp_surface(self) -> Answer
-        ensures { λ r. ⌜ said r ≡ ocpSurface self ⌝ }
+        ensures { λ r. ⌜ outcomeOf r ≡ ocpSurface self ⌝ }
     {
         let number = self.refusal();
         if number != 0 {

@@ -5,7 +5,7 @@ use mathlib.Core.Bool.{cond}
 use mathlib.Core.List.{List, [], _∷_}
 use lib.Dec.{eqb}
 use Rattle.binary64.specs.Operators.{f64}
-use Rattle.refusal.specs.Numbers.{firstMet, refusalUnless, load, interval, temperature}
+use Rattle.refusal.specs.Numbers.{firstRefusal, refusalUnless, load, interval, temperature}
 use Rattle.refusal.specs.Ranges.{loadFits, intervalFits, temperatureFits}
 use Rattle.diffusion.specs.Calls.{accepted}
 use Rattle.particle.specs.declared.ParticleDiffusion.{ParticleDiffusion}
@@ -17,11 +17,11 @@ use Rattle.particle_laws.specs.Demand.{Call, answer, steps, taken}
 -- the number that a call meets by itself: its flux, interval and temperature
 unfoldable pub callRefusal : Call → ℕ
 callRefusal q =
-    firstMet (refusalUnless (loadFits (q .flux) (f64 0x42a2_309c_e540_0000)) load)
-    (firstMet (refusalUnless (intervalFits (q .dt)) interval) (refusalUnless (temperatureFits (q .temp)) temperature))
+    firstRefusal (refusalUnless (loadFits (q .flux) (f64 0x42a2_309c_e540_0000)) load)
+    (firstRefusal (refusalUnless (intervalFits (q .dt)) interval) (refusalUnless (temperatureFits (q .temp)) temperature))
 
 pub answer-number : (p : ParticleDiffusion) (q : Call) → particleRefusal p ≡ 0 → answer p q .refusal ≡ callRefusal q
-unfolding stepRefusal callRefusal firstMet
+unfolding stepRefusal callRefusal firstRefusal
 answer-number p q h = step-number p (q .flux) (q .dt) (q .temp) ∙ rw h
 
 -- the calls of a list that meet none

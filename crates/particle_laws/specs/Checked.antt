@@ -16,11 +16,11 @@ use Rattle.binary64.specs.Operators.{f64}
 use Rattle.binary64.specs.Range.{Within, Sized}
 use Rattle.binary64.specs.Bounds.{bounded-most, within-scaled}
 use Rattle.binary64.specs.Value.{val}
-use Rattle.refusal.specs.Numbers.{refusalUnless, firstMet}
+use Rattle.refusal.specs.Numbers.{refusalUnless, firstRefusal}
 use Rattle.refusal.specs.Ranges.{inRange, plusZero}
-use Rattle.turns.specs.Turns.{all-at, all-of}
+use Rattle.iterate.specs.Iterate.{all-at, all-of}
 use Rattle.electrode.specs.Sheet.{sheetFits}
-use Rattle.diffusion.specs.Premises.{Held, Whole, held-tested}
+use Rattle.diffusion.specs.Premises.{NodeInRange, ProfileInRange, node-tested}
 use Rattle.profile.specs.Places.{placeFits, profileFits}
 use Rattle.particle.specs.declared.ParticleDiffusion.{ParticleDiffusion}
 use Rattle.particle.specs.Checks.{nodesFit, particleRefusal, nodes-of}
@@ -42,9 +42,9 @@ nan-unfit true M t = t
 nan-unfit false M t = t
 
 -- a node that is from 0 to M is at most 2 ^ 17
-pub held-sized : {x M : Float} → Held (val M) x → Within M (2 ^ 17) 1 1 1 → Sized x (2 ^ 17) 1
+pub node-sized : {x M : Float} → NodeInRange (val M) x → Within M (2 ^ 17) 1 1 1 → Sized x (2 ^ 17) 1
 unfolding whole
-held-sized h m = bounded-most {P = zero-lt-suc 0} (record { fine = h .fine; size = within-weaken (within-self (h .range .lower)) (≤F-trans (h .range .upper) (within-scaled m 0 17 tt tt .size .high)) })
+node-sized h m = bounded-most {P = zero-lt-suc 0} (record { fine = h .fine; size = within-weaken (within-self (h .range .lower)) (≤F-trans (h .range .upper) (within-scaled m 0 17 tt tt .size .high)) })
 
 -- ---- a particle that passes
 module _ (p : ParticleDiffusion) (h : particleRefusal p ≡ 0) where
@@ -68,22 +68,22 @@ module _ (p : ParticleDiffusion) (h : particleRefusal p ≡ 0) where
       nan-unfit (ltb 63 (p .«n_nodes»)) M (subst (λ (x : Float). T (placeFits x (ltb 63 (p .«n_nodes»)) M)) (List·getD-eq-default (p .«c_s») nan l) (place-passed 63 (lit≤ tt))))
 
   -- its nodes are finite and from 0 to M
-  pub particle-whole : Whole (p .«n_nodes») (val M) (p .«c_s»)
-  particle-whole = record {
+  pub particle-in-range : ProfileInRange (p .«n_nodes») (val M) (p .«c_s»)
+  particle-in-range = record {
     long = le-trans (nodes-of p h .1) all-places;
-    held = λ i l.
+    nodes = λ i l.
         let t = used-passed i l in
-        held-tested (placeOf p i) M (sheet-ranges (p .params) (sheet-passed p h) .most .0 .fine) (and-l (le (f64 0) (placeOf p i)) (le (placeOf p i) M) t) (and-r (le (f64 0) (placeOf p i)) (le (placeOf p i) M) t);
+        node-tested (placeOf p i) M (sheet-ranges (p .params) (sheet-passed p h) .most .0 .fine) (and-l (le (f64 0) (placeOf p i)) (le (placeOf p i) M) t) (and-r (le (f64 0) (placeOf p i)) (le (placeOf p i) M) t);
   }
 
   pub place-sized : (i : ℕ) → i < p .«n_nodes» → Sized (placeOf p i) (2 ^ 17) 1
-  place-sized i l = held-sized (particle-whole .held i l) (sheet-ranges (p .params) (sheet-passed p h) .most)
+  place-sized i l = node-sized (particle-in-range .nodes i l) (sheet-ranges (p .params) (sheet-passed p h) .most)
 
 -- ---- and back
 pub particle-passes : (p : ParticleDiffusion) → T (nodesFit (p .«n_nodes»)) → T (sheetFits (p .params))
     → ((i : ℕ) → i < p .«n_nodes» → T (inRange (placeOf p i) (f64 0) (p .params .«c_s_max»)))
     → ((i : ℕ) → p .«n_nodes» ≤ i → i < 64 → T (plusZero (placeOf p i))) → particleRefusal p ≡ 0
-unfolding particleRefusal firstMet refusalUnless profileFits
+unfolding particleRefusal firstRefusal refusalUnless profileFits
 particle-passes p n s u w =
     let places : T (profileFits (p .«c_s») (p .«n_nodes») (p .params .«c_s_max»)) = all-of (λ i. placeFits (placeOf p i) (ltb i (p .«n_nodes»)) (p .params .«c_s_max»)) 64 (λ i l. place i l (ltb i (p .«n_nodes»)) refl) in
     rw (is-true (nodesFit (p .«n_nodes»)) n, is-true (sheetFits (p .params)) s, is-true (profileFits (p .«c_s») (p .«n_nodes») (p .params .«c_s_max»)) places)

@@ -22,25 +22,25 @@ use Rattle.binary64.specs.Operators.{_⊗_, f64}
 use Rattle.binary64.specs.Order.{between-finite}
 use Rattle.binary64.specs.Bounds.{within-scaled}
 use Rattle.binary64.specs.OrderLaws.{rounds-le}
-use Rattle.binary64.specs.Rounds.{held, mul-rounds}
+use Rattle.binary64.specs.Rounds.{representable, mul-rounds}
 use Rattle.binary64.specs.Value.{val, le-val}
 use Rattle.elementary.specs.Exp.{one}
-use Rattle.refusal.specs.Numbers.{grid, sheet, none-met, passed}
+use Rattle.refusal.specs.Numbers.{grid, sheet, neither-refused, passed}
 use Rattle.refusal.specs.Ranges.{inRange, plusZero}
-use Rattle.turns.specs.Turns.{all-of, first-below, first-above}
+use Rattle.iterate.specs.Iterate.{all-of, first-below, first-above}
 use Rattle.electrode.specs.Sheet.{sheetFits, diffusivityAt}
 use Rattle.electrode.specs.declared.ElectrodeParams.{ElectrodeParams}
-use Rattle.diffusion.specs.SubStep.{Drive, subStep}
+use Rattle.diffusion.specs.SubStep.{SubStepParams, subStep}
 use Rattle.diffusion.specs.Premises.{zero-fine, zero-val}
 use Rattle.diffusion.specs.Profile as Profile
 use Rattle.profile.specs.Places.{finiteProfile, filled}
 use Rattle.particle.specs.declared.ParticleDiffusion.{ParticleDiffusion}
 use Rattle.particle.specs.declared.ParticleAnswer.{ParticleAnswer}
-use Rattle.particle.specs.Checks.{nodesFit, particleRefusal, nodes-met}
-use Rattle.particle.specs.Particle.{placeOf, withProfile, driveWith}
+use Rattle.particle.specs.Checks.{nodesFit, particleRefusal, nodes-valid}
+use Rattle.particle.specs.Particle.{placeOf, withProfile, subStepParamsOf}
 use Rattle.particle.specs.Calls.{particleAnswer, newRefusal, fresh, noParticle, made, stepRefusal, step-particle, accepted, stepped}
 use Rattle.particle_laws.specs.Ranges.{sheet-ranges, nodes-passed, sheet-passed, step-ranged}
-use Rattle.particle_laws.specs.Checked.{unused-passed, particle-whole, particle-passes}
+use Rattle.particle_laws.specs.Checked.{unused-passed, particle-in-range, particle-passes}
 use Rattle.particle_laws.specs.Nodes.{node-in}
 
 -- ---- every place of a particle that passes is finite
@@ -56,24 +56,24 @@ unfolding finiteProfile
 places-finite p h = all-of (λ i. finite (placeOf p i)) 64 (λ i l. place i l (ltb i (p .«n_nodes»)) refl)
   where
     place : (i : ℕ) → i < 64 → (b : Bool) → ltb i (p .«n_nodes») ≡ b → T (finite (placeOf p i))
-    place i l true e = particle-whole p h .held i (ltb-true i (p .«n_nodes») e) .fine
+    place i l true e = particle-in-range p h .nodes i (ltb-true i (p .«n_nodes») e) .fine
     place i l false e = zero-finite (placeOf p i) (unused-passed p h i (ltb-false i (p .«n_nodes») e) l)
 
 -- ---- a step
 module _ (p : ParticleDiffusion) (j dt t : Float) where
-  abbrev pub stepDrive : Drive
-  stepDrive = driveWith p (diffusivityAt (p .params) t) j dt
+  abbrev pub stepParams : SubStepParams
+  stepParams = subStepParamsOf p (diffusivityAt (p .params) t) j dt
 
   abbrev pub next : ParticleDiffusion
-  next = withProfile p (subStep stepDrive (p .«c_s»))
+  next = withProfile p (subStep stepParams (p .«c_s»))
 
   next-passes : stepRefusal p j dt t ≡ 0 → particleRefusal next ≡ 0
   next-passes e =
       let h = step-particle p j dt t e in
-      let w = particle-whole p h in
+      let w = particle-in-range p h in
       particle-passes next (nodes-passed p h) (sheet-passed p h)
-      (λ i l. rw (Profile.step-place stepDrive (p .«c_s») i l (w .long)) (node-in stepDrive (step-ranged p j dt t e) (λ k. getD (p .«c_s») k nan) (w .held) i l))
-      (λ i l m. rw (Profile.step-unused stepDrive (p .«c_s») i nan l) (unused-passed p h i l m))
+      (λ i l. rw (Profile.step-place stepParams (p .«c_s») i l (w .long)) (node-in stepParams (step-ranged p j dt t e) (λ k. getD (p .«c_s») k nan) (w .nodes) i l))
+      (λ i l m. rw (Profile.step-unused stepParams (p .«c_s») i nan l) (unused-passed p h i l m))
 
   -- what it answers: a number and the particle as it was, or 0 and the new profile
   pub data Leads : ParticleAnswer → Type 0 where
@@ -84,8 +84,8 @@ module _ (p : ParticleDiffusion) (j dt t : Float) where
   unfolding stepped accepted
   leads = go (stepRefusal p j dt t) refl
     where
-      go : (k : ℕ) → stepRefusal p j dt t ≡ k → Leads (cond (eqb k 0) (accepted p (subStep stepDrive (p .«c_s»))) (particleAnswer k p))
-      go zero e = rw (is-true (finiteProfile (subStep stepDrive (p .«c_s»))) (places-finite next (next-passes e))) (Leads.moved e)
+      go : (k : ℕ) → stepRefusal p j dt t ≡ k → Leads (cond (eqb k 0) (accepted p (subStep stepParams (p .«c_s»))) (particleAnswer k p))
+      go zero e = rw (is-true (finiteProfile (subStep stepParams (p .«c_s»))) (places-finite next (next-passes e))) (Leads.moved e)
       go (suc k) e = rw (eqb·suc-zero k) (Leads.refused k e)
 
   -- A STEP THAT IS ACCEPTED leads to a particle that passes the checks
@@ -148,7 +148,7 @@ module _ (p : ParticleDiffusion) (j dt t : Float) where
     where
       go : (a : ParticleAnswer) → Leads a → placeOf (a .particle) i ≡ placeOf p i
       go a (Leads.refused k e) = refl
-      go a (Leads.moved e) = Profile.step-unused stepDrive (p .«c_s») i nan l
+      go a (Leads.moved e) = Profile.step-unused stepParams (p .«c_s») i nan l
 
   -- +0 by their bits
   pub step-unused-zero : stepped p j dt t .refusal ≡ 0 → (i : ℕ) → p .«n_nodes» ≤ i → i < 64 → T (plusZero (placeOf (stepped p j dt t .particle) i))
@@ -183,17 +183,17 @@ start-in s h f =
     let b = ≤F-trans (le-val x one p one-fine (r .initial-high)) (≤F-of-≈F one-val) in
     let m = le-of-lt (size-pos (within-scaled (r .most) 0 17 tt tt .size)) in
     and-i (le (f64 0) (x ⊗ M)) (le (x ⊗ M) M)
-    (rounds-le (held (f64 0) zero-fine zero-fits) (mul-rounds x M p q) (≤F-trans (≤F-of-≈F zero-val) (le-by (val x ∷ val M ∷ []) 0 (a ⊠ m) (search quote depth 24) tt)))
-    (rounds-le (mul-rounds x M p q) (held M q f) (le-by (val x ∷ val M ∷ []) 0 (up b ⊠ m) (search quote depth 24) tt))
+    (rounds-le (representable (f64 0) zero-fine zero-fits) (mul-rounds x M p q) (≤F-trans (≤F-of-≈F zero-val) (le-by (val x ∷ val M ∷ []) 0 (a ⊠ m) (search quote depth 24) tt)))
+    (rounds-le (mul-rounds x M p q) (representable M q f) (le-by (val x ∷ val M ∷ []) 0 (up b ⊠ m) (search quote depth 24) tt))
 
 fresh-passes : (s : ElectrodeParams) (n : ℕ) → T (fits binary64 (s .«c_s_max»)) → newRefusal s n ≡ 0 → particleRefusal (fresh s n) ≡ 0
 unfolding newRefusal fresh filled
 fresh-passes s n f e =
-    let g = none-met _ _ e in
+    let g = neither-refused _ _ e in
     let h = passed (sheetFits s) sheet (zero-lt-suc 1) (g .1) in
     let zeros : List Float = replicate 64 (f64 0) in
     particle-passes (fresh s n) (passed (nodesFit n) grid (zero-lt-suc 0) (g .0)) h
-    (λ i l. rw (first-below (λ k. s .«theta_init» ⊗ s .«c_s_max») zeros n i nan l (nodes-met n (g .0) .1)) (start-in s h f))
+    (λ i l. rw (first-below (λ k. s .«theta_init» ⊗ s .«c_s_max») zeros n i nan l (nodes-valid n (g .0) .1)) (start-in s h f))
     (λ i l m. rw (first-above (λ k. s .«theta_init» ⊗ s .«c_s_max») zeros n i nan l, getD-replicate 64 i (f64 0) nan m) zero-bits)
 
 -- A BUILD THAT IS ACCEPTED passes the checks

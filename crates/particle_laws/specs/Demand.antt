@@ -12,20 +12,20 @@ use lib.ListN.{length, getD}
 use Rattle.fraction.specs.Fraction.{Fraction, nat, pow2, _-F_, _*F_, _/F_, _within_}
 use Rattle.binary64.specs.Value.{val}
 use Rattle.electrode.specs.Sheet.{diffusivityAt}
-use Rattle.diffusion.specs.SubStep.{Drive, subStep}
+use Rattle.diffusion.specs.SubStep.{SubStepParams, subStep}
 use Rattle.diffusion.specs.Exact.{Numbers, exactStep}
-use Rattle.diffusion.specs.Premises.{Kept, Sound}
+use Rattle.diffusion.specs.Premises.{StepConditions, ParametersInRange}
 use Rattle.diffusion.specs.Profile.{values-at}
-use Rattle.diffusion.specs.Run.{drive, run, exactRun, Each}
+use Rattle.diffusion.specs.Run.{subStepParams, run, exactRun, Each}
 use Rattle.diffusion.specs.Calls.{Stepper, after, accepted, total, exactAfter, Lawful}
 use Rattle.diffusion.specs.CallLaws.{calls-near, each-with}
 use Rattle.particle.specs.declared.ParticleDiffusion.{ParticleDiffusion}
 use Rattle.particle.specs.declared.ParticleAnswer.{ParticleAnswer}
 use Rattle.particle.specs.Checks.{particleRefusal}
-use Rattle.particle.specs.Particle.{spacing, placeOf, driveWith}
+use Rattle.particle.specs.Particle.{spacing, placeOf, subStepParamsOf}
 use Rattle.particle.specs.Calls.{stepped}
-use Rattle.particle_laws.specs.Ranges.{step-ranged, ranged-sound}
-use Rattle.particle_laws.specs.Checked.{particle-whole}
+use Rattle.particle_laws.specs.Ranges.{step-ranged, ranged-parameters}
+use Rattle.particle_laws.specs.Checked.{particle-in-range}
 use Rattle.particle_laws.specs.Closure.{Leads, leads, step-stays, step-refused, step-number, step-params, step-nodes}
 
 -- ---- what is folded
@@ -82,12 +82,12 @@ record Inv (p s : ParticleDiffusion) : Type 0 where
   sheet : s .params ≡ p .params
   nodes : s .«n_nodes» ≡ p .«n_nodes»
 
-abbrev driveOf : ParticleDiffusion → Call → Drive
-driveOf s q = driveWith s (diffusivityAt (s .params) (q .temp)) (q .flux) (q .dt)
+abbrev callParams : ParticleDiffusion → Call → SubStepParams
+callParams s q = subStepParamsOf s (diffusivityAt (s .params) (q .temp)) (q .flux) (q .dt)
 
-same-drive : (p s : ParticleDiffusion) (q : Call) → Inv p s → driveOf s q ≡ driveOf p q
+same-params : (p s : ParticleDiffusion) (q : Call) → Inv p s → callParams s q ≡ callParams p q
 unfolding spacing
-same-drive p s q i = rw (i .sheet, i .nodes)
+same-params p s q i = rw (i .sheet, i .nodes)
 
 module _ (p : ParticleDiffusion) where
   stays : (s : ParticleDiffusion) (q : Call) → Inv p s → Inv p (answer s q .particle)
@@ -106,17 +106,17 @@ module _ (p : ParticleDiffusion) where
   unfolding run
   law s q i = go (answer s q) (leads s (q .flux) (q .dt) (q .temp))
     where
-      go : (a : ParticleAnswer) → Leads s (q .flux) (q .dt) (q .temp) a → a .particle .«c_s» ≡ cond (eqb (a .refusal) 0) (subStep (driveOf p q) (s .«c_s»)) (s .«c_s»)
+      go : (a : ParticleAnswer) → Leads s (q .flux) (q .dt) (q .temp) a → a .particle .«c_s» ≡ cond (eqb (a .refusal) 0) (subStep (callParams p q) (s .«c_s»)) (s .«c_s»)
       go a (Leads.refused k e) = rw (eqb·suc-zero k)
-      go a (Leads.moved e) = ap (λ (v : Drive). subStep v (s .«c_s»)) (same-drive p s q i)
+      go a (Leads.moved e) = ap (λ (v : SubStepParams). subStep v (s .«c_s»)) (same-params p s q i)
 
-  sound : (s : ParticleDiffusion) (q : Call) → Inv p s → T (eqb (answer s q .refusal) 0) → Each (λ m. Sound (drive (steps p .grid) m)) (steps p .moves q)
-  sound s q i t =
+  ranges : (s : ParticleDiffusion) (q : Call) → Inv p s → T (eqb (answer s q .refusal) 0) → Each (λ m. ParametersInRange (subStepParams (steps p .grid) m)) (steps p .moves q)
+  ranges s q i t =
       let e = sym (step-number s (q .flux) (q .dt) (q .temp)) ∙ eqb→eq (answer s q .refusal) 0 t in
-      Each.more (subst Sound (same-drive p s q i) (ranged-sound (step-ranged s (q .flux) (q .dt) (q .temp) e))) Each.none
+      Each.more (subst ParametersInRange (same-params p s q i) (ranged-parameters (step-ranged s (q .flux) (q .dt) (q .temp) e))) Each.none
 
   lawful : Lawful (steps p) (Inv p)
-  lawful = record { stays = stays; law = law; sound = sound }
+  lawful = record { stays = stays; law = law; ranges = ranges }
 
   -- each accepted call is one sub-step
   counted : (qs : List Call) (s : ParticleDiffusion) → total (steps p) s qs ≡ length (accepted (steps p) s qs)
@@ -135,12 +135,12 @@ itself p h = record { passes = h; sheet = refl; nodes = refl }
 pub after-passes : (p : ParticleDiffusion) (qs : List Call) → particleRefusal p ≡ 0 → particleRefusal (after (steps p) p qs) ≡ 0
 after-passes p qs h = stays-all p qs p (itself p h) .passes
 
--- THEOREM 1. The particle passes the checks; every accepted call keeps 6·D·t ≤ h² and 2·h·∣flux∣ ≤ D·M (`Kept`). Then every node is within K·M / 2 ^ 49 of the exact one.
-pub particle-near : (p : ParticleDiffusion) (qs : List Call) → particleRefusal p ≡ 0 → Each (λ q. Kept (numbersOf p q)) (taken p qs)
+-- THEOREM 1. The particle passes the checks; every accepted call keeps 6·D·t ≤ h² and 2·h·∣flux∣ ≤ D·M (`StepConditions`). Then every node is within K·M / 2 ^ 49 of the exact one.
+pub particle-near : (p : ParticleDiffusion) (qs : List Call) → particleRefusal p ≡ 0 → Each (λ q. StepConditions (numbersOf p q)) (taken p qs)
     → (i : ℕ) → i < p .«n_nodes» → place p qs i -F exactPlace p qs i within nat (K p qs) *F val (p .params .«c_s_max») /F pow2 49
 particle-near p qs h ks i l =
     let keeps = each-with (λ q k k'. Each.more k Each.none) ks ks in
-    rw (counted p qs p) at (calls-near (steps p) (lawful p) p qs (itself p h) (particle-whole p h) keeps i l)
+    rw (counted p qs p) at (calls-near (steps p) (lawful p) p qs (itself p h) (particle-in-range p h) keeps i l)
 
 -- ---- how the fold goes on at a call, from a particle s in the middle of the list
 module _ (p s : ParticleDiffusion) (q : Call) (qs : List Call) (x : List Fraction) where

@@ -21,7 +21,7 @@ use Rattle.binary64.specs.Rounds.{add-rounds}
 use Rattle.binary64.specs.Bounds.{Bounded, bounded-pow, bounded-most, most-bounded}
 use Rattle.binary64.specs.Value.{ratio-le}
 use Rattle.elementary.specs.Exp.{one}
-use Rattle.refusal.specs.Numbers.{firstMet, refusalUnless, temperature, none-met, passed}
+use Rattle.refusal.specs.Numbers.{firstRefusal, refusalUnless, temperature, neither-refused, passed}
 use Rattle.refusal.specs.Ranges.{temperatureFits}
 use Rattle.refusal.specs.Answers.{outcome, finiteOutcome}
 use Rattle.electrode.specs.Sheet.{diffusivityAt}
@@ -35,7 +35,7 @@ use Rattle.particle_laws.specs.Checked.{place-sized}
 
 -- where a value that is not refused is finite, 8 is not met
 pub finite-outcome : (n : ℕ) (x : Float) → (n ≡ 0 → T (finite x)) → finiteOutcome n x ≡ outcome n x
-unfolding firstMet refusalUnless
+unfolding firstRefusal refusalUnless
 finite-outcome zero x h = rw (is-true (finite x) (h refl))
 finite-outcome (suc n) x h = rw (eqb·suc-zero n)
 
@@ -111,11 +111,11 @@ module _ (p : ParticleDiffusion) (h : particleRefusal p ≡ 0) where
       div-most (mul-most (mul-most (half .0) d 1 (2 ^ 11) tt tt) d 1 (2 ^ 21) tt tt) (diffusivity-range (p .params) t (sheet-passed p h) k) (2 ^ 76) 1 tt tt tt .fine
 
 -- ---- what the calls answer: the table's number, or the value
-pub dt-stable-is : (p : ParticleDiffusion) (t : Float) → dtStable p t ≡ outcome (firstMet (particleRefusal p) (refusalUnless (temperatureFits t) temperature)) (stableStep p (diffusivityAt (p .params) t))
+pub dt-stable-is : (p : ParticleDiffusion) (t : Float) → dtStable p t ≡ outcome (firstRefusal (particleRefusal p) (refusalUnless (temperatureFits t) temperature)) (stableStep p (diffusivityAt (p .params) t))
 unfolding dtStable
 dt-stable-is p t =
-    finite-outcome (firstMet (particleRefusal p) (refusalUnless (temperatureFits t) temperature)) (stableStep p (diffusivityAt (p .params) t))
-    (λ e. let a = none-met _ _ e in stable-step-fine p (a .0) t (passed (temperatureFits t) temperature (zero-lt-suc 4) (a .1)))
+    finite-outcome (firstRefusal (particleRefusal p) (refusalUnless (temperatureFits t) temperature)) (stableStep p (diffusivityAt (p .params) t))
+    (λ e. let a = neither-refused _ _ e in stable-step-fine p (a .0) t (passed (temperatureFits t) temperature (zero-lt-suc 4) (a .1)))
 
 pub theta-surface-is : (p : ParticleDiffusion) → thetaSurface p ≡ outcome (particleRefusal p) (surfaceTheta p)
 unfolding thetaSurface

@@ -10,11 +10,11 @@ use Rattle.binary64.specs.Operators.{_⊖_, _⊗_, _⊘_, f64}
 use Rattle.binary64.specs.Value.{val}
 use Rattle.elementary.specs.Exp.{one, expOf}
 use Rattle.elementary.proofs.ExpLaws.{exp-0}
-use Rattle.refusal.specs.Numbers.{firstMet, refusalUnless}
+use Rattle.refusal.specs.Numbers.{firstRefusal, refusalUnless}
 use Rattle.electrode.specs.Sheet.{graphiteAnode, diffusivityAt}
-use Rattle.turns.specs.Turns.{firstBy}
+use Rattle.iterate.specs.Iterate.{firstBy}
 use Rattle.diffusion.specs.SubStep.{rate, node, subStep}
-use Rattle.diffusion.specs.Premises.{Kept}
+use Rattle.diffusion.specs.Premises.{StepConditions}
 use Rattle.diffusion.specs.Run.{Each}
 use Rattle.profile.specs.Places.{filled}
 use Rattle.particle.specs.declared.ParticleDiffusion.{ParticleDiffusion}
@@ -30,7 +30,7 @@ abbrev pub start : ParticleDiffusion
 start = made graphiteAnode 11 .particle
 
 pub start-passes : particleRefusal start ≡ 0
-unfolding made newRefusal firstMet refusalUnless graphiteAnode le fits ofBits
+unfolding made newRefusal firstRefusal refusalUnless graphiteAnode le fits ofBits
 start-passes = build-passes graphiteAnode 11 tt refl
 
 -- 298.15 K
@@ -54,7 +54,7 @@ discharge = draw ∷ no-flux ∷ draw ∷ no-time ∷ draw ∷ []
 -- ---- the binary64 numbers
 -- 1.25e-6
 spacing-is : spacing start ≡ f64 0x3eb4_f8b5_88e3_68f1
-unfolding spacing made newRefusal fresh firstMet refusalUnless graphiteAnode le div ofInt ofBits
+unfolding spacing made newRefusal fresh firstRefusal refusalUnless graphiteAnode le div ofInt ofBits
 spacing-is = refl
 
 -- at the reference temperature the exponent is 0, and E(0) = 1
@@ -72,30 +72,30 @@ unfolding diffusivityAt graphiteAnode
 diffusivity-is = ap (λ (x : Float). f64 0x3d25_f47e_09a9_f0ea ⊗ expOf x) exponent-is ∙ ap (λ (x : Float). f64 0x3d25_f47e_09a9_f0ea ⊗ x) exp-0 ∙ times-one
 
 pub sheet-is : start .params ≡ graphiteAnode
-unfolding made newRefusal fresh firstMet refusalUnless graphiteAnode le ofBits
+unfolding made newRefusal fresh firstRefusal refusalUnless graphiteAnode le ofBits
 sheet-is = refl
 
 pub nodes-are : start .«n_nodes» ≡ 11
-unfolding made newRefusal fresh firstMet refusalUnless graphiteAnode le ofBits
+unfolding made newRefusal fresh firstRefusal refusalUnless graphiteAnode le ofBits
 nodes-are = refl
 
 -- ---- the premises
-closed-kept : Kept (record { n = 11; h = val (f64 0x3eb4_f8b5_88e3_68f1); D = val (f64 0x3d25_f47e_09a9_f0ea); M = val (graphiteAnode .«c_s_max»); flux = val (draw .flux); t = val (draw .dt) })
+closed-conditions : StepConditions (record { n = 11; h = val (f64 0x3eb4_f8b5_88e3_68f1); D = val (f64 0x3d25_f47e_09a9_f0ea); M = val (graphiteAnode .«c_s_max»); flux = val (draw .flux); t = val (draw .dt) })
 unfolding graphiteAnode val neg negF ofBits whole _*F_ ∣_∣
-closed-kept = record { stable = lit≤F tt; gentle = lit≤F tt }
+closed-conditions = record { stable = lit≤F tt; fluxBound = lit≤F tt }
 
 chosen : fitting discharge ≡ draw ∷ draw ∷ draw ∷ []
-unfolding fitting callRefusal firstMet refusalUnless le lt neg ofBits
+unfolding fitting callRefusal firstRefusal refusalUnless le lt neg ofBits
 chosen = refl
 
-draw-kept : Kept (numbersOf start draw)
-draw-kept = rw (sheet-is, diffusivity-is, spacing-is, nodes-are) closed-kept
+draw-conditions : StepConditions (numbersOf start draw)
+draw-conditions = rw (sheet-is, diffusivity-is, spacing-is, nodes-are) closed-conditions
 
 pub discharge-taken : taken start discharge ≡ draw ∷ draw ∷ draw ∷ []
 discharge-taken = taken-are start discharge start-passes ∙ chosen
 
-pub discharge-keeps : Each (λ q. Kept (numbersOf start q)) (taken start discharge)
-discharge-keeps = rw discharge-taken (Each.more draw-kept (Each.more draw-kept (Each.more draw-kept Each.none)))
+pub discharge-conditions-hold : Each (λ q. StepConditions (numbersOf start q)) (taken start discharge)
+discharge-conditions-hold = rw discharge-taken (Each.more draw-conditions (Each.more draw-conditions (Each.more draw-conditions Each.none)))
 
 -- five calls, two of them refused: K = 3
 pub discharge-counted : K start discharge ≡ 3
@@ -103,18 +103,18 @@ discharge-counted = ap length discharge-taken
 
 -- ---- theorem 1 for them
 pub graphite-near : (i : ℕ) → i < 11 → place start discharge i -F exactPlace start discharge i within nat 3 *F val (graphiteAnode .«c_s_max») /F pow2 49
-graphite-near i l = rw (← discharge-counted, ← sheet-is) (particle-near start discharge start-passes discharge-keeps i (rw nodes-are l))
+graphite-near i l = rw (← discharge-counted, ← sheet-is) (particle-near start discharge start-passes discharge-conditions-hold i (rw nodes-are l))
 
 -- ---- the first call moves the surface from 25466.4 to 25290.4 mol/m^3
 draw-fits : callRefusal draw ≡ 0
-unfolding callRefusal firstMet refusalUnless le lt neg ofBits
+unfolding callRefusal firstRefusal refusalUnless le lt neg ofBits
 draw-fits = refl
 
 draw-passes : stepRefusal start (draw .flux) (draw .dt) (draw .temp) ≡ 0
 draw-passes = sym (step-number start (draw .flux) (draw .dt) (draw .temp)) ∙ answer-number start draw start-passes ∙ draw-fits
 
 closed-surface : getD (subStep (record { n = 11; dr = f64 0x3eb4_f8b5_88e3_68f1; d_s = f64 0x3d25_f47e_09a9_f0ea; c_max = graphiteAnode .«c_s_max»; j_n = draw .flux; dt = draw .dt }) (start .«c_s»)) 10 nan ≡ f64 0x40d8_b299_9999_999a
-unfolding made newRefusal fresh firstMet refusalUnless graphiteAnode filled firstBy subStep node rate le lt neg add sub mul div ofInt ofBits
+unfolding made newRefusal fresh firstRefusal refusalUnless graphiteAnode filled firstBy subStep node rate le lt neg add sub mul div ofInt ofBits
 closed-surface = refl
 
 surface-drawn : placeOf (answer start draw .particle) 10 ≡ f64 0x40d8_b299_9999_999a

@@ -16,10 +16,10 @@
 --   Potential   nor from ocp_surface, `ocp-surface-is`: each open-circuit curve is finite wherever the stoichiometry is a number (`open-circuit-sized`)
 --   Nodes       `node-in`: every node of a sub-step in its ranges is from 0 to c_s_max, whether the two conditions hold or not
 --   Ranges      for a particle that passes the checks, from 200 to 400 K: the spacing from 2 ^ -33 to 2 ^ -10, D from 2 ^ -97 to 2 ^ 4, c_s_max from 1 to 2 ^ 17, and each other
---               number of its sheet;  `Ranged`: what a sub-step works with, in such ranges;  `particle-ranged`, `step-ranged`, `ranged-sound` lead there and to diffusion's `Sound`
---   Checked     the checks place by place: a used place from 0 to c_s_max, an unused one +0, all 64 there (`particle-whole`); and that they are all that is asked (`particle-passes`)
+--               number of its sheet;  `Ranged`: what a sub-step works with, in such ranges;  `particle-ranged`, `step-ranged`, `ranged-parameters` lead there and to diffusion's `ParametersInRange`
+--   Checked     the checks place by place: a used place from 0 to c_s_max, an unused one +0, all 64 there (`particle-in-range`); and that they are all that is asked (`particle-passes`)
 --
--- HOW A SOLVER USES IT: for each electrode `particle-ranged` with its own diffusivity, flux and sub-interval gives `Ranged`, then `ranged-sound` and `node-in`; `particle-whole` is the
+-- HOW A SOLVER USES IT: for each electrode `particle-ranged` with its own diffusivity, flux and sub-interval gives `Ranged`, then `ranged-parameters` and `node-in`; `particle-in-range` is the
 -- start that `calls-near` of diffusion asks for; `particle-passes` closes the circle.
 pub mod Ranges
 pub mod Checked

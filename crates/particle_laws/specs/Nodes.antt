@@ -17,12 +17,12 @@ use Rattle.binary64.specs.RangeTests.{literal, count-within}
 use Rattle.binary64.specs.RangeOps.{mul-between, mul-most, div-most, add-most, sub-most}
 use Rattle.binary64.specs.Bounds.{within-scaled}
 use Rattle.binary64.specs.Value.{val, val-le}
-use Rattle.choice.proofs.ChoiceLaws.{clamp-in}
+use Rattle.min_max.proofs.ChoiceLaws.{clamp-in}
 use Rattle.refusal.specs.Ranges.{inRange}
-use Rattle.diffusion.specs.SubStep.{Drive, two, six, centreRate, shellRate, ghostNode, rate, node}
-use Rattle.diffusion.specs.Premises.{Held, zero-fine, zero-val}
+use Rattle.diffusion.specs.SubStep.{SubStepParams, two, six, centreRate, shellRate, ghostNode, rate, node}
+use Rattle.diffusion.specs.Premises.{NodeInRange, zero-fine, zero-val}
 use Rattle.particle_laws.specs.Ranges.{Ranged}
-use Rattle.particle_laws.specs.Checked.{held-sized}
+use Rattle.particle_laws.specs.Checked.{node-sized}
 
 at-2 : Within two 2 1 2 1
 unfolding ofBits
@@ -38,10 +38,10 @@ number nan h = absurd h
 number (inf s) h = absurd h
 number (fin s m e) h = refl
 
-module _ (v : Drive) (r : Ranged v) (c : ℕ → Float) (held : (i : ℕ) → i < v .n → Held (val (v .c_max)) (c i)) where
+module _ (v : SubStepParams) (r : Ranged v) (c : ℕ → Float) (nodes : (i : ℕ) → i < v .n → NodeInRange (val (v .c_max)) (c i)) where
   -- each old node is at most 2 ^ 17
   place-sized : (i : ℕ) → i < v .n → Sized (c i) (2 ^ 17) 1
-  place-sized i l = held-sized (held i l) (r .c_max)
+  place-sized i l = node-sized (nodes i l) (r .c_max)
 
   squared : Within (v .dr ⊗ v .dr) 1 (2 ^ 20) 1 (2 ^ 66)
   squared = mul-between (r .dr) (r .dr) 1 (2 ^ 20) 1 (2 ^ 66) tt tt tt tt

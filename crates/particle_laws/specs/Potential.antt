@@ -11,9 +11,9 @@ use Rattle.binary64.specs.Range.{Within, Sized, sized, most-wider}
 use Rattle.binary64.specs.RangeTests.{literal, tested-within}
 use Rattle.binary64.specs.RangeOps.{mul-most, div-most, add-most, add-alike, sub-most, sub-alike}
 use Rattle.elementary.specs.Exp.{one, expOf}
-use Rattle.choice.specs.Choice.{clampOf}
+use Rattle.min_max.specs.MinMax.{clampOf}
 use Rattle.elementary.proofs.Constants.{at-1}
-use Rattle.choice.proofs.ChoiceLaws.{clamp-in}
+use Rattle.min_max.proofs.ChoiceLaws.{clamp-in}
 use Rattle.elementary.proofs.ExpRange.{exp-20, exp-96}
 use Rattle.elementary.proofs.PowRange.{powf-within}
 use Rattle.refusal.specs.Answers.{outcome}

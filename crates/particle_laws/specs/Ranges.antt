@@ -20,18 +20,18 @@ use Rattle.binary64.specs.Bounds.{within-scaled}
 use Rattle.binary64.specs.Value.{val, lt-val}
 use Rattle.elementary.specs.Exp.{one}
 use Rattle.elementary.proofs.ArrheniusRange.{arrhenius-298}
-use Rattle.choice.proofs.ChoiceLaws.{lt-le}
-use Rattle.refusal.specs.Numbers.{grid, load, interval, temperature, none-met, passed}
+use Rattle.min_max.proofs.ChoiceLaws.{lt-le}
+use Rattle.refusal.specs.Numbers.{grid, load, interval, temperature, neither-refused, passed}
 use Rattle.refusal.specs.Ranges.{loadFits, intervalFits, temperatureFits}
 use Rattle.electrode.specs.Sheet.{sheetFits, diffusivityAt}
 use Rattle.electrode.specs.declared.ElectrodeParams.{ElectrodeParams}
-use Rattle.diffusion.specs.Premises.{Sound, zero-val}
-use Rattle.diffusion.specs.SubStep.{Drive}
+use Rattle.diffusion.specs.Premises.{ParametersInRange, zero-val}
+use Rattle.diffusion.specs.SubStep.{SubStepParams}
 use Rattle.diffusion.specs.Run.{Each}
 use Rattle.profile.specs.Places.{profileFits}
 use Rattle.particle.specs.declared.ParticleDiffusion.{ParticleDiffusion}
 use Rattle.particle.specs.Checks.{nodesFit, particleRefusal, nodes-of, fields-of}
-use Rattle.particle.specs.Particle.{spacing, driveWith}
+use Rattle.particle.specs.Particle.{spacing, subStepParamsOf}
 use Rattle.particle.specs.Calls.{stepRefusal}
 
 -- ---- the sheet
@@ -141,7 +141,7 @@ diffusivity-range s t h k = let r = sheet-ranges s h in mul-between (r .referenc
 
 -- ---- a sub-step
 -- what a sub-step works with, in ranges where each of its operations stays finite (`node-in` of Nodes); the flux may be far beyond the table's 1e13
-pub record Ranged (v : Drive) : Type 0 where
+pub record Ranged (v : SubStepParams) : Type 0 where
   pub n-low : 3 ≤ v .n
   pub n-high : v .n ≤ 64
   pub dr : Within (v .dr) 1 (2 ^ 10) 1 (2 ^ 33)
@@ -151,8 +151,8 @@ pub record Ranged (v : Drive) : Type 0 where
   pub dt : Sized (v .dt) (2 ^ 17) 1
   pub dt-low : nat 0 ≤F val (v .dt)
 
-pub ranged-sound : {v : Drive} → Ranged v → Sound v
-ranged-sound r = record {
+pub ranged-parameters : {v : SubStepParams} → Ranged v → ParametersInRange v
+ranged-parameters r = record {
   n-low = r .n-low;
   n-high = r .n-high;
   dr = within-scaled (r .dr) 100 100 tt tt .size;
@@ -167,7 +167,7 @@ ranged-sound r = record {
 module _ (p : ParticleDiffusion) (h : particleRefusal p ≡ 0) where
   pub nodes-passed : T (nodesFit (p .«n_nodes»))
   unfolding particleRefusal
-  nodes-passed = passed (nodesFit (p .«n_nodes»)) grid (zero-lt-suc 0) (none-met _ _ h .0)
+  nodes-passed = passed (nodesFit (p .«n_nodes»)) grid (zero-lt-suc 0) (neither-refused _ _ h .0)
 
   pub sheet-passed : T (sheetFits (p .params))
   sheet-passed = and-l (sheetFits (p .params)) (profileFits (p .«c_s») (p .«n_nodes») (p .params .«c_s_max»)) (fields-of p h)
@@ -185,7 +185,7 @@ module _ (p : ParticleDiffusion) (h : particleRefusal p ≡ 0) where
       div-between (sheet-ranges (p .params) sheet-passed .radius) (count-within (p .«n_nodes» - 1) 63 2 m l (le-trans m (lit≤ tt))) 1 (2 ^ 10) 1 (2 ^ 33) tt tt tt tt tt
 
   -- a sub-step of the particle is in its ranges where its diffusivity, flux and length are
-  pub particle-ranged : {d j dt : Float} → Within d (2 ^ 4) 1 1 (2 ^ 97) → Sized j (2 ^ 100) 1 → Sized dt (2 ^ 17) 1 → nat 0 ≤F val dt → Ranged (driveWith p d j dt)
+  pub particle-ranged : {d j dt : Float} → Within d (2 ^ 4) 1 1 (2 ^ 97) → Sized j (2 ^ 100) 1 → Sized dt (2 ^ 17) 1 → nat 0 ≤F val dt → Ranged (subStepParamsOf p d j dt)
   particle-ranged d j t l = record { n-low = nodes-of p h .0; n-high = nodes-of p h .1; dr = spacing-range; d_s = d; c_max = sheet-ranges (p .params) sheet-passed .most; j_n = j; dt = t; dt-low = l }
 
 -- ---- the calls' own numbers
@@ -204,12 +204,12 @@ interval-range dt t =
     (most-wider s (2 ^ 17) 1 tt tt, ≤F-trans (≤F-of-≈F (≈F-sym zero-val)) (le-of-lt (lt-val (f64 0) dt tt (s .fine) a)))
 
 -- so is a step that nothing refuses before it is made
-pub step-ranged : (p : ParticleDiffusion) (j dt t : Float) → stepRefusal p j dt t ≡ 0 → Ranged (driveWith p (diffusivityAt (p .params) t) j dt)
+pub step-ranged : (p : ParticleDiffusion) (j dt t : Float) → stepRefusal p j dt t ≡ 0 → Ranged (subStepParamsOf p (diffusivityAt (p .params) t) j dt)
 unfolding stepRefusal
 step-ranged p j dt t h =
-    let a = none-met _ _ h in
-    let b = none-met _ _ (a .1) in
-    let c = none-met _ _ (b .1) in
+    let a = neither-refused _ _ h in
+    let b = neither-refused _ _ (a .1) in
+    let c = neither-refused _ _ (b .1) in
     let i = interval-range dt (passed (intervalFits dt) interval (zero-lt-suc 3) (c .0)) in
     particle-ranged p (a .0) (diffusivity-range (p .params) t (sheet-passed p (a .0)) (passed (temperatureFits t) temperature (zero-lt-suc 4) (c .1)))
     (load-range j (passed (loadFits j (f64 0x42a2_309c_e540_0000)) load (zero-lt-suc 2) (b .0))) (i .0) (i .1)

@@ -7,7 +7,7 @@ use lib.ListN.{getD, replicate}
 use lib.Ieee.{Float, nan}
 use Rattle.binary64.specs.Operators.{f64}
 use Rattle.refusal.specs.Ranges.{inRange, finite, plusZero}
-use Rattle.turns.specs.Turns.{firstBy, allBelow}
+use Rattle.iterate.specs.Iterate.{firstBy, allBelow}
 
 -- a used place is in 0 to the sheet's largest concentration, an unused one is +0 by its bits
 unfoldable pub placeFits : Float → Bool → Float → Bool

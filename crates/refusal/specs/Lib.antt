@@ -5,9 +5,9 @@
 -- Answers: what the enum that a call answers with says, and what a call with a number and a value says.
 --
 -- A call's refusal is written as the table has it, its rows in the order 1, 10, 2 to 9:
---     firstMet (refusalUnless (countInRange n 3 64) grid)
---     (firstMet (refusalUnless (sheetFits p) sheet) (refusalUnless (temperatureFits t) temperature))
--- and a caller that finds it 0 takes it apart by `none-met` and `passed`.
+--     firstRefusal (refusalUnless (countInRange n 3 64) grid)
+--     (firstRefusal (refusalUnless (sheetFits p) sheet) (refusalUnless (temperatureFits t) temperature))
+-- and a caller that finds it 0 takes it apart by `neither-refused` and `passed`.
 pub mod Numbers
 pub mod Ranges
 pub mod Answers

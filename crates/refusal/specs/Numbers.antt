@@ -41,18 +41,18 @@ unfoldable pub refusalUnless : Bool → ℕ → ℕ
 refusalUnless ok number = cond ok 0 number
 
 -- "first met wins": a, and where a is none, b
-unfoldable pub firstMet : ℕ → ℕ → ℕ
-firstMet a b = cond (eqb a 0) b a
+unfoldable pub firstRefusal : ℕ → ℕ → ℕ
+firstRefusal a b = cond (eqb a 0) b a
 
 -- ---- what a call that nothing refuses has met
-none-first : (a b : ℕ) → firstMet a b ≡ 0 → a ≡ 0
-unfolding firstMet
+none-first : (a b : ℕ) → firstRefusal a b ≡ 0 → a ≡ 0
+unfolding firstRefusal
 none-first zero b h = refl
 none-first (suc a) b h = rw eqb·suc-zero at h
 
-pub none-met : (a b : ℕ) → firstMet a b ≡ 0 → (a ≡ 0) × (b ≡ 0)
-unfolding firstMet
-none-met a b h = (none-first a b h, rw (none-first a b h) at h)
+pub neither-refused : (a b : ℕ) → firstRefusal a b ≡ 0 → (a ≡ 0) × (b ≡ 0)
+unfolding firstRefusal
+neither-refused a b h = (none-first a b h, rw (none-first a b h) at h)
 
 pub passed : (ok : Bool) (number : ℕ) → 0 < number → refusalUnless ok number ≡ 0 → T ok
 unfolding refusalUnless

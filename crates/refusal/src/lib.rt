@@ -2,8 +2,8 @@
 // none; so a call chains its tests in the table's order and branches once.
 
 ghost use mathlib.Core.Path.{_≡_};
-ghost use Rattle.refusal.specs.Numbers.{refusalUnless, firstMet};
-ghost use Rattle.refusal.specs.Answers.{said, finiteOutcome};
+ghost use Rattle.refusal.specs.Numbers.{refusalUnless, firstRefusal};
+ghost use Rattle.refusal.specs.Answers.{outcomeOf, finiteOutcome};
 ghost use Rattle.refusal.specs.Ranges.{inRange, countInRange, finite, plusZero, loadFits, intervalFits, temperatureFits, clockFits};
 
 // A node count or a matrix order outside its limits.
@@ -35,8 +35,8 @@ pub fn refusal_unless(ok: bool, number: u64) -> u64
 }
 
 // The first of two that is met: a, and where a is none, b.
-pub fn first_met(a: u64, b: u64) -> u64
-    ensures { λ r. ⌜ r ≡ firstMet a b ⌝ }
+pub fn first_refusal(a: u64, b: u64) -> u64
+    ensures { λ r. ⌜ r ≡ firstRefusal a b ⌝ }
 {
     if a == 0 { b } else { a }
 }
@@ -105,9 +105,9 @@ pub enum Answer {
 
 // The answer of a call whose tests met `refusal`, 0 for none, and whose value is x: 8 where that is not finite.
 pub fn answered(refusal: u64, x: f64) -> Answer
-    ensures { λ r. ⌜ said r ≡ finiteOutcome refusal x ⌝ }
+    ensures { λ r. ⌜ outcomeOf r ≡ finiteOutcome refusal x ⌝ }
 {
-    let number = first_met(refusal, refusal_unless(is_finite(x), NOT_FINITE));
+    let number = first_refusal(refusal, refusal_unless(is_finite(x), NOT_FINITE));
     if number == 0 {
         Answer::Value(x)
     } else {

@@ -23,11 +23,11 @@ pub record Ended : Type 0 where
   pub refusal : ℕ
 
 -- each case of the enum
-abbrev pub endingSaid : Ending → Ended
-endingSaid Voltage = record { ending = byVoltage; refusal = 0 }
-endingSaid Time = record { ending = byTime; refusal = 0 }
-endingSaid Full = record { ending = byFull; refusal = 0 }
-endingSaid (Refused k) = record { ending = byRefusal; refusal = k }
+abbrev pub endedBy : Ending → Ended
+endedBy Voltage = record { ending = byVoltage; refusal = 0 }
+endedBy Time = record { ending = byTime; refusal = 0 }
+endedBy Full = record { ending = byFull; refusal = 0 }
+endedBy (Refused k) = record { ending = byRefusal; refusal = k }
 
 -- what has ended a run so far, and what that makes it: a run that nothing ended is full
 unfoldable pub endingOf : ℕ → ℕ → Ended

@@ -8,7 +8,7 @@ use native.Mathlib.Numerals.{add-one}
 use lib.ListN.{length, getD}
 use lib.Ieee.{Float, nan}
 use borrow.Author.Tests.{eq-eqb, ne-eqb}
-use Rattle.places.specs.Places.{placesBy}
+use Rattle.array_update.specs.ArrayUpdate.{placesBy}
 use Rattle.runs.specs.Rows.{runAfter, rowsAfter}
 
 module _ {S : Type 0} (over : S → ℕ) (turned : S → S) (row : S → List Float) (s : S) where

@@ -2,9 +2,9 @@
 --
 -- Endings: document 01's endings, and what the enum says.
 -- Rows: what stands after k turns of a run, and what the slice then holds.
--- Told: when the answer of a run is written.
+-- RunAnswers: when the answer of a run is written.
 -- Laws: how a turn goes on or ends; a run's loop keeps `Going` and leaves by `ends-refused`, `ends-stopped` or `ends-full`.
 pub mod Endings
 pub mod Rows
-pub mod Told
+pub mod RunAnswers
 pub mod Laws

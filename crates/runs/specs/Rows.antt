@@ -6,7 +6,7 @@ use mathlib.Core.List.{List}
 use lib.Dec.{eqb}
 use lib.ListN.{getD}
 use lib.Ieee.{Float, nan}
-use Rattle.places.specs.Places.{placesBy}
+use Rattle.array_update.specs.ArrayUpdate.{placesBy}
 
 module _ {S : Type 0} (over : S → ℕ) (turned : S → S) (row : S → List Float) where
   -- after k turns: one that is over stays as it is

@@ -4,8 +4,8 @@ ghost use mathlib.Core.Path.{_≡_};
 ghost use Prim.Native.Nat.{_+_, _≤_};
 ghost use lib.ListN.{length, getD};
 ghost use lib.Ieee.{nan};
-ghost use Rattle.places.specs.Places.{placesBy};
-ghost use Rattle.runs.specs.Endings.{endingSaid, endingOf};
+ghost use Rattle.array_update.specs.ArrayUpdate.{placesBy};
+ghost use Rattle.runs.specs.Endings.{endedBy, endingOf};
 
 // How a run ends: by the voltage, by the time, with every whole row written, or by a refusal and its number.
 pub enum Ending {
@@ -26,7 +26,7 @@ pub const REFUSED: u64 = 4;
 
 // The ending of a run that has stopped.
 pub fn ending_of(over: u64, refusal: u64) -> Ending
-    ensures { λ r. ⌜ endingSaid r ≡ endingOf over refusal ⌝ }
+    ensures { λ r. ⌜ endedBy r ≡ endingOf over refusal ⌝ }
 {
     match over {
         0 => Ending::Full,
@@ -38,7 +38,7 @@ pub fn ending_of(over: u64, refusal: u64) -> Ending
 
 // The number of an ending: 1 voltage, 2 time, 3 full, 4 refused.
 pub fn ending_number(e: Ending) -> u64
-    ensures { λ r. ⌜ r ≡ endingSaid e .ending ⌝ }
+    ensures { λ r. ⌜ r ≡ endedBy e .ending ⌝ }
 {
     match e {
         Ending::Voltage => 1,
@@ -50,7 +50,7 @@ pub fn ending_number(e: Ending) -> u64
 
 // The number of the refusal that ended a run, 0 for none.
 pub fn ending_refusal(e: Ending) -> u64
-    ensures { λ r. ⌜ r ≡ endingSaid e .refusal ⌝ }
+    ensures { λ r. ⌜ r ≡ endedBy e .refusal ⌝ }
 {
     match e {
         Ending::Voltage => 0,

@@ -8,10 +8,10 @@ use lib.Dec.{T, eqb, leb, leb→le, eqb→eq}
 use lib.Ieee.{Float}
 use lib.Ieee.Fits.{and-l, and-r}
 use Rattle.binary64.specs.Operators.{_⊖_, _⊘_, f64}
-use Rattle.choice.specs.Choice.{clampOf}
-use Rattle.refusal.specs.Numbers.{firstMet, refusalUnless, grid, sheet, none-met, passed}
+use Rattle.min_max.specs.MinMax.{clampOf}
+use Rattle.refusal.specs.Numbers.{firstRefusal, refusalUnless, grid, sheet, neither-refused, passed}
 use Rattle.refusal.specs.Ranges.{clockFits}
-use Rattle.refusal.specs.Answers.{Said, finiteOutcome}
+use Rattle.refusal.specs.Answers.{Outcome, finiteOutcome}
 use Rattle.electrode.specs.declared.ElectrodeParams.{ElectrodeParams}
 use Rattle.electrode.specs.Sheet.{sheetFits, graphiteAnode}
 use Rattle.particle.specs.declared.ParticleDiffusion.{ParticleDiffusion}
@@ -21,7 +21,7 @@ use Rattle.particle.specs.Calls.{fresh, noParticle}
 use Rattle.kinetics.specs.declared.SpmConfig.{SpmConfig}
 use Rattle.kinetics.specs.Kinetics.{configFits}
 use Rattle.solver.specs.declared.SpmSolver.{SpmSolver}
-use Rattle.solver.specs.declared.SpmAnswer.{SpmAnswer}
+use Rattle.solver.specs.declared.SpmBuildAnswer.{SpmBuildAnswer}
 
 -- ---- checks
 -- the config's count of nodes is in range, and is that of both particles
@@ -35,15 +35,15 @@ cellFits s = configFits (s .config) && fieldsFit (s .anode) && fieldsFit (s .cat
 
 -- all of 1, then all of 2
 unfoldable pub cellRefusal : SpmSolver → ℕ
-cellRefusal s = firstMet (refusalUnless (gridFits s) grid) (refusalUnless (cellFits s) sheet)
+cellRefusal s = firstRefusal (refusalUnless (gridFits s) grid) (refusalUnless (cellFits s) sheet)
 
 -- ---- builds
-abbrev pub solverAnswer : ℕ → SpmSolver → SpmAnswer
+abbrev pub solverAnswer : ℕ → SpmSolver → SpmBuildAnswer
 solverAnswer k s = record { refusal = k; solver = s }
 
 unfoldable pub buildRefusal : SpmConfig → ElectrodeParams → ElectrodeParams → ℕ
 buildRefusal g a c =
-    firstMet (refusalUnless (nodesFit (g .«n_nodes»)) grid) (refusalUnless (configFits g && sheetFits a && sheetFits c) sheet)
+    firstRefusal (refusalUnless (nodesFit (g .«n_nodes»)) grid) (refusalUnless (configFits g && sheetFits a && sheetFits c) sheet)
 
 -- both particles fresh, the clock at +0
 unfoldable pub freshSolver : SpmConfig → ElectrodeParams → ElectrodeParams → SpmSolver
@@ -56,11 +56,11 @@ noConfig = record { «n_nodes» = 0; «v_min» = f64 0; «v_max» = f64 0; farad
 unfoldable pub noSolver : SpmSolver
 noSolver = record { config = noConfig; anode = noParticle; cathode = noParticle; «time_s» = f64 0 }
 
-unfoldable pub built : SpmConfig → ElectrodeParams → ElectrodeParams → SpmAnswer
+unfoldable pub built : SpmConfig → ElectrodeParams → ElectrodeParams → SpmBuildAnswer
 built g a c = cond (eqb (buildRefusal g a c) 0) (solverAnswer 0 (freshSolver g a c)) (solverAnswer (buildRefusal g a c) noSolver)
 
 -- graphite and one of the two ready cathodes
-abbrev pub ready : SpmConfig → ElectrodeParams → SpmAnswer
+abbrev pub ready : SpmConfig → ElectrodeParams → SpmBuildAnswer
 ready g c = built g graphiteAnode c
 
 -- ---- numbers at rest
@@ -72,15 +72,15 @@ openCircuitVoltage s = surfacePotential (s .cathode) ⊖ surfacePotential (s .an
 unfoldable pub stateOfCharge : SpmSolver → Float
 stateOfCharge s = clampOf ((averageTheta (s .anode) ⊖ f64 0x3fc9_9999_9999_999a) ⊘ (f64 0x3fe9_9999_9999_999a ⊖ f64 0x3fc9_9999_9999_999a)) (f64 0) (f64 0x3ff0_0000_0000_0000)
 
-unfoldable pub ocvCall : SpmSolver → Said
+unfoldable pub ocvCall : SpmSolver → Outcome
 ocvCall s = finiteOutcome (cellRefusal s) (openCircuitVoltage s)
 
-unfoldable pub socCall : SpmSolver → Said
+unfoldable pub socCall : SpmSolver → Outcome
 socCall s = finiteOutcome (cellRefusal s) (stateOfCharge s)
 
 -- ---- what a cell that nothing refuses has met
-abbrev pub NodesMet : ParticleDiffusion → Type 0
-NodesMet p = (3 ≤ p .«n_nodes») × (p .«n_nodes» ≤ 64)
+abbrev pub NodesValid : ParticleDiffusion → Type 0
+NodesValid p = (3 ≤ p .«n_nodes») × (p .«n_nodes» ≤ 64)
 
 module _ (s : SpmSolver) (g : T (gridFits s)) where
   abbrev n : ℕ
@@ -95,29 +95,29 @@ module _ (s : SpmSolver) (g : T (gridFits s)) where
   most : n ≤ 64
   most = leb→le n 64 (and-r (leb 3 n) (leb n 64) (and-l (leb 3 n && leb n 64) (eqb (s .anode .«n_nodes») n) (and-l front (eqb (s .cathode .«n_nodes») n) g)))
 
-  met : (m : ℕ) → m ≡ n → (3 ≤ m) × (m ≤ 64)
-  met m e = subst (λ (k : ℕ). (3 ≤ k) × (k ≤ 64)) (sym e) (least, most)
+  valid : (m : ℕ) → m ≡ n → (3 ≤ m) × (m ≤ 64)
+  valid m e = subst (λ (k : ℕ). (3 ≤ k) × (k ≤ 64)) (sym e) (least, most)
 
-  pub grid-anode : NodesMet (s .anode)
-  grid-anode = met (s .anode .«n_nodes») (eqb→eq _ _ (and-r (leb 3 n && leb n 64) (eqb (s .anode .«n_nodes») n) (and-l front (eqb (s .cathode .«n_nodes») n) g)))
+  pub grid-anode : NodesValid (s .anode)
+  grid-anode = valid (s .anode .«n_nodes») (eqb→eq _ _ (and-r (leb 3 n && leb n 64) (eqb (s .anode .«n_nodes») n) (and-l front (eqb (s .cathode .«n_nodes») n) g)))
 
-  pub grid-cathode : NodesMet (s .cathode)
-  grid-cathode = met (s .cathode .«n_nodes») (eqb→eq _ _ (and-r front (eqb (s .cathode .«n_nodes») n) g))
+  pub grid-cathode : NodesValid (s .cathode)
+  grid-cathode = valid (s .cathode .«n_nodes») (eqb→eq _ _ (and-r front (eqb (s .cathode .«n_nodes») n) g))
 
 pub grid-passed : (s : SpmSolver) → refusalUnless (gridFits s) grid ≡ 0 → T (gridFits s)
 grid-passed s h = passed (gridFits s) grid (zero-lt-suc 0) h
 
 module _ (s : SpmSolver) (h : cellRefusal s ≡ 0) where
-  grid-met : T (gridFits s)
+  grid-valid : T (gridFits s)
   unfolding cellRefusal
-  grid-met = grid-passed s (none-met _ _ h .0)
+  grid-valid = grid-passed s (neither-refused _ _ h .0)
 
-  pub anode-nodes : NodesMet (s .anode)
-  anode-nodes = grid-anode s grid-met
+  pub anode-nodes : NodesValid (s .anode)
+  anode-nodes = grid-anode s grid-valid
 
-  pub cathode-nodes : NodesMet (s .cathode)
-  cathode-nodes = grid-cathode s grid-met
+  pub cathode-nodes : NodesValid (s .cathode)
+  cathode-nodes = grid-cathode s grid-valid
 
-  pub cell-met : T (cellFits s)
+  pub cell-valid : T (cellFits s)
   unfolding cellRefusal
-  cell-met = passed (cellFits s) sheet (zero-lt-suc 1) (none-met _ _ h .1)
+  cell-valid = passed (cellFits s) sheet (zero-lt-suc 1) (neither-refused _ _ h .1)

@@ -14,9 +14,9 @@ use Rattle.solver_plan.specs.declared.Plan.{Plan}
 use Rattle.solver_plan.specs.Plans.{planRefusal, subStepsOf}
 use Rattle.solver_report.specs.declared.SpmState.{SpmState}
 use Rattle.solver_step.specs.declared.SpmParts.{SpmParts}
-use Rattle.solver_step.specs.declared.SpmMoved.{SpmMoved}
+use Rattle.solver_step.specs.declared.SpmReported.{SpmReported}
 use Rattle.solver.specs.declared.SpmSolver.{SpmSolver}
-use Rattle.solver.specs.declared.SpmStep.{SpmStep}
+use Rattle.solver.specs.declared.SpmStepAnswer.{SpmStepAnswer}
 use Rattle.solver.specs.Step.{inputRefusal, planOf, advanced, reported, finiteStep, refusedStep, finished, planned, stepped}
 
 -- a cell by its parts
@@ -39,21 +39,21 @@ partsOf s = record {
 }
 
 -- r and the two profiles are the number, the report, the count of sub-steps and the profiles of the answer s
-abbrev pub Told : SpmStep → SpmMoved → List Float → List Float → Type 0
-Told s r a c =
+abbrev pub Agrees : SpmStepAnswer → SpmReported → List Float → List Float → Type 0
+Agrees s r a c =
     (r .refusal ≡ s .refusal)
     × ((r .state ≡ s .state) × ((r .«sub_steps» ≡ s .«sub_steps») × ((a ≡ s .solver .anode .«c_s») × (c ≡ s .solver .cathode .«c_s»))))
 
 -- they are what a step of these parts answers
-abbrev pub StepOf : SpmParts → List Float → List Float → Float → Float → Float → SpmMoved → List Float → List Float → Type 0
-StepOf q a c i dt t r a' c' = Told (stepped (cellOf q a c) i dt t) r a' c'
+abbrev pub StepOf : SpmParts → List Float → List Float → Float → Float → Float → SpmReported → List Float → List Float → Type 0
+StepOf q a c i dt t r a' c' = Agrees (stepped (cellOf q a c) i dt t) r a' c'
 
 -- what it answers once a plan stands
-abbrev pub followed : SpmSolver → Plan → Float → Float → Float → SpmStep
+abbrev pub followed : SpmSolver → Plan → Float → Float → Float → SpmStepAnswer
 followed s p i dt t = finished s p (advanced s p dt) (reported (advanced s p dt) p i t)
 
 -- an answer by its parts
-abbrev pub stepBy : ℕ → SpmState → ℕ → SpmSolver → SpmStep
+abbrev pub stepBy : ℕ → SpmState → ℕ → SpmSolver → SpmStepAnswer
 stepBy k r n s = record { refusal = k; state = r; «sub_steps» = n; solver = s }
 
 -- the old cell with new profiles, its clock raised
@@ -61,7 +61,7 @@ abbrev pub cellWith : SpmSolver → Float → List Float → List Float → SpmS
 cellWith s dt a c = record { config = s .config; anode = withProfile (s .anode) a; cathode = withProfile (s .cathode) c; «time_s» = s .«time_s» ⊕ dt }
 
 -- a refused answer holds the old cell, any other the old cell with its own profiles
-record Ends (s : SpmSolver) (dt : Float) (r : SpmStep) : Type 0 where
+record Ends (s : SpmSolver) (dt : Float) (r : SpmStepAnswer) : Type 0 where
   kept : (r .refusal ≡ 0 → ⊥) → r ≡ refusedStep (r .refusal) s
   made : r .refusal ≡ 0 → r .solver ≡ cellWith s dt (r .solver .anode .«c_s») (r .solver .cathode .«c_s»)
 
@@ -92,7 +92,7 @@ same : {k n l m : ℕ} {a b : SpmState} {c d : SpmSolver} → k ≡ n → a ≡ 
 same e f g h = rw (e, f, g, h)
 
 -- the whole answer, by what a step of the parts told
-module _ (s : SpmSolver) (i dt t : Float) (r : SpmMoved) (a c : List Float) (h : Told (stepped s i dt t) r a c) where
+module _ (s : SpmSolver) (i dt t : Float) (r : SpmReported) (a c : List Float) (h : Agrees (stepped s i dt t) r a c) where
   pub answer-kept : (r .refusal ≡ 0 → ⊥) → refusedStep (r .refusal) s ≡ stepped s i dt t
   answer-kept z = rw (h .0) (sym (stepped-ends s dt i t .kept (λ k. z (h .0 ∙ k))))
 

@@ -6,7 +6,7 @@ use mathlib.Core.Bool.{Bool, cond, _&&_, _||_}
 use lib.Dec.{eqb}
 use lib.Ieee.{Float, lt, neg}
 use Rattle.binary64.specs.Operators.{_⊕_, _⊗_, _⊘_}
-use Rattle.refusal.specs.Numbers.{firstMet, notFinite, none-met}
+use Rattle.refusal.specs.Numbers.{firstRefusal, notFinite, neither-refused}
 use Rattle.profile.specs.Places.{finiteProfile}
 use Rattle.particle.specs.Particle.{withProfile, surfaceTheta, surfacePotential, averageTheta}
 use Rattle.kinetics.specs.Kinetics.{overpotential, terminalVoltage}
@@ -17,12 +17,12 @@ use Rattle.solver_report.specs.Report.{finiteWith, noState}
 use Rattle.solver_plan.specs.Arguments.{argumentRefusal}
 use Rattle.solver_step.specs.Moves.{profileAfter}
 use Rattle.solver.specs.declared.SpmSolver.{SpmSolver}
-use Rattle.solver.specs.declared.SpmStep.{SpmStep}
+use Rattle.solver.specs.declared.SpmStepAnswer.{SpmStepAnswer}
 use Rattle.solver.specs.Cell.{cellRefusal}
 
 -- ---- 1 to 5
 unfoldable pub inputRefusal : SpmSolver → Float → Float → Float → ℕ
-inputRefusal s i dt t = firstMet (cellRefusal s) (argumentRefusal i dt t)
+inputRefusal s i dt t = firstRefusal (cellRefusal s) (argumentRefusal i dt t)
 
 -- ---- the plan
 -- I / area, the anode's
@@ -74,22 +74,22 @@ unfoldable pub finiteStep : SpmSolver → SpmState → Bool
 finiteStep s r = finiteWith (finiteProfile (s .anode .«c_s») && finiteProfile (s .cathode .«c_s»)) r
 
 -- ---- the whole step
-abbrev pub refusedStep : ℕ → SpmSolver → SpmStep
+abbrev pub refusedStep : ℕ → SpmSolver → SpmStepAnswer
 refusedStep k s = record { refusal = k; state = noState; «sub_steps» = 0; solver = s }
 
 -- the cell before, the plan, the cell after, the report
-unfoldable pub finished : SpmSolver → Plan → SpmSolver → SpmState → SpmStep
+unfoldable pub finished : SpmSolver → Plan → SpmSolver → SpmState → SpmStepAnswer
 finished s p after r =
     cond (finiteStep after r) (record { refusal = 0; state = r; «sub_steps» = subStepsOf p; solver = after }) (refusedStep notFinite s)
 
-unfoldable pub planned : SpmSolver → Plan → Float → Float → Float → SpmStep
+unfoldable pub planned : SpmSolver → Plan → Float → Float → Float → SpmStepAnswer
 planned s p i dt t =
     cond (eqb (planRefusal p) 0) (finished s p (advanced s p dt) (reported (advanced s p dt) p i t)) (refusedStep (planRefusal p) s)
 
-unfoldable pub stepped : SpmSolver → Float → Float → Float → SpmStep
+unfoldable pub stepped : SpmSolver → Float → Float → Float → SpmStepAnswer
 stepped s i dt t =
     cond (eqb (inputRefusal s i dt t) 0) (planned s (planOf s i dt t) i dt t) (refusedStep (inputRefusal s i dt t) s)
 
 pub input-cell : (s : SpmSolver) (i dt t : Float) → inputRefusal s i dt t ≡ 0 → cellRefusal s ≡ 0
 unfolding inputRefusal
-input-cell s i dt t h = none-met _ _ h .0
+input-cell s i dt t h = neither-refused _ _ h .0

@@ -14,13 +14,13 @@ use solver_plan::plan_for;
 use solver_plan::plan_refusal;
 use solver_report::SpmState;
 use solver_report::no_state;
-use solver_step::SpmMoved;
+use solver_step::SpmReported;
 use solver_step::SpmParts;
 use solver_step::follow;
 use solver_step::refused_move;
 ghost use mathlib.Core.Path.{_≡_};
 ghost use Prim.Native.Nat.{_≤_};
-ghost use Rattle.refusal.specs.Answers.{said};
+ghost use Rattle.refusal.specs.Answers.{outcomeOf};
 ghost use Rattle.solver.specs.Cell.{gridFits, cellRefusal, noSolver, built, ready, ocvCall, socCall};
 ghost use Rattle.solver.specs.Step.{refusedStep, stepped};
 ghost use Rattle.solver.specs.Parts.{cellOf, partsOf, StepOf};
@@ -36,13 +36,13 @@ pub struct SpmSolver {
 }
 
 // A cell, and 0 or the number of the refusal.
-pub struct SpmAnswer {
+pub struct SpmBuildAnswer {
     pub refusal: u64,
     pub solver: SpmSolver,
 }
 
 // What a step gives: the report, how many sub-steps it made, and the cell after it.
-pub struct SpmStep {
+pub struct SpmStepAnswer {
     pub refusal: u64,
     pub state: SpmState,
     pub sub_steps: u64,
@@ -98,18 +98,18 @@ fn plan_of(q: SpmParts, i_app: f64, dt: f64, temp_k: f64) -> Plan
 }
 
 // One step, the profiles changed in place; refused, they are as they were.
-pub fn step_lent(
+pub fn step_in_place(
     q: SpmParts,
     c_neg: &mut [f64; 64],
     c_pos: &mut [f64; 64],
     current_a: f64,
     dt: f64,
     temp_k: f64,
-) -> SpmMoved
+) -> SpmReported
     ensures { λ r. ⌜ StepOf q (now («c_neg» .entry)) (now («c_pos» .entry)) «current_a» dt «temp_k» r (now («c_neg» .exit)) (now («c_pos» .exit)) ⌝ }
 {
     let unfit = cell_refusal(q, c_neg, c_pos);
-    let early = refusal::first_met(unfit, argument_refusal(current_a, dt, temp_k));
+    let early = refusal::first_refusal(unfit, argument_refusal(current_a, dt, temp_k));
     if early != 0 {
         return refused_move(early);
     }
@@ -125,7 +125,7 @@ impl SpmSolver {
     // ---- builds
 
     // A cell from two sheets, with the config's count of nodes in both.
-    pub fn new(config: SpmConfig, anode: ElectrodeParams, cathode: ElectrodeParams) -> SpmAnswer
+    pub fn new(config: SpmConfig, anode: ElectrodeParams, cathode: ElectrodeParams) -> SpmBuildAnswer
         ensures { λ r. ⌜ r ≡ built config anode cathode ⌝ }
     {
         let n_nodes = config.n_nodes;
@@ -134,9 +134,9 @@ impl SpmSolver {
             refusal::GRID,
         );
         let fits = config.fits() & anode.fits() & cathode.fits();
-        let refusal = refusal::first_met(few, refusal::refusal_unless(fits, refusal::SHEET));
+        let refusal = refusal::first_refusal(few, refusal::refusal_unless(fits, refusal::SHEET));
         if refusal != 0 {
-            return SpmAnswer {
+            return SpmBuildAnswer {
                 refusal,
                 solver: no_solver(),
             };
@@ -153,7 +153,7 @@ impl SpmSolver {
             n_nodes,
             c_s: c_pos,
         };
-        SpmAnswer {
+        SpmBuildAnswer {
             refusal: 0,
             solver: SpmSolver {
                 config,
@@ -165,7 +165,7 @@ impl SpmSolver {
     }
 
     // Graphite and LFP.
-    pub fn graphite_lfp(config: SpmConfig) -> SpmAnswer
+    pub fn graphite_lfp(config: SpmConfig) -> SpmBuildAnswer
         ensures { λ r. ⌜ r ≡ ready config lfpCathode ⌝ }
     {
         SpmSolver::new(
@@ -176,7 +176,7 @@ impl SpmSolver {
     }
 
     // Graphite and NMC.
-    pub fn graphite_nmc(config: SpmConfig) -> SpmAnswer
+    pub fn graphite_nmc(config: SpmConfig) -> SpmBuildAnswer
         ensures { λ r. ⌜ r ≡ ready config nmcCathode ⌝ }
     {
         SpmSolver::new(
@@ -224,13 +224,13 @@ impl SpmSolver {
     // ---- calls
 
     // One step: a current in A, positive on discharge, for an interval in s at a temperature in K.
-    pub fn step(self, current_a: f64, dt: f64, temp_k: f64) -> SpmStep
+    pub fn step(self, current_a: f64, dt: f64, temp_k: f64) -> SpmStepAnswer
         ensures { λ r. ⌜ r ≡ stepped self «current_a» dt «temp_k» ⌝ }
     {
         let q = self.parts();
         let mut c_neg = self.anode.c_s;
         let mut c_pos = self.cathode.c_s;
-        let m = step_lent(q, &mut c_neg, &mut c_pos, current_a, dt, temp_k);
+        let m = step_in_place(q, &mut c_neg, &mut c_pos, current_a, dt, temp_k);
         if m.refusal != 0 {
             return refused_step(m.refusal, self);
         }
@@ -254,7 +254,7 @@ impl SpmSolver {
             time_s: q.time_s + dt,
         };
         let state = m.state;
-        SpmStep {
+        SpmStepAnswer {
             refusal: 0,
             state,
             sub_steps: m.sub_steps,
@@ -264,7 +264,7 @@ impl SpmSolver {
 
     // Open-circuit voltage, V.
     pub fn ocv(self) -> Answer
-        ensures { λ r. ⌜ said r ≡ ocvCall self ⌝ }
+        ensures { λ r. ⌜ outcomeOf r ≡ ocvCall self ⌝ }
     {
         let number = self.refusal();
         if number != 0 {
@@ -277,7 +277,7 @@ impl SpmSolver {
 
     // State of charge by the anode's average stoichiometry, 0 to 1.
     pub fn soc_estimate(self) -> Answer
-        ensures { λ r. ⌜ said r ≡ socCall self ⌝ }
+        ensures { λ r. ⌜ outcomeOf r ≡ socCall self ⌝ }
     {
         let number = self.refusal();
         if number != 0 {
@@ -286,17 +286,17 @@ impl SpmSolver {
         let theta = average_theta(self.anode.params, self.anode.n_nodes, &self.anode.c_s);
         refusal::answered(
             number,
-            choice::clamp((theta - 0.20) / (0.80 - 0.20), 0.0, 1.0),
+            min_max::clamp((theta - 0.20) / (0.80 - 0.20), 0.0, 1.0),
         )
     }
 }
 
 // A refused step: the number, and the cell as it was.
-fn refused_step(number: u64, s: SpmSolver) -> SpmStep
+fn refused_step(number: u64, s: SpmSolver) -> SpmStepAnswer
     ensures { λ r. ⌜ r ≡ refusedStep number s ⌝ }
 {
     let state = no_state();
-    SpmStep {
+    SpmStepAnswer {
         refusal: number,
         state,
         sub_steps: 0,

@@ -21,12 +21,12 @@ use Rattle.binary64.specs.RangeTests.{literal, tested-within, tested-sized, mos
 use Rattle.binary64.specs.RangeOps.{mul-between, mul-most, div-most, add-most, sub-most}
 use Rattle.binary64.specs.Bounds.{within-scaled}
 use Rattle.binary64.specs.OrderLaws.{rounds-le}
-use Rattle.binary64.specs.Rounds.{held, mul-rounds, sub-rounds}
+use Rattle.binary64.specs.Rounds.{representable, mul-rounds, sub-rounds}
 use Rattle.binary64.specs.Value.{val, le-val}
 use Rattle.square_root.specs.Root.{sqrtOf, rounded, wholeRoot, rootBelow}
 use Rattle.square_root.proofs.Range.{sqrt-within}
-use Rattle.choice.specs.Choice.{clampOf, signumOf}
-use Rattle.choice.proofs.ChoiceLaws.{Clamped, clamp-in}
+use Rattle.min_max.specs.MinMax.{clampOf, signumOf}
+use Rattle.min_max.proofs.ChoiceLaws.{Clamped, clamp-in}
 use Rattle.elementary.specs.Exp.{one}
 use Rattle.elementary.proofs.AsinhRange.{asinh-finite}
 use Rattle.refusal.specs.Ranges.{temperatureFits}
@@ -137,7 +137,7 @@ module _ (p : ParticleDiffusion) (h : particleRefusal p ≡ 0) where
       let w : val x *F val M within val M =
       within-by (val x ∷ val M ∷ val high ∷ []) 127 (num 128 ⊠ (up a ⊠ m) ⊞ up high-most ⊠ m ⊞ m) (num 128 ⊠ (n ⊠ m) ⊞ num 128 ⊠ m) (search quote depth 24) tt tt in
       let e = rounding-error (mul-rounds x M f g) w (size-wider 1022 1023 (within-scaled most-range 0 17 tt tt .size) (lit≤ tt) (lit≤ tt)) .near in
-      rounds-le (held least (ends .least-fine) (ofBits-fits binary64 0x3f70_0000_0000_0000)) (sub-rounds M c g (surface-range .0 .fine))
+      rounds-le (representable least (ends .least-fine) (ofBits-fits binary64 0x3f70_0000_0000_0000)) (sub-rounds M c g (surface-range .0 .fine))
       (le-by (val x ∷ val M ∷ val c ∷ u ∷ val least ∷ val high ∷ []) 255
       (num 256 ⊠ (up a ⊠ m) ⊞ num 2 ⊠ (up high-most ⊠ m) ⊞ num 256 ⊠ hi e ⊞ up u-most ⊠ m ⊞ up o ⊞ up least-most) (search quote depth 24) tt)
 

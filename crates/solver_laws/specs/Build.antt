@@ -10,7 +10,7 @@ use lib.Ieee.{binary64, fits, le, ofBits}
 use lib.Ieee.Bits.{is-true}
 use lib.Ieee.Fits.{and-i, and-l, and-r}
 use Rattle.binary64.specs.Operators.{f64}
-use Rattle.refusal.specs.Numbers.{firstMet, refusalUnless, grid, sheet, none-met, passed}
+use Rattle.refusal.specs.Numbers.{firstRefusal, refusalUnless, grid, sheet, neither-refused, passed}
 use Rattle.refusal.specs.Ranges.{clockFits}
 use Rattle.electrode.specs.declared.ElectrodeParams.{ElectrodeParams}
 use Rattle.electrode.specs.Sheet.{sheetFits}
@@ -21,11 +21,11 @@ use Rattle.particle_laws.specs.Closure as ParticleClosure
 use Rattle.kinetics.specs.declared.SpmConfig.{SpmConfig}
 use Rattle.kinetics.specs.Kinetics.{configFits}
 use Rattle.solver.specs.declared.SpmSolver.{SpmSolver}
-use Rattle.solver.specs.declared.SpmAnswer.{SpmAnswer}
+use Rattle.solver.specs.declared.SpmBuildAnswer.{SpmBuildAnswer}
 use Rattle.solver.specs.Cell.{gridFits, cellFits, cellRefusal, solverAnswer, buildRefusal, freshSolver, noSolver, built}
 
 pub cell-passes : (s : SpmSolver) → T (gridFits s) → T (cellFits s) → cellRefusal s ≡ 0
-unfolding cellRefusal firstMet refusalUnless
+unfolding cellRefusal firstRefusal refusalUnless
 cell-passes s g c = rw (is-true (gridFits s) g, is-true (cellFits s) c)
 
 zero-clock : T (clockFits (f64 0))
@@ -34,14 +34,14 @@ zero-clock = tt
 
 -- a particle of n nodes whose sheet fits
 particle-made : (a : ElectrodeParams) (n : ℕ) → T (nodesFit n) → T (sheetFits a) → made a n ≡ particleAnswer 0 (fresh a n)
-unfolding made newRefusal firstMet refusalUnless
+unfolding made newRefusal firstRefusal refusalUnless
 particle-made a n k h = rw (is-true (nodesFit n) k, is-true (sheetFits a) h)
 
 fresh-passes : (a : ElectrodeParams) (n : ℕ) → T (fits binary64 (a .«c_s_max»)) → T (nodesFit n) → T (sheetFits a) → particleRefusal (fresh a n) ≡ 0
 fresh-passes a n f k h = subst (λ (x : ParticleAnswer). x .refusal ≡ 0 → particleRefusal (x .particle) ≡ 0) (particle-made a n k h) (ParticleClosure.build-passes a n f) refl
 
 module _ (g : SpmConfig) (a c : ElectrodeParams) where
-  abbrev outcome : ℕ → SpmAnswer
+  abbrev outcome : ℕ → SpmBuildAnswer
   outcome k = cond (eqb k 0) (solverAnswer 0 (freshSolver g a c)) (solverAnswer k noSolver)
 
   fresh-grid : T (nodesFit (g .«n_nodes»)) → T (gridFits (freshSolver g a c))
@@ -54,8 +54,8 @@ module _ (g : SpmConfig) (a c : ElectrodeParams) where
   fresh-solver : T (fits binary64 (a .«c_s_max»)) → T (fits binary64 (c .«c_s_max»)) → buildRefusal g a c ≡ 0 → cellRefusal (freshSolver g a c) ≡ 0
   unfolding buildRefusal freshSolver
   fresh-solver m n h =
-      let k = passed (nodesFit (g .«n_nodes»)) grid (zero-lt-suc 0) (none-met _ _ h .0) in
-      let t = passed (configFits g && sheetFits a && sheetFits c) sheet (zero-lt-suc 1) (none-met _ _ h .1) in
+      let k = passed (nodesFit (g .«n_nodes»)) grid (zero-lt-suc 0) (neither-refused _ _ h .0) in
+      let t = passed (configFits g && sheetFits a && sheetFits c) sheet (zero-lt-suc 1) (neither-refused _ _ h .1) in
       let u = and-l (configFits g && sheetFits a) (sheetFits c) t in
       let x = fresh a (g .«n_nodes») in
       let y = fresh c (g .«n_nodes») in

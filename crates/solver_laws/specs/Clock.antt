@@ -17,8 +17,8 @@ use Rattle.binary64.specs.Order.{between-finite}
 use Rattle.binary64.specs.OrderLaws.{add-le}
 use Rattle.binary64.specs.Range.{Sized}
 use Rattle.binary64.specs.RangeTests.{most-le}
-use Rattle.choice.proofs.ChoiceLaws.{lt-le}
-use Rattle.refusal.specs.Numbers.{firstMet, none-met}
+use Rattle.min_max.proofs.ChoiceLaws.{lt-le}
+use Rattle.refusal.specs.Numbers.{firstRefusal, neither-refused}
 use Rattle.solver.specs.declared.SpmSolver.{SpmSolver}
 use Rattle.solver.specs.Cell.{cellRefusal}
 use Rattle.solver_plan.specs.Plans.{planRefusal}
@@ -105,23 +105,23 @@ sums = record { zero-fine = tt; day-fine = tt; top-fine = tt; low-fine = tt; hig
 -- ---- a step that is refused before it is made
 module _ (s : SpmSolver) (i dt t : Float) where
   abbrev settled : ℕ
-  settled = firstMet (inputRefusal s i dt t) (planRefusal (planOf s i dt t))
+  settled = firstRefusal (inputRefusal s i dt t) (planRefusal (planOf s i dt t))
 
   plan-refused : (k : ℕ) → inputRefusal s i dt t ≡ 0 → planRefusal (planOf s i dt t) ≡ suc k → stepped s i dt t .refusal ≡ settled
-  unfolding stepped planned firstMet
+  unfolding stepped planned firstRefusal
   plan-refused k h g = rw (h, g, eqb·suc-zero k)
 
   input-refused : (k : ℕ) → inputRefusal s i dt t ≡ suc k → stepped s i dt t .refusal ≡ settled
-  unfolding stepped firstMet
+  unfolding stepped firstRefusal
   input-refused k h = rw (h, eqb·suc-zero k)
 
-both-zero : (a b : ℕ) → a ≡ 0 → b ≡ 0 → firstMet a b ≡ 0
-unfolding firstMet
+both-zero : (a b : ℕ) → a ≡ 0 → b ≡ 0 → firstRefusal a b ≡ 0
+unfolding firstRefusal
 both-zero a b h k = rw (h, k)
 
 arguments : (s : SpmSolver) (i dt t : Float) → inputRefusal s i dt t ≡ 0 → argumentRefusal i dt t ≡ 0
 unfolding inputRefusal
-arguments s i dt t h = none-met (cellRefusal s) (argumentRefusal i dt t) h .1
+arguments s i dt t h = neither-refused (cellRefusal s) (argumentRefusal i dt t) h .1
 
 -- ---- the clock
 module _ (s : SpmSolver) (i dt t : Float) (f : T (fits binary64 (s .«time_s»))) where
@@ -138,14 +138,14 @@ module _ (s : SpmSolver) (i dt t : Float) (f : T (fits binary64 (s .«time_s»))
       (add-le c top dt day a (sums .top-fine) d (sums .day-fine) (below-top c a f) (and-r (lt (f64 0) dt) (le dt day) l))
 
   -- THE NUMBER OF A STEP is settled by its input and its plan: 8 never comes. The clock is a number of binary64, as each f64 of a program is.
-  pub step-number : stepped s i dt t .refusal ≡ firstMet (inputRefusal s i dt t) (planRefusal (planOf s i dt t))
+  pub step-number : stepped s i dt t .refusal ≡ firstRefusal (inputRefusal s i dt t) (planRefusal (planOf s i dt t))
   step-number = input (inputRefusal s i dt t) refl
     where
-      plan : (k : ℕ) → planRefusal (planOf s i dt t) ≡ k → inputRefusal s i dt t ≡ 0 → stepped s i dt t .refusal ≡ firstMet (inputRefusal s i dt t) (planRefusal (planOf s i dt t))
+      plan : (k : ℕ) → planRefusal (planOf s i dt t) ≡ k → inputRefusal s i dt t ≡ 0 → stepped s i dt t .refusal ≡ firstRefusal (inputRefusal s i dt t) (planRefusal (planOf s i dt t))
       plan zero g h = step-accepted s i dt t h g (clock-stays h) ∙ sym (both-zero (inputRefusal s i dt t) (planRefusal (planOf s i dt t)) h g)
       plan (suc k) g h = plan-refused s i dt t k h g
 
-      input : (k : ℕ) → inputRefusal s i dt t ≡ k → stepped s i dt t .refusal ≡ firstMet (inputRefusal s i dt t) (planRefusal (planOf s i dt t))
+      input : (k : ℕ) → inputRefusal s i dt t ≡ k → stepped s i dt t .refusal ≡ firstRefusal (inputRefusal s i dt t) (planRefusal (planOf s i dt t))
       input zero h = plan (planRefusal (planOf s i dt t)) refl h
       input (suc k) h = input-refused s i dt t k h
 
@@ -158,7 +158,7 @@ again-input s r i dt t h k = both-zero (cellRefusal r) (argumentRefusal i dt t) 
 pub step-again : (s : SpmSolver) (i dt t : Float) → T (fits binary64 (s .«time_s»)) → stepped s i dt t .refusal ≡ 0 → stepped (stepped s i dt t .solver) i dt t .refusal ≡ 0
 step-again s i dt t f h =
     let r = stepped s i dt t .solver in
-    let n = none-met (inputRefusal s i dt t) (planRefusal (planOf s i dt t)) (sym (step-number s i dt t f) ∙ h) in
+    let n = neither-refused (inputRefusal s i dt t) (planRefusal (planOf s i dt t)) (sym (step-number s i dt t f) ∙ h) in
     let g : T (fits binary64 (r .«time_s»)) = rw (step-clock s i dt t h) (add-fits binary64 (s .«time_s») dt) in
     let p = same-plan s r (record { current = i; dt = dt; temp = t }) (step-make s i dt t) in
     step-number r i dt t g ∙ both-zero (inputRefusal r i dt t) (planRefusal (planOf r i dt t)) (again-input s r i dt t (n .0) (step-passes s i dt t h)) (ap planRefusal p ∙ n .1)

@@ -15,23 +15,23 @@ use Rattle.binary64.specs.Operators.{_⊕_, _⊘_, f64, count}
 use Rattle.binary64.specs.OrderLaws.{rounds-nonneg}
 use Rattle.binary64.specs.Rounds.{add-rounds}
 use Rattle.binary64.specs.Value.{val, le-val, val-le}
-use Rattle.refusal.specs.Numbers.{firstMet, refusalUnless, notFinite}
+use Rattle.refusal.specs.Numbers.{firstRefusal, refusalUnless, notFinite}
 use Rattle.refusal.specs.Ranges.{finite, clockFits}
-use Rattle.turns.specs.Turns.{times}
+use Rattle.iterate.specs.Iterate.{times}
 use Rattle.diffusion.specs.SubStep.{subStep}
 use Rattle.diffusion.specs.Premises.{zero-fine, zero-val}
 use Rattle.diffusion.specs.Profile as Profile
 use Rattle.profile.specs.Places.{finiteProfile}
 use Rattle.particle.specs.declared.ParticleDiffusion.{ParticleDiffusion}
 use Rattle.particle.specs.Checks.{fieldsFit, particleRefusal, fields-of}
-use Rattle.particle.specs.Particle.{withProfile, driveWith}
+use Rattle.particle.specs.Particle.{withProfile, subStepParamsOf}
 use Rattle.particle_laws.specs.Ranges.{Ranged, nodes-passed, sheet-passed}
-use Rattle.particle_laws.specs.Checked.{unused-passed, particle-whole, particle-passes}
+use Rattle.particle_laws.specs.Checked.{unused-passed, particle-in-range, particle-passes}
 use Rattle.particle_laws.specs.Nodes.{node-in}
 use Rattle.kinetics.specs.Kinetics.{configFits}
 use Rattle.solver.specs.declared.SpmSolver.{SpmSolver}
 use Rattle.solver_report.specs.declared.SpmState.{SpmState}
-use Rattle.solver.specs.declared.SpmStep.{SpmStep}
+use Rattle.solver.specs.declared.SpmStepAnswer.{SpmStepAnswer}
 use Rattle.solver_plan.specs.declared.Plan.{Plan}
 use Rattle.solver.specs.Cell.{gridFits, cellRefusal}
 use Rattle.solver_plan.specs.Plans.{planRefusal, subStepsOf}
@@ -40,19 +40,19 @@ use Rattle.solver.specs.Step.{inputRefusal, planOf, advanced, reported, finiteS
 use Rattle.solver_laws.specs.Electrodes.{Electrode, particleAt, diffusivityIn, fluxIn, config-passed, clock-passed, electrode-passes, grid-passed, count-most, cell-passed, interval-size, sub-step-ranged}
 
 -- ---- sub-steps lead from a particle that passes to one that does
-sub-step-passes : (p : ParticleDiffusion) (c : List Float) (d j dt : Float) → Ranged (driveWith p d j dt) → particleRefusal (withProfile p c) ≡ 0 → particleRefusal (withProfile p (subStep (driveWith p d j dt) c)) ≡ 0
+sub-step-passes : (p : ParticleDiffusion) (c : List Float) (d j dt : Float) → Ranged (subStepParamsOf p d j dt) → particleRefusal (withProfile p c) ≡ 0 → particleRefusal (withProfile p (subStep (subStepParamsOf p d j dt) c)) ≡ 0
 sub-step-passes p c d j dt r h =
     let q = withProfile p c in
-    let v = driveWith p d j dt in
-    let w = particle-whole q h in
+    let v = subStepParamsOf p d j dt in
+    let w = particle-in-range q h in
     particle-passes (withProfile p (subStep v c)) (nodes-passed q h) (sheet-passed q h)
-    (λ i l. rw (Profile.step-place v c i l (w .long)) (node-in v r (λ k. getD c k nan) (w .held) i l))
+    (λ i l. rw (Profile.step-place v c i l (w .long)) (node-in v r (λ k. getD c k nan) (w .nodes) i l))
     (λ i l m. rw (Profile.step-unused v c i nan l) (unused-passed q h i l m))
 
-times-passes : (p : ParticleDiffusion) (d j dt : Float) → Ranged (driveWith p d j dt) → particleRefusal p ≡ 0 → (k : ℕ) → particleRefusal (withProfile p (times k (subStep (driveWith p d j dt)) (p .«c_s»))) ≡ 0
+times-passes : (p : ParticleDiffusion) (d j dt : Float) → Ranged (subStepParamsOf p d j dt) → particleRefusal p ≡ 0 → (k : ℕ) → particleRefusal (withProfile p (times k (subStep (subStepParamsOf p d j dt)) (p .«c_s»))) ≡ 0
 unfolding times
 times-passes p d j dt r h zero = h
-times-passes p d j dt r h (suc k) = sub-step-passes p (times k (subStep (driveWith p d j dt)) (p .«c_s»)) d j dt r (times-passes p d j dt r h k)
+times-passes p d j dt r h (suc k) = sub-step-passes p (times k (subStep (subStepParamsOf p d j dt)) (p .«c_s»)) d j dt r (times-passes p d j dt r h k)
 
 clock-reported : (s : SpmSolver) (r : SpmState) → T (finiteStep s r) → T (finite (r .«time_s»))
 unfolding finiteStep
@@ -78,7 +78,7 @@ module _ (s : SpmSolver) (i dt t : Float) where
   unfolding profileAfter times
   electrode-next h g e = go (subStepsOf plan) (count-most plan g)
     where
-      go : (k : ℕ) → k ≤ 4096 → particleRefusal (withProfile (particleAt e s) (times k (subStep (driveWith (particleAt e s) (diffusivityIn e plan) (fluxIn e plan) (dt ⊘ count k))) (particleAt e s .«c_s»))) ≡ 0
+      go : (k : ℕ) → k ≤ 4096 → particleRefusal (withProfile (particleAt e s) (times k (subStep (subStepParamsOf (particleAt e s) (diffusivityIn e plan) (fluxIn e plan) (dt ⊘ count k))) (particleAt e s .«c_s»))) ≡ 0
       go zero l = electrode-passes s (cell-passed s i dt t h) e
       go (suc k) l = times-passes (particleAt e s) (diffusivityIn e plan) (fluxIn e plan) (dt ⊘ count (suc k)) (sub-step-ranged s i dt t h e k l) (electrode-passes s (cell-passed s i dt t h) e) (suc k)
 
@@ -97,7 +97,7 @@ module _ (s : SpmSolver) (i dt t : Float) where
   clock-finite h = clock-reported next report h
 
   next-passes : inputRefusal s i dt t ≡ 0 → planRefusal plan ≡ 0 → T (finiteStep next report) → cellRefusal next ≡ 0
-  unfolding cellRefusal firstMet refusalUnless advanced
+  unfolding cellRefusal firstRefusal refusalUnless advanced
   next-passes h g f =
       let k = cell-passed s i dt t h in
       let c = configFits (s .config) in
@@ -107,7 +107,7 @@ module _ (s : SpmSolver) (i dt t : Float) where
       rw (is-true (gridFits s) (grid-passed s k), is-true (c && a && b && clockFits (s .«time_s» ⊕ dt)) m)
 
   -- what a step answers: a number and the cell as it was, or 0, the sub-steps of its plan and the cell advanced
-  pub data Leads : SpmStep → Type 0 where
+  pub data Leads : SpmStepAnswer → Type 0 where
     refused : (k : ℕ) → Leads (refusedStep (suc k) s)
     moved : inputRefusal s i dt t ≡ 0 → planRefusal plan ≡ 0 → T (finiteStep next report) → Leads (record { refusal = 0; state = report; «sub_steps» = subStepsOf plan; solver = next })
 
@@ -137,7 +137,7 @@ module _ (s : SpmSolver) (i dt t : Float) where
   pub step-passes : stepped s i dt t .refusal ≡ 0 → cellRefusal (stepped s i dt t .solver) ≡ 0
   step-passes = go (stepped s i dt t) leads
     where
-      go : (a : SpmStep) → Leads a → a .refusal ≡ 0 → cellRefusal (a .solver) ≡ 0
+      go : (a : SpmStepAnswer) → Leads a → a .refusal ≡ 0 → cellRefusal (a .solver) ≡ 0
       go a (Leads.refused k) z = absurd (omega (arith, z))
       go a (Leads.moved h g f) z = next-passes h g f
 
@@ -145,7 +145,7 @@ module _ (s : SpmSolver) (i dt t : Float) where
   pub step-stays : cellRefusal s ≡ 0 → cellRefusal (stepped s i dt t .solver) ≡ 0
   step-stays h = go (stepped s i dt t) leads
     where
-      go : (a : SpmStep) → Leads a → cellRefusal (a .solver) ≡ 0
+      go : (a : SpmStepAnswer) → Leads a → cellRefusal (a .solver) ≡ 0
       go a (Leads.refused k) = h
       go a (Leads.moved h g f) = next-passes h g f
 
@@ -153,7 +153,7 @@ module _ (s : SpmSolver) (i dt t : Float) where
   pub step-count : stepped s i dt t .refusal ≡ 0 → stepped s i dt t .«sub_steps» ≡ subStepsOf plan
   step-count = go (stepped s i dt t) leads
     where
-      go : (a : SpmStep) → Leads a → a .refusal ≡ 0 → a .«sub_steps» ≡ subStepsOf plan
+      go : (a : SpmStepAnswer) → Leads a → a .refusal ≡ 0 → a .«sub_steps» ≡ subStepsOf plan
       go a (Leads.refused k) z = absurd (omega (arith, z))
       go a (Leads.moved h g f) z = refl
 
@@ -165,7 +165,7 @@ module _ (s : SpmSolver) (i dt t : Float) where
   pub step-clock : stepped s i dt t .refusal ≡ 0 → stepped s i dt t .solver .«time_s» ≡ s .«time_s» ⊕ dt
   step-clock = go (stepped s i dt t) leads
     where
-      go : (a : SpmStep) → Leads a → a .refusal ≡ 0 → a .solver .«time_s» ≡ s .«time_s» ⊕ dt
+      go : (a : SpmStepAnswer) → Leads a → a .refusal ≡ 0 → a .solver .«time_s» ≡ s .«time_s» ⊕ dt
       go a (Leads.refused k) z = absurd (omega (arith, z))
       go a (Leads.moved h g f) z = clock-raised
 
@@ -173,7 +173,7 @@ module _ (s : SpmSolver) (i dt t : Float) where
   pub step-refused : (stepped s i dt t .refusal ≡ 0 → ⊥) → (stepped s i dt t .solver ≡ s) × (stepped s i dt t .«sub_steps» ≡ 0)
   step-refused = go (stepped s i dt t) leads
     where
-      go : (a : SpmStep) → Leads a → (a .refusal ≡ 0 → ⊥) → (a .solver ≡ s) × (a .«sub_steps» ≡ 0)
+      go : (a : SpmStepAnswer) → Leads a → (a .refusal ≡ 0 → ⊥) → (a .solver ≡ s) × (a .«sub_steps» ≡ 0)
       go a (Leads.refused k) n = (refl, refl)
       go a (Leads.moved h g f) n = absurd (n refl)
 
@@ -198,6 +198,6 @@ next-make s i dt t = record { config = refl; sheet = λ e. sheets e; nodes = λ 
 pub step-make : (s : SpmSolver) (i dt t : Float) → SameMake s (stepped s i dt t .solver)
 step-make s i dt t = go (stepped s i dt t) (leads s i dt t)
   where
-    go : (a : SpmStep) → Leads s i dt t a → SameMake s (a .solver)
+    go : (a : SpmStepAnswer) → Leads s i dt t a → SameMake s (a .solver)
     go a (Leads.refused k) = record { config = refl; sheet = λ e. refl; nodes = λ e. refl }
     go a (Leads.moved h g f) = next-make s i dt t

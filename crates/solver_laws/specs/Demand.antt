@@ -12,16 +12,16 @@ use Rattle.fraction.specs.Fraction.{Fraction, nat, pow2, _-F_, _*F_, _/F_, _wit
 use Rattle.binary64.specs.Operators.{_⊘_, count}
 use Rattle.binary64.specs.Value.{val}
 use Rattle.diffusion.specs.Exact.{Numbers, numbers}
-use Rattle.diffusion.specs.Premises.{Kept, Sound, Whole}
-use Rattle.diffusion.specs.Run.{Grid, Move, drive, run, exactRun, Each}
+use Rattle.diffusion.specs.Premises.{StepConditions, ParametersInRange, ProfileInRange}
+use Rattle.diffusion.specs.Run.{Grid, Move, subStepParams, run, exactRun, Each}
 use Rattle.diffusion.specs.Calls.{Stepper, after, accepted, total, exactAfter, Lawful}
 use Rattle.diffusion.specs.CallLaws.{calls-near, each-with}
 use Rattle.diffusion.specs.Copies.{run-times, each-copies}
 use Rattle.particle.specs.Particle.{spacing, placeOf, stableStep}
-use Rattle.particle_laws.specs.Ranges.{ranged-sound}
-use Rattle.particle_laws.specs.Checked.{particle-whole}
+use Rattle.particle_laws.specs.Ranges.{ranged-parameters}
+use Rattle.particle_laws.specs.Checked.{particle-in-range}
 use Rattle.solver.specs.declared.SpmSolver.{SpmSolver}
-use Rattle.solver.specs.declared.SpmStep.{SpmStep}
+use Rattle.solver.specs.declared.SpmStepAnswer.{SpmStepAnswer}
 use Rattle.solver_plan.specs.declared.Plan.{Plan}
 use Rattle.solver.specs.Cell.{cellRefusal}
 use Rattle.solver_plan.specs.Plans.{subStepsOf}
@@ -38,7 +38,7 @@ pub record Call : Type 0 where
   pub temp : Float
 
 -- what it answers, by the definition that the contract of `step` cites
-abbrev pub answer : SpmSolver → Call → SpmStep
+abbrev pub answer : SpmSolver → Call → SpmStepAnswer
 answer s q = stepped s (q .current) (q .dt) (q .temp)
 
 -- the cell after a list of calls
@@ -93,8 +93,8 @@ numbersAt e s q = record {
 }
 
 -- the accepted calls keep the demand's two conditions at an electrode
-abbrev pub KeptAt : Electrode → SpmSolver → List Call → Type 0
-KeptAt e s qs = Each (λ q. Kept (numbersAt e s q)) (taken s qs)
+abbrev pub StepConditionsAt : Electrode → SpmSolver → List Call → Type 0
+StepConditionsAt e s qs = Each (λ q. StepConditions (numbersAt e s q)) (taken s qs)
 
 module _ (e : Electrode) (s : SpmSolver) (qs : List Call) where
   -- node i after the calls
@@ -142,29 +142,29 @@ module _ (e : Electrode) (s : SpmSolver) where
       → particleAt e (answer r q .solver) .«c_s» ≡ cond (eqb (answer r q .refusal) 0) (run (gridAt e s) (movesBy e (planFor s q) (q .dt)) (particleAt e r .«c_s»)) (particleAt e r .«c_s»)
   law r q v = go (answer r q) (leads r (q .current) (q .dt) (q .temp))
     where
-      go : (a : SpmStep) → Leads r (q .current) (q .dt) (q .temp) a
+      go : (a : SpmStepAnswer) → Leads r (q .current) (q .dt) (q .temp) a
           → particleAt e (a .solver) .«c_s» ≡ cond (eqb (a .refusal) 0) (run (gridAt e s) (movesBy e (planFor s q) (q .dt)) (particleAt e r .«c_s»)) (particleAt e r .«c_s»)
       go a (Leads.refused k) = rw (eqb·suc-zero k)
       go a (Leads.moved h g f) =
           next-profile e r q ∙ ap (λ (p : Plan). run (gridAt e r) (movesBy e p (q .dt)) (particleAt e r .«c_s»)) (same-plan s r q (v .make))
           ∙ ap (λ (b : Grid). run b (movesBy e (planFor s q) (q .dt)) (particleAt e r .«c_s»)) (same-grid e s r (v .make))
 
-  sound : (r : SpmSolver) (q : Call) → Inv s r → T (eqb (answer r q .refusal) 0) → Each (λ m. Sound (drive (gridAt e s) m)) (movesBy e (planFor s q) (q .dt))
-  sound r q v = go (answer r q) (leads r (q .current) (q .dt) (q .temp))
+  ranges : (r : SpmSolver) (q : Call) → Inv s r → T (eqb (answer r q .refusal) 0) → Each (λ m. ParametersInRange (subStepParams (gridAt e s) m)) (movesBy e (planFor s q) (q .dt))
+  ranges r q v = go (answer r q) (leads r (q .current) (q .dt) (q .temp))
     where
       copies : inputRefusal r (q .current) (q .dt) (q .temp) ≡ 0 → (k : ℕ) → k ≤ 4096
-          → Each (λ m. Sound (drive (gridAt e r) m)) (replicate k (record { d_s = diffusivityIn e (planFor r q); j_n = fluxIn e (planFor r q); dt = q .dt ⊘ count k }))
+          → Each (λ m. ParametersInRange (subStepParams (gridAt e r) m)) (replicate k (record { d_s = diffusivityIn e (planFor r q); j_n = fluxIn e (planFor r q); dt = q .dt ⊘ count k }))
       copies h zero l = Each.none
-      copies h (suc k) l = each-copies (λ m. Sound (drive (gridAt e r) m)) (record { d_s = diffusivityIn e (planFor r q); j_n = fluxIn e (planFor r q); dt = q .dt ⊘ count (suc k) }) (suc k) (ranged-sound (sub-step-ranged r (q .current) (q .dt) (q .temp) h e k l))
+      copies h (suc k) l = each-copies (λ m. ParametersInRange (subStepParams (gridAt e r) m)) (record { d_s = diffusivityIn e (planFor r q); j_n = fluxIn e (planFor r q); dt = q .dt ⊘ count (suc k) }) (suc k) (ranged-parameters (sub-step-ranged r (q .current) (q .dt) (q .temp) h e k l))
 
-      go : (a : SpmStep) → Leads r (q .current) (q .dt) (q .temp) a → T (eqb (a .refusal) 0) → Each (λ m. Sound (drive (gridAt e s) m)) (movesBy e (planFor s q) (q .dt))
+      go : (a : SpmStepAnswer) → Leads r (q .current) (q .dt) (q .temp) a → T (eqb (a .refusal) 0) → Each (λ m. ParametersInRange (subStepParams (gridAt e s) m)) (movesBy e (planFor s q) (q .dt))
       go a (Leads.refused k) t = absurd (subst T (eqb·suc-zero k) t)
       go a (Leads.moved h g f) t =
-          subst (λ (b : Grid). Each (λ m. Sound (drive b m)) (movesBy e (planFor s q) (q .dt))) (same-grid e s r (v .make))
-          (subst (λ (p : Plan). Each (λ m. Sound (drive (gridAt e r) m)) (movesBy e p (q .dt))) (same-plan s r q (v .make)) (copies h (subStepsOf (planFor r q)) (count-most (planFor r q) g)))
+          subst (λ (b : Grid). Each (λ m. ParametersInRange (subStepParams b m)) (movesBy e (planFor s q) (q .dt))) (same-grid e s r (v .make))
+          (subst (λ (p : Plan). Each (λ m. ParametersInRange (subStepParams (gridAt e r) m)) (movesBy e p (q .dt))) (same-plan s r q (v .make)) (copies h (subStepsOf (planFor r q)) (count-most (planFor r q) g)))
 
   pub lawful : Lawful (steps e s) (Inv s)
-  lawful = record { stays = stays s; law = law; sound = sound }
+  lawful = record { stays = stays s; law = law; ranges = ranges }
 
   -- ---- the folds above are those of the stepper
   pub after-is : (qs : List Call) (r : SpmSolver) → after (steps e s) r qs ≡ cellAfter r qs
@@ -180,7 +180,7 @@ module _ (e : Electrode) (s : SpmSolver) where
   reported-count : (r : SpmSolver) (q : Call) → Inv s r → cond (eqb (answer r q .refusal) 0) (length (movesBy e (planFor s q) (q .dt))) 0 ≡ answer r q .«sub_steps»
   reported-count r q v = go (answer r q) (leads r (q .current) (q .dt) (q .temp))
     where
-      go : (a : SpmStep) → Leads r (q .current) (q .dt) (q .temp) a → cond (eqb (a .refusal) 0) (length (movesBy e (planFor s q) (q .dt))) 0 ≡ a .«sub_steps»
+      go : (a : SpmStepAnswer) → Leads r (q .current) (q .dt) (q .temp) a → cond (eqb (a .refusal) 0) (length (movesBy e (planFor s q) (q .dt))) 0 ≡ a .«sub_steps»
       go a (Leads.refused k) = rw (eqb·suc-zero k)
       go a (Leads.moved h g f) = length-replicate (subStepsOf (planFor s q)) (moveBy e (planFor s q) (q .dt)) ∙ ap subStepsOf (sym (same-plan s r q (v .make)))
 
@@ -191,19 +191,19 @@ module _ (e : Electrode) (s : SpmSolver) where
 
   -- from a cell in the middle of the list too
   module _ (r : SpmSolver) (qs : List Call) (v : Inv s r) where
-    pub keeps : Each (λ q. Kept (numbersAt e s q)) (taken r qs) → Each (λ q. Each (λ m. Kept (numbers (drive (gridAt e s) m))) (movesBy e (planFor s q) (q .dt))) (accepted (steps e s) r qs)
-    keeps ks = rw (taken-is qs r) (each-with (λ q k k'. each-copies (λ m. Kept (numbers (drive (gridAt e s) m))) (moveBy e (planFor s q) (q .dt)) (subStepsOf (planFor s q)) k) ks ks)
+    pub keeps : Each (λ q. StepConditions (numbersAt e s q)) (taken r qs) → Each (λ q. Each (λ m. StepConditions (numbers (subStepParams (gridAt e s) m))) (movesBy e (planFor s q) (q .dt))) (accepted (steps e s) r qs)
+    keeps ks = rw (taken-is qs r) (each-with (λ q k k'. each-copies (λ m. StepConditions (numbers (subStepParams (gridAt e s) m))) (moveBy e (planFor s q) (q .dt)) (subStepsOf (planFor s q)) k) ks ks)
 
-    pub whole : Whole (particleAt e s .«n_nodes») (val (particleAt e s .params .«c_s_max»)) (particleAt e r .«c_s»)
-    whole = subst (λ (b : Grid). Whole (b .n) (val (b .c_max)) (particleAt e r .«c_s»)) (same-grid e s r (v .make)) (particle-whole (particleAt e r) (electrode-passes r (v .passes) e))
+    pub in-range : ProfileInRange (particleAt e s .«n_nodes») (val (particleAt e s .params .«c_s_max»)) (particleAt e r .«c_s»)
+    in-range = subst (λ (b : Grid). ProfileInRange (b .n) (val (b .c_max)) (particleAt e r .«c_s»)) (same-grid e s r (v .make)) (particle-in-range (particleAt e r) (electrode-passes r (v .passes) e))
 
-    pub near-from : Each (λ q. Kept (numbersAt e s q)) (taken r qs) → (i : ℕ) → i < particleAt e s .«n_nodes»
+    pub near-from : Each (λ q. StepConditions (numbersAt e s q)) (taken r qs) → (i : ℕ) → i < particleAt e s .«n_nodes»
         → place e r qs i -F getD (exactAfter (steps e s) r qs (map val (particleAt e r .«c_s»))) i (nat 0) within nat (K r qs) *F val (particleAt e s .params .«c_s_max») /F pow2 49
-    near-from ks i l = rw (← after-is qs r, ← total-is qs r v) (calls-near (steps e s) lawful r qs v whole (keeps ks) i l)
+    near-from ks i l = rw (← after-is qs r, ← total-is qs r v) (calls-near (steps e s) lawful r qs v in-range (keeps ks) i l)
 
--- THEOREM 2. The cell passes the checks; at the electrode e every accepted call keeps 6·D·t ≤ h² and 2·h·∣flux∣ ≤ D·M (`Kept`). Then every node of e is within K·M / 2 ^ 49 of
+-- THEOREM 2. The cell passes the checks; at the electrode e every accepted call keeps 6·D·t ≤ h² and 2·h·∣flux∣ ≤ D·M (`StepConditions`). Then every node of e is within K·M / 2 ^ 49 of
 -- the exact one. Nothing is asked of the other electrode.
-pub solver-near : (e : Electrode) (s : SpmSolver) (qs : List Call) → cellRefusal s ≡ 0 → KeptAt e s qs
+pub solver-near : (e : Electrode) (s : SpmSolver) (qs : List Call) → cellRefusal s ≡ 0 → StepConditionsAt e s qs
     → (i : ℕ) → i < particleAt e s .«n_nodes» → place e s qs i -F exactPlace e s qs i within nat (K s qs) *F val (particleAt e s .params .«c_s_max») /F pow2 49
 solver-near e s qs h ks i l = near-from e s s qs (itself s h) ks i l
 

@@ -20,21 +20,21 @@ use Rattle.binary64.specs.Bounds.{within-scaled}
 use Rattle.binary64.specs.Order.{neg-le}
 use Rattle.binary64.specs.OrderLaws.{div-le}
 use Rattle.binary64.specs.Value.{val, val-is, ratio-nn, le-val}
-use Rattle.choice.specs.Count.{ceilOf}
-use Rattle.choice.proofs.CountLaws.{ceil-least}
-use Rattle.refusal.specs.Numbers.{firstMet, refusalUnless, grid, load, interval, temperature, subSteps, none-met, passed}
+use Rattle.min_max.specs.Count.{ceilOf}
+use Rattle.min_max.proofs.CountLaws.{ceil-least}
+use Rattle.refusal.specs.Numbers.{firstRefusal, refusalUnless, grid, load, interval, temperature, subSteps, neither-refused, passed}
 use Rattle.refusal.specs.Ranges.{loadFits, intervalFits, temperatureFits, clockFits}
 use Rattle.electrode.specs.declared.ElectrodeParams.{ElectrodeParams}
 use Rattle.electrode.specs.Sheet.{sheetFits, specificArea}
 use Rattle.particle.specs.declared.ParticleDiffusion.{ParticleDiffusion}
 use Rattle.particle.specs.Checks.{nodesFit, fieldsFit, particleRefusal}
-use Rattle.particle.specs.Particle.{driveWith}
+use Rattle.particle.specs.Particle.{subStepParamsOf}
 use Rattle.particle_laws.specs.Ranges.{Ranged, sheet-ranges, sheet-passed, wider, particle-ranged, diffusivity-range, interval-range}
 use Rattle.kinetics.specs.declared.SpmConfig.{SpmConfig}
-use Rattle.kinetics.specs.Kinetics.{configFits, wallCurrent}
+use Rattle.kinetics.specs.Kinetics.{configFits, surfaceCurrent}
 use Rattle.solver.specs.declared.SpmSolver.{SpmSolver}
 use Rattle.solver_plan.specs.declared.Plan.{Plan}
-use Rattle.solver.specs.Cell.{gridFits, cellRefusal, NodesMet, anode-nodes, cathode-nodes, cell-met}
+use Rattle.solver.specs.Cell.{gridFits, cellRefusal, NodesValid, anode-nodes, cathode-nodes, cell-valid}
 use Rattle.solver_plan.specs.Plans.{planRefusal, subStepsOf}
 use Rattle.solver.specs.Step.{inputRefusal, currentDensity, planOf}
 
@@ -56,8 +56,8 @@ fluxIn Electrode.anode p = p .«j_neg»
 fluxIn Electrode.cathode p = p .«j_pos»
 
 -- ---- a cell that passes the checks
-fits-passes : (p : ParticleDiffusion) → NodesMet p → T (fieldsFit p) → particleRefusal p ≡ 0
-unfolding particleRefusal firstMet refusalUnless
+fits-passes : (p : ParticleDiffusion) → NodesValid p → T (fieldsFit p) → particleRefusal p ≡ 0
+unfolding particleRefusal firstRefusal refusalUnless
 fits-passes p n f =
     let m = and-i (leb 3 (p .«n_nodes»)) (leb (p .«n_nodes») 64) (le→leb 3 (p .«n_nodes») (n .0)) (le→leb (p .«n_nodes») 64 (n .1)) in
     rw (is-true (nodesFit (p .«n_nodes»)) m, is-true (fieldsFit p) f)
@@ -76,18 +76,18 @@ module _ (s : SpmSolver) (h : cellRefusal s ≡ 0) where
   t = clockFits (s .«time_s»)
 
   pub config-passed : T (configFits (s .config))
-  config-passed = and-l c a (and-l (c && a) b (and-l (c && a && b) t (cell-met s h)))
+  config-passed = and-l c a (and-l (c && a) b (and-l (c && a && b) t (cell-valid s h)))
 
   pub clock-passed : T (clockFits (s .«time_s»))
-  clock-passed = and-r (c && a && b) t (cell-met s h)
+  clock-passed = and-r (c && a && b) t (cell-valid s h)
 
   pub electrode-passes : (e : Electrode) → particleRefusal (particleAt e s) ≡ 0
-  electrode-passes Electrode.anode = fits-passes (s .anode) (anode-nodes s h) (and-r c a (and-l (c && a) b (and-l (c && a && b) t (cell-met s h))))
-  electrode-passes Electrode.cathode = fits-passes (s .cathode) (cathode-nodes s h) (and-r (c && a) b (and-l (c && a && b) t (cell-met s h)))
+  electrode-passes Electrode.anode = fits-passes (s .anode) (anode-nodes s h) (and-r c a (and-l (c && a) b (and-l (c && a && b) t (cell-valid s h))))
+  electrode-passes Electrode.cathode = fits-passes (s .cathode) (cathode-nodes s h) (and-r (c && a) b (and-l (c && a && b) t (cell-valid s h)))
 
   pub grid-passed : T (gridFits s)
   unfolding cellRefusal
-  grid-passed = passed (gridFits s) grid (zero-lt-suc 0) (none-met _ _ h .0)
+  grid-passed = passed (gridFits s) grid (zero-lt-suc 0) (neither-refused _ _ h .0)
 
   -- both grids have the config's count of nodes
   pub nodes-are : (e : Electrode) → particleAt e s .«n_nodes» ≡ s .config .«n_nodes»
@@ -138,16 +138,16 @@ unfolding ofBits
 three = literal (f64 0x4008_0000_0000_0000) 3 1 3 1 tt tt tt tt tt
 
 -- from 2 ^ -7 to 2 ^ 42
-pub wall-range : (p : ElectrodeParams) (g : SpmConfig) → T (sheetFits p) → T (configFits g) → Within (wallCurrent p (g .faraday)) (2 ^ 42) 1 1 (2 ^ 7)
-unfolding wallCurrent specificArea
-wall-range p g h k =
+pub surface-range : (p : ElectrodeParams) (g : SpmConfig) → T (sheetFits p) → T (configFits g) → Within (surfaceCurrent p (g .faraday)) (2 ^ 42) 1 1 (2 ^ 7)
+unfolding surfaceCurrent specificArea
+surface-range p g h k =
     let r = sheet-ranges p h in
     let solid = mul-between three (r .solid) 4 1 1 (2 ^ 6) tt tt tt tt in
     let surface = div-between solid (r .radius) (2 ^ 29) 1 (2 ^ 3) 1 tt tt tt tt tt in
     mul-between (mul-between surface (r .thick) (2 ^ 23) 1 1 (2 ^ 21) tt tt tt tt) (config-ranges g k .faraday) (2 ^ 42) 1 1 (2 ^ 7) tt tt tt tt
 
-pub wall-above : (p : ElectrodeParams) (g : SpmConfig) → T (sheetFits p) → T (configFits g) → nat 0 <F val (wallCurrent p (g .faraday))
-wall-above p g h k = size-pos (within-scaled (wall-range p g h k) 7 42 tt tt .size)
+pub surface-above : (p : ElectrodeParams) (g : SpmConfig) → T (sheetFits p) → T (configFits g) → nat 0 <F val (surfaceCurrent p (g .faraday))
+surface-above p g h k = size-pos (within-scaled (surface-range p g h k) 7 42 tt tt .size)
 
 -- ---- the fluxes, for a current of at most 2 ^ 20 A
 module _ (s : SpmSolver) (h : cellRefusal s ≡ 0) where
@@ -160,8 +160,8 @@ module _ (s : SpmSolver) (h : cellRefusal s ≡ 0) where
 
   pub flux-range : (i dt t : Float) → Sized i (2 ^ 20) 1 → (e : Electrode) → Sized (fluxIn e (planOf s i dt t)) (2 ^ 100) 1
   unfolding planOf
-  flux-range i dt t m Electrode.anode = sized (div-most (neg-most (density-range i m)) (wall-range (s .anode .params) (s .config) (sheet-at s h Electrode.anode) (config-passed s h)) (2 ^ 100) 1 tt tt tt)
-  flux-range i dt t m Electrode.cathode = sized (div-most (density-range i m) (wall-range (s .cathode .params) (s .config) (sheet-at s h Electrode.cathode) (config-passed s h)) (2 ^ 100) 1 tt tt tt)
+  flux-range i dt t m Electrode.anode = sized (div-most (neg-most (density-range i m)) (surface-range (s .anode .params) (s .config) (sheet-at s h Electrode.anode) (config-passed s h)) (2 ^ 100) 1 tt tt tt)
+  flux-range i dt t m Electrode.cathode = sized (div-most (density-range i m) (surface-range (s .cathode .params) (s .config) (sheet-at s h Electrode.cathode) (config-passed s h)) (2 ^ 100) 1 tt tt tt)
 
   -- a greater current: a greater flux into the cathode, a lesser one into the anode
   module _ (i i' dt dt' t t' : Float) (m : Sized i (2 ^ 20) 1) (m' : Sized i' (2 ^ 20) 1) (l : T (le i i')) where
@@ -173,15 +173,15 @@ module _ (s : SpmSolver) (h : cellRefusal s ≡ 0) where
     unfolding planOf
     cathode-flux =
         le-val (fluxIn Electrode.cathode (planOf s i dt t)) (fluxIn Electrode.cathode (planOf s i' dt' t')) (flux-range i dt t m Electrode.cathode .fine) (flux-range i' dt' t' m' Electrode.cathode .fine)
-        (div-le (currentDensity s i) (currentDensity s i') (wallCurrent (s .cathode .params) (s .config .faraday)) (density-range i m .fine) (density-range i' m' .fine) density-le
-        (wall-above (s .cathode .params) (s .config) (sheet-at s h Electrode.cathode) (config-passed s h)))
+        (div-le (currentDensity s i) (currentDensity s i') (surfaceCurrent (s .cathode .params) (s .config .faraday)) (density-range i m .fine) (density-range i' m' .fine) density-le
+        (surface-above (s .cathode .params) (s .config) (sheet-at s h Electrode.cathode) (config-passed s h)))
 
     pub anode-flux : val (fluxIn Electrode.anode (planOf s i' dt' t')) ≤F val (fluxIn Electrode.anode (planOf s i dt t))
     unfolding planOf
     anode-flux =
         le-val (fluxIn Electrode.anode (planOf s i' dt' t')) (fluxIn Electrode.anode (planOf s i dt t)) (flux-range i' dt' t' m' Electrode.anode .fine) (flux-range i dt t m Electrode.anode .fine)
-        (div-le (neg (currentDensity s i')) (neg (currentDensity s i)) (wallCurrent (s .anode .params) (s .config .faraday)) (neg-most (density-range i' m') .fine) (neg-most (density-range i m) .fine)
-        (neg-le (currentDensity s i) (currentDensity s i') density-le) (wall-above (s .anode .params) (s .config) (sheet-at s h Electrode.anode) (config-passed s h)))
+        (div-le (neg (currentDensity s i')) (neg (currentDensity s i)) (surfaceCurrent (s .anode .params) (s .config .faraday)) (neg-most (density-range i' m') .fine) (neg-most (density-range i m) .fine)
+        (neg-le (currentDensity s i) (currentDensity s i') density-le) (surface-above (s .anode .params) (s .config) (sheet-at s h Electrode.anode) (config-passed s h)))
 
 -- ---- what a step that nothing refuses before it is made works with
 pub current-range : (i : Float) → T (loadFits i (f64 0x412e_8480_0000_0000)) → Sized i (2 ^ 20) 1
@@ -221,24 +221,24 @@ count-below (fin false m e) h =
 
 pub count-most : (p : Plan) → planRefusal p ≡ 0 → subStepsOf p ≤ 4096
 unfolding planRefusal
-count-most p h = count-below (p .q) (passed (not (lt (f64 0x40b0_0000_0000_0000) (p .q))) subSteps (zero-lt-suc 6) (none-met _ _ h .1))
+count-most p h = count-below (p .q) (passed (not (lt (f64 0x40b0_0000_0000_0000) (p .q))) subSteps (zero-lt-suc 6) (neither-refused _ _ h .1))
 
 module _ (s : SpmSolver) (i dt t : Float) (h : inputRefusal s i dt t ≡ 0) where
   pub cell-passed : cellRefusal s ≡ 0
   unfolding inputRefusal
-  cell-passed = none-met _ _ h .0
+  cell-passed = neither-refused _ _ h .0
 
   pub current-fits : Sized i (2 ^ 20) 1
   unfolding inputRefusal
-  current-fits = current-range i (passed (loadFits i (f64 0x412e_8480_0000_0000)) load (zero-lt-suc 2) (none-met _ _ (none-met _ _ h .1) .0))
+  current-fits = current-range i (passed (loadFits i (f64 0x412e_8480_0000_0000)) load (zero-lt-suc 2) (neither-refused _ _ (neither-refused _ _ h .1) .0))
 
   pub interval-fits : T (intervalFits dt)
   unfolding inputRefusal
-  interval-fits = passed (intervalFits dt) interval (zero-lt-suc 3) (none-met _ _ (none-met _ _ (none-met _ _ h .1) .1) .0)
+  interval-fits = passed (intervalFits dt) interval (zero-lt-suc 3) (neither-refused _ _ (neither-refused _ _ (neither-refused _ _ h .1) .1) .0)
 
   pub temperature-fits : T (temperatureFits t)
   unfolding inputRefusal
-  temperature-fits = passed (temperatureFits t) temperature (zero-lt-suc 4) (none-met _ _ (none-met _ _ (none-met _ _ h .1) .1) .1)
+  temperature-fits = passed (temperatureFits t) temperature (zero-lt-suc 4) (neither-refused _ _ (neither-refused _ _ (neither-refused _ _ h .1) .1) .1)
 
   -- the interval is finite and at least 0
   pub interval-size : Sized dt (2 ^ 17) 1 × (nat 0 ≤F val dt)
@@ -255,5 +255,5 @@ module _ (s : SpmSolver) (i dt t : Float) (h : inputRefusal s i dt t ≡ 0) wher
   diffusivity-in Electrode.cathode = diffusivity-range (s .cathode .params) t (sheet-at s cell-passed Electrode.cathode) temperature-fits
 
   -- EACH SUB-STEP AT EACH ELECTRODE is in its ranges
-  pub sub-step-ranged : (e : Electrode) (k : ℕ) → suc k ≤ 4096 → Ranged (driveWith (particleAt e s) (diffusivityIn e (planOf s i dt t)) (fluxIn e (planOf s i dt t)) (dt ⊘ count (suc k)))
+  pub sub-step-ranged : (e : Electrode) (k : ℕ) → suc k ≤ 4096 → Ranged (subStepParamsOf (particleAt e s) (diffusivityIn e (planOf s i dt t)) (fluxIn e (planOf s i dt t)) (dt ⊘ count (suc k)))
   sub-step-ranged e k l = let m = part-range k l in particle-ranged (particleAt e s) (electrode-passes s cell-passed e) (diffusivity-in e) (flux-range s cell-passed i dt t current-fits e) (sized m) (most-above m)

@@ -20,19 +20,19 @@ use Rattle.binary64.specs.Range.{Sized}
 use Rattle.binary64.specs.Value.{val}
 use Rattle.elementary.specs.Exp.{one, expOf}
 use Rattle.elementary.proofs.ExpLaws.{exp-0}
-use Rattle.choice.specs.Count.{ceilOf}
-use Rattle.refusal.specs.Numbers.{firstMet, refusalUnless}
+use Rattle.min_max.specs.Count.{ceilOf}
+use Rattle.refusal.specs.Numbers.{firstRefusal, refusalUnless}
 use Rattle.refusal.specs.Ranges.{loadFits, intervalFits, temperatureFits, clockFits}
 use Rattle.electrode.specs.Sheet.{graphiteAnode, lfpCathode, specificArea, diffusivityAt}
-use Rattle.diffusion.specs.Premises.{Kept}
+use Rattle.diffusion.specs.Premises.{StepConditions}
 use Rattle.diffusion.specs.Run.{Each, Both}
 use Rattle.particle.specs.Checks.{fieldsFit}
 use Rattle.particle.specs.Particle.{spacing, stableStep}
 use Rattle.particle.specs.Calls.{fresh}
 use Rattle.kinetics.specs.declared.SpmConfig.{SpmConfig}
-use Rattle.kinetics.specs.Kinetics.{configFits, wallCurrent}
+use Rattle.kinetics.specs.Kinetics.{configFits, surfaceCurrent}
 use Rattle.solver.specs.declared.SpmSolver.{SpmSolver}
-use Rattle.solver.specs.Cell.{cellRefusal, buildRefusal, freshSolver, built, ready, cell-met}
+use Rattle.solver.specs.Cell.{cellRefusal, buildRefusal, freshSolver, built, ready, cell-valid}
 use Rattle.solver_plan.specs.declared.Plan.{Plan}
 use Rattle.solver_plan.specs.Plans.{planRefusal, subStepsOf}
 use Rattle.solver.specs.Step.{inputRefusal, currentDensity, quotient, planOf, planned, stepped}
@@ -40,7 +40,7 @@ use Rattle.solver_laws.specs.Electrodes.{Electrode, particleAt, diffusiv
 use Rattle.solver_laws.specs.Closure.{step-count, step-clock}
 use Rattle.solver_laws.specs.Build.{cell-passes, build-passes}
 use Rattle.solver_laws.specs.Acceptance.{step-accepted}
-use Rattle.solver_laws.specs.Demand.{Call, answer, taken, K, planFor, numbersAt, KeptAt, place, exactPlace, Inv, itself, stays, same-plan, solver-near, at-accepted, at-refused}
+use Rattle.solver_laws.specs.Demand.{Call, answer, taken, K, planFor, numbersAt, StepConditionsAt, place, exactPlace, Inv, itself, stays, same-plan, solver-near, at-accepted, at-refused}
 use Rattle.solver_laws.specs.Ranking.{Paired, Twins, Ranked, same-numbers, solver-ranking}
 
 -- ---- two cells
@@ -103,7 +103,7 @@ stronger = draw four two ∷ no-current ∷ too-long ∷ draw four one ∷ []
 
 -- ---- the cells pass the checks
 pub start-is : (ready config lfpCathode .refusal ≡ 0) × (ready config lfpCathode .solver ≡ start)
-unfolding built buildRefusal freshSolver firstMet refusalUnless graphiteAnode lfpCathode le neg ofBits
+unfolding built buildRefusal freshSolver firstRefusal refusalUnless graphiteAnode lfpCathode le neg ofBits
 start-is = (refl, refl)
 
 max-fits : T (fits binary64 (graphiteAnode .«c_s_max»)) × T (fits binary64 (lfpCathode .«c_s_max»))
@@ -120,7 +120,7 @@ later-clock = tt
 pub later-passes : cellRefusal later ≡ 0
 later-passes =
     let a = configFits config && fieldsFit (fresh graphiteAnode 11) && fieldsFit (fresh lfpCathode 11) in
-    cell-passes later (grid-passed start start-passes) (and-i a (clockFits (later .«time_s»)) (and-l a (clockFits (f64 0)) (cell-met start start-passes)) later-clock)
+    cell-passes later (grid-passed start start-passes) (and-i a (clockFits (later .«time_s»)) (and-l a (clockFits (f64 0)) (cell-valid start start-passes)) later-clock)
 
 same-particle : (e : Electrode) → particleAt e later ≡ particleAt e start
 same-particle Electrode.anode = refl
@@ -164,8 +164,8 @@ abbrev planBy : Float → Float → Float → Plan
 planBy i dt q = record {
   «d_neg» = dNeg;
   «d_pos» = dPos;
-  «j_neg» = neg (currentDensity start i) ⊘ wallCurrent graphiteAnode (config .faraday);
-  «j_pos» = currentDensity start i ⊘ wallCurrent lfpCathode (config .faraday);
+  «j_neg» = neg (currentDensity start i) ⊘ surfaceCurrent graphiteAnode (config .faraday);
+  «j_pos» = currentDensity start i ⊘ surfaceCurrent lfpCathode (config .faraday);
   q = q;
 }
 
@@ -183,11 +183,11 @@ record Split (dt : Float) (k : ℕ) : Type 0 where
   fits : T (intervalFits dt)
 
 one-split : Split one 1
-unfolding fresh spacing stableStep planRefusal firstMet refusalUnless graphiteAnode lfpCathode ceilOf isNan le lt mul div round size ofInt ofBits
+unfolding fresh spacing stableStep planRefusal firstRefusal refusalUnless graphiteAnode lfpCathode ceilOf isNan le lt mul div round size ofInt ofBits
 one-split = record { q = one; quotient-is = refl; passes = λ i. refl; count-is = refl; part = refl; fits = tt }
 
 two-split : Split two 2
-unfolding fresh spacing stableStep planRefusal firstMet refusalUnless graphiteAnode lfpCathode ceilOf isNan le lt mul div round size ofInt ofBits
+unfolding fresh spacing stableStep planRefusal firstRefusal refusalUnless graphiteAnode lfpCathode ceilOf isNan le lt mul div round size ofInt ofBits
 two-split = record { q = f64 0x3ff6_c16c_16c1_6c14; quotient-is = refl; passes = λ i. refl; count-is = refl; part = refl; fits = tt }
 
 -- the day's
@@ -195,7 +195,7 @@ abbrev dayQuotient : Float
 dayQuotient = f64 0x40ed_ffff_ffff_fffc
 
 day-split : (quotient start day dNeg dPos ≡ dayQuotient) × (((i : Float) → planRefusal (planBy i day dayQuotient) ≡ 7) × T (intervalFits day))
-unfolding fresh spacing stableStep planRefusal firstMet refusalUnless graphiteAnode lfpCathode isNan le lt mul div round size ofInt ofBits
+unfolding fresh spacing stableStep planRefusal firstRefusal refusalUnless graphiteAnode lfpCathode isNan le lt mul div round size ofInt ofBits
 day-split = (refl, (λ i. refl, tt))
 
 -- ---- a current of at most 4 A keeps the two conditions: the fluxes are least and greatest at -4 A and 4 A
@@ -210,7 +210,7 @@ record FluxEnds (dt : Float) : Type 0 where
   cathode-high : fluxIn Electrode.cathode (planOf start four dt room) ≡ fluxMost Electrode.cathode
 
 flux-ends : (dt : Float) → FluxEnds dt
-unfolding planOf currentDensity fresh wallCurrent specificArea graphiteAnode lfpCathode neg mul div ofBits
+unfolding planOf currentDensity fresh surfaceCurrent specificArea graphiteAnode lfpCathode neg mul div ofBits
 flux-ends dt = record { anode-low = refl; anode-high = refl; cathode-low = refl; cathode-high = refl }
 
 neg-most : (e : Electrode) → negF (val (fluxMost e)) ≤F val (neg (fluxMost e))
@@ -253,8 +253,8 @@ diffusivity-is : (e : Electrode) (i dt q : Float) → diffusivityIn e (planBy i 
 diffusivity-is Electrode.anode i dt q = refl
 diffusivity-is Electrode.cathode i dt q = refl
 
-draw-kept : (e : Electrode) (i dt : Float) (k : ℕ) → Split dt k → Sized i (2 ^ 20) 1 → T (loadFits i four) → Kept (numbersAt e start (draw i dt))
-draw-kept e i dt k c m h =
+draw-conditions : (e : Electrode) (i dt : Float) (k : ℕ) → Split dt k → Sized i (2 ^ 20) 1 → T (loadFits i four) → StepConditions (numbersAt e start (draw i dt))
+draw-conditions e i dt k c m h =
     let plan = plan-is i dt (c .q) (c .quotient-is) in
     let D : diffusivityIn e (planFor start (draw i dt)) ≡ diffusivityOf e = ap (diffusivityIn e) plan ∙ diffusivity-is e i dt (c .q) in
     let t : dt ⊘ count (subStepsOf (planFor start (draw i dt))) ≡ one = ap (λ (p : Plan). dt ⊘ count (subStepsOf p)) plan ∙ ap (λ (n : ℕ). dt ⊘ count n) (c .count-is) ∙ c .part in
@@ -265,7 +265,7 @@ draw-kept e i dt k c m h =
     let d = val (diffusivityOf e) in
     let M = val (particleAt e start .params .«c_s_max») in
     let g : nat 2 *F w *F j ≤F d *F M = le-by (w ∷ j ∷ d ∷ M ∷ val (fluxMost e) ∷ []) 0 (num 2 ⊠ s .spaced ⊠ up f ⊞ up (s .flux)) (search quote depth 24) tt in
-    record { stable = rw (D, t) (s .stable); gentle = rw D g }
+    record { stable = rw (D, t) (s .stable); fluxBound = rw D g }
 
 -- ---- a cell of that make, in the middle of a list
 room-fits : T (temperatureFits room)
@@ -274,7 +274,7 @@ room-fits = tt
 
 module _ (r : SpmSolver) (v : Inv start r) where
   draw-input : (i dt : Float) → T (loadFits i (f64 0x412e_8480_0000_0000)) → T (intervalFits dt) → inputRefusal r i dt room ≡ 0
-  unfolding inputRefusal firstMet refusalUnless
+  unfolding inputRefusal firstRefusal refusalUnless
   draw-input i dt h k = rw (v .passes, is-true (loadFits i (f64 0x412e_8480_0000_0000)) h, is-true (intervalFits dt) k, is-true (temperatureFits room) room-fits)
 
   draw-plan : (i dt q : Float) → quotient start dt dNeg dPos ≡ q → planFor r (draw i dt) ≡ planBy i dt q
@@ -290,7 +290,7 @@ module _ (r : SpmSolver) (v : Inv start r) where
 
   -- the refused calls
   no-current-input : inputRefusal r nan one room ≡ 3
-  unfolding inputRefusal firstMet refusalUnless le neg ofBits
+  unfolding inputRefusal firstRefusal refusalUnless le neg ofBits
   no-current-input = rw (v .passes)
 
   no-current-refused : answer r no-current .refusal ≡ 3
@@ -388,9 +388,9 @@ module _ (i : Float) (h : T (loadFits i (f64 0x412e_8480_0000_0000))) (r : SpmSo
       }
 
 -- at most 4 A: the conditions hold
-drawn-kept : (e : Electrode) (i : Float) (r : SpmSolver) (qs : List Call) → Sized i (2 ^ 20) 1 → T (loadFits i four) → Inv start r → Drawn i r qs → KeptAt e r qs
-drawn-kept e i r qs m s v d =
-    let k : (dt : Float) (n : ℕ) → Split dt n → Kept (numbersAt e r (draw i dt)) = λ dt n c. rw (same-numbers e start r (draw i dt) (v .make)) (draw-kept e i dt n c m s) in
+drawn-conditions : (e : Electrode) (i : Float) (r : SpmSolver) (qs : List Call) → Sized i (2 ^ 20) 1 → T (loadFits i four) → Inv start r → Drawn i r qs → StepConditionsAt e r qs
+drawn-conditions e i r qs m s v d =
+    let k : (dt : Float) (n : ℕ) → Split dt n → StepConditions (numbersAt e r (draw i dt)) = λ dt n c. rw (same-numbers e start r (draw i dt) (v .make)) (draw-conditions e i dt n c m s) in
     rw (d .calls) (Each.more (k two 2 two-split) (Each.more (k one 1 one-split) Each.none))
 
 -- ---- the two lists
@@ -419,16 +419,16 @@ discharge-counted = discharge-drawn .count
 pub stronger-taken : taken later stronger ≡ draw four two ∷ draw four one ∷ []
 stronger-taken = stronger-drawn .calls
 
-pub discharge-kept : (e : Electrode) → KeptAt e start discharge
-discharge-kept e = drawn-kept e three start discharge (current-range three (currents-fit .0)) (small .0) start-made discharge-drawn
+pub discharge-conditions : (e : Electrode) → StepConditionsAt e start discharge
+discharge-conditions e = drawn-conditions e three start discharge (current-range three (currents-fit .0)) (small .0) start-made discharge-drawn
 
-pub stronger-kept : (e : Electrode) → KeptAt e later stronger
-stronger-kept e = drawn-kept e four later stronger (current-range four (currents-fit .1)) (small .1) later-made stronger-drawn
+pub stronger-conditions : (e : Electrode) → StepConditionsAt e later stronger
+stronger-conditions e = drawn-conditions e four later stronger (current-range four (currents-fit .1)) (small .1) later-made stronger-drawn
 
 -- THEOREM 2: five calls, three refused
 pub discharge-near : (e : Electrode) (i : ℕ) → i < 11
     → place e start discharge i -F exactPlace e start discharge i within nat 3 *F val (particleAt e start .params .«c_s_max») /F pow2 49
-discharge-near e i l = rw (← discharge-counted) (solver-near e start discharge start-passes (discharge-kept e) i (rw (nodes-are start start-passes e) l))
+discharge-near e i l = rw (← discharge-counted) (solver-near e start discharge start-passes (discharge-conditions e) i (rw (nodes-are start start-passes e) l))
 
 -- THEOREM 3: two clocks, refused calls at other places of the two lists
 more-current : T (le three four)
@@ -440,5 +440,5 @@ stronger-paired dt = record { dt = refl; temp = refl; current = more-current }
 
 pub discharge-ranked : Ranked start later discharge stronger
 discharge-ranked =
-    solver-ranking start later discharge stronger start-passes later-passes twins discharge-kept stronger-kept
+    solver-ranking start later discharge stronger start-passes later-passes twins discharge-conditions stronger-conditions
     (rw (discharge-taken, stronger-taken) (Both.more (stronger-paired two) (Both.more (stronger-paired one) Both.none)))

@@ -10,7 +10,7 @@ use Rattle.diffusion.specs.Exact.{numbers, exactStep}
 use Rattle.diffusion.specs.ExactLaws.{withFlux, monotone}
 use Rattle.diffusion.specs.Premises.{Ready, ready-stable}
 use Rattle.diffusion.specs.Profile.{exact-length, exact-place}
-use Rattle.diffusion.specs.Run.{Grid, Move, drive, exactRun, Each, Both, AllReady, Stronger}
+use Rattle.diffusion.specs.Run.{Grid, Move, subStepParams, exactRun, Each, Both, AllReady, Stronger}
 use Rattle.diffusion.specs.Calls.{Stepper, accepted, exactAfter}
 
 pub record Ordered (b : Grid) (x y : List Fraction) : Type 0 where
@@ -19,11 +19,11 @@ pub record Ordered (b : Grid) (x y : List Fraction) : Type 0 where
   pub below : (i : ℕ) → i < b .n → getD x i (nat 0) ≤F getD y i (nat 0)
 
 module _ (b : Grid) where
-  ordered-step : {m m' : Move} {x y : List Fraction} → Stronger m m' → Ready (drive b m) → Ordered b x y → Ordered b (exactStep (numbers (drive b m)) x) (exactStep (numbers (drive b m')) y)
+  ordered-step : {m m' : Move} {x y : List Fraction} → Stronger m m' → Ready (subStepParams b m) → Ordered b x y → Ordered b (exactStep (numbers (subStepParams b m)) x) (exactStep (numbers (subStepParams b m')) y)
   ordered-step {m} {m'} {x} {y} k r o =
-      let e = numbers (drive b m) in
-      let f = withFlux (numbers (drive b m)) (val (m' .j_n)) in
-      let same : numbers (drive b m') ≡ f = rw (k .same-d, k .same-t) in
+      let e = numbers (subStepParams b m) in
+      let f = withFlux (numbers (subStepParams b m)) (val (m' .j_n)) in
+      let same : numbers (subStepParams b m') ≡ f = rw (k .same-d, k .same-t) in
       rw same (record {
         long = rw (exact-length e x) (o .long);
         long' = rw (exact-length f y) (o .long');

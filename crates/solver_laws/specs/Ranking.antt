@@ -12,15 +12,15 @@ use Rattle.binary64.specs.Operators.{_⊘_, count}
 use Rattle.binary64.specs.Range.{Sized}
 use Rattle.binary64.specs.Value.{val}
 use Rattle.diffusion.specs.Exact.{numbers}
-use Rattle.diffusion.specs.Premises.{Kept, Sound}
+use Rattle.diffusion.specs.Premises.{StepConditions, ParametersInRange}
 use Rattle.diffusion.specs.Profile.{values-at}
-use Rattle.diffusion.specs.Run.{Grid, drive, Each, Both, AllReady, Stronger}
+use Rattle.diffusion.specs.Run.{Grid, subStepParams, Each, Both, AllReady, Stronger}
 use Rattle.diffusion.specs.RunLaws.{share, bound}
 use Rattle.diffusion.specs.Calls.{accepted, exactAfter}
 use Rattle.diffusion.specs.CallLaws.{each-with, both-flip, of-accepted, calls-total}
 use Rattle.particle.specs.Particle.{placeOf}
 use Rattle.solver.specs.declared.SpmSolver.{SpmSolver}
-use Rattle.solver.specs.declared.SpmStep.{SpmStep}
+use Rattle.solver.specs.declared.SpmStepAnswer.{SpmStepAnswer}
 use Rattle.solver_plan.specs.declared.Plan.{Plan}
 use Rattle.solver.specs.Cell.{cellRefusal}
 use Rattle.solver_plan.specs.Plans.{subStepsOf}
@@ -28,7 +28,7 @@ use Rattle.solver.specs.Step.{planOf}
 use Rattle.solver_laws.specs.Electrodes.{Electrode, particleAt, diffusivityIn, nodes-are, current-fits, cathode-flux, anode-flux}
 use Rattle.solver_laws.specs.Closure.{SameMake, Leads, leads}
 use Rattle.solver_laws.specs.Ordered.{Ordered, ordered-calls, both-with, both-copied}
-use Rattle.solver_laws.specs.Demand.{Call, answer, taken, K, planFor, moveBy, movesBy, gridAt, steps, numbersAt, KeptAt, place, Inv, itself, same-plan, same-grid, lawful, taken-is, total-is, keeps, whole, near-from}
+use Rattle.solver_laws.specs.Demand.{Call, answer, taken, K, planFor, moveBy, movesBy, gridAt, steps, numbersAt, StepConditionsAt, place, Inv, itself, same-plan, same-grid, lawful, taken-is, total-is, keeps, in-range, near-from}
 
 -- two accepted calls: alike in interval and temperature, the second's current no less
 pub record Paired (q q' : Call) : Type 0 where
@@ -42,12 +42,12 @@ module _ (e : Electrode) (s : SpmSolver) where
   abbrev StrongerAt : Call → Call → Type 0
   StrongerAt q q' = Both Stronger (movesBy e (planFor s q) (q .dt)) (movesBy e (planFor s q') (q' .dt))
 
-  ready : (r : SpmSolver) (qs : List Call) → Inv s r → Each (λ q. Kept (numbersAt e s q)) (taken r qs) → Each (λ q. AllReady (gridAt e s) (movesBy e (planFor s q) (q .dt))) (accepted (steps e s) r qs)
+  ready : (r : SpmSolver) (qs : List Call) → Inv s r → Each (λ q. StepConditions (numbersAt e s q)) (taken r qs) → Each (λ q. AllReady (gridAt e s) (movesBy e (planFor s q) (q .dt))) (accepted (steps e s) r qs)
   ready r qs v ks =
-      each-with (λ q ms ns. each-with (λ m x y. record { sound = x; kept = y }) ms ns)
-      (of-accepted (steps e s) (lawful e s) (λ q. Each (λ m. Sound (drive (gridAt e s) m)) (movesBy e (planFor s q) (q .dt))) (lawful e s .sound) qs r v) (keeps e s r qs v ks)
+      each-with (λ q ms ns. each-with (λ m x y. record { ranges = x; conditions = y }) ms ns)
+      (of-accepted (steps e s) (lawful e s) (λ q. Each (λ m. ParametersInRange (subStepParams (gridAt e s) m)) (movesBy e (planFor s q) (q .dt))) (lawful e s .ranges) qs r v) (keeps e s r qs v ks)
 
-  module _ (r r' : SpmSolver) (qs qs' : List Call) (v : Inv s r) (v' : Inv s r') (ks : Each (λ q. Kept (numbersAt e s q)) (taken r qs)) (ks' : Each (λ q. Kept (numbersAt e s q)) (taken r' qs'))
+  module _ (r r' : SpmSolver) (qs qs' : List Call) (v : Inv s r) (v' : Inv s r') (ks : Each (λ q. StepConditions (numbersAt e s q)) (taken r qs)) (ks' : Each (λ q. StepConditions (numbersAt e s q)) (taken r' qs'))
       (pairs : Both StrongerAt (taken r qs) (taken r' qs')) where
     strong : Both StrongerAt (accepted (steps e s) r qs) (accepted (steps e s) r' qs')
     strong = rw (taken-is e s qs r, taken-is e s qs' r') pairs
@@ -67,8 +67,8 @@ module _ (e : Electrode) (s : SpmSolver) where
         let X = getD (exactAfter (steps e s) r qs (map val c)) i (nat 0) in
         let Y = getD (exactAfter (steps e s) r' qs' (map val c')) i (nat 0) in
         let o : Ordered (gridAt e s) (map val c) (map val c') = record {
-          long = rw (length-map c val) (whole e s r qs v .long);
-          long' = rw (length-map c' val) (whole e s r' qs' v' .long);
+          long = rw (length-map c val) (in-range e s r qs v .long);
+          long' = rw (length-map c' val) (in-range e s r' qs' v' .long);
           below = λ k m. rw (values-at c k, values-at c' k) (start k m);
         } in
         let h : X ≤F Y = ordered-calls (steps e s) r r' qs qs' strong (ready r qs v ks) o .below i l in
@@ -83,7 +83,7 @@ sized-current e s r qs v = rw (← taken-is e s qs r) (of-accepted (steps e s) (
     current : (r : SpmSolver) (q : Call) → Inv s r → T (eqb (answer r q .refusal) 0) → Sized (q .current) (2 ^ 20) 1
     current r q v = go (answer r q) (leads r (q .current) (q .dt) (q .temp))
       where
-        go : (a : SpmStep) → Leads r (q .current) (q .dt) (q .temp) a → T (eqb (a .refusal) 0) → Sized (q .current) (2 ^ 20) 1
+        go : (a : SpmStepAnswer) → Leads r (q .current) (q .dt) (q .temp) a → T (eqb (a .refusal) 0) → Sized (q .current) (2 ^ 20) 1
         go a (Leads.refused k) t = absurd (subst T (eqb·suc-zero k) t)
         go a (Leads.moved h g f) t = current-fits r (q .current) (q .dt) (q .temp) h
 
@@ -125,7 +125,7 @@ twins-make s s' h h' w = record { passes = h'; make = record { config = w .confi
 
 pub same-numbers : (e : Electrode) (s r : SpmSolver) (q : Call) → SameMake s r → numbersAt e r q ≡ numbersAt e s q
 same-numbers e s r q m =
-    ap (λ (p : Plan). numbers (drive (gridAt e r) (moveBy e p (q .dt)))) (same-plan s r q m) ∙ ap (λ (b : Grid). numbers (drive b (moveBy e (planFor s q) (q .dt)))) (same-grid e s r m)
+    ap (λ (p : Plan). numbers (subStepParams (gridAt e r) (moveBy e p (q .dt)))) (same-plan s r q m) ∙ ap (λ (b : Grid). numbers (subStepParams b (moveBy e (planFor s q) (q .dt)))) (same-grid e s r m)
 
 -- what ranks: at no place of the cathode is the second list's value more than 2·K·M / 2 ^ 49 below, and at no place of the anode more than that above
 pub record Ranked (s s' : SpmSolver) (qs qs' : List Call) : Type 0 where
@@ -136,24 +136,24 @@ pub record Ranked (s s' : SpmSolver) (qs qs' : List Call) : Type 0 where
 -- THEOREM 3. Two cells of one make with equal profiles pass the checks; each list keeps the two conditions at both electrodes; the accepted calls, in order, are equally many and
 -- paired: alike in interval and temperature, the second's current no less. Refused calls may stand anywhere in either list.
 pub solver-ranking : (s s' : SpmSolver) (qs qs' : List Call) → cellRefusal s ≡ 0 → cellRefusal s' ≡ 0 → Twins s s'
-    → ((e : Electrode) → KeptAt e s qs) → ((e : Electrode) → KeptAt e s' qs') → Both Paired (taken s qs) (taken s' qs') → Ranked s s' qs qs'
+    → ((e : Electrode) → StepConditionsAt e s qs) → ((e : Electrode) → StepConditionsAt e s' qs') → Both Paired (taken s qs) (taken s' qs') → Ranked s s' qs qs'
 solver-ranking s s' qs qs' h h' w ks ks' ps =
     let v = itself s h in
     let v' = twins-make s s' h h' w in
-    let kept : (e : Electrode) → Each (λ q. Kept (numbersAt e s q)) (taken s' qs') = λ e. each-with (λ q k k'. subst Kept (same-numbers e s s' q (v' .make)) k) (ks' e) (ks' e) in
+    let conditions : (e : Electrode) → Each (λ q. StepConditions (numbersAt e s q)) (taken s' qs') = λ e. each-with (λ q k k'. subst StepConditions (same-numbers e s s' q (v' .make)) k) (ks' e) (ks' e) in
     let m = sized-current Electrode.cathode s s qs v in
     let m' = sized-current Electrode.cathode s s' qs' v' in
     let more : Both (StrongerAt Electrode.cathode s) (taken s qs) (taken s' qs') = both-with (λ q q' k a b. cathode-stronger s h q q' k a b) ps m m' in
     let less : Both (StrongerAt Electrode.anode s) (taken s' qs') (taken s qs) = both-flip (both-with (λ q q' k a b. anode-stronger s h q q' k a b) ps m m') in
-    let same = same-count Electrode.cathode s s s' qs qs' v v' (ks Electrode.cathode) (kept Electrode.cathode) more in
+    let same = same-count Electrode.cathode s s s' qs qs' v v' (ks Electrode.cathode) (conditions Electrode.cathode) more in
     record {
       count = same;
       cathode = λ i l.
           let x = place Electrode.cathode s qs i in
           let y = place Electrode.cathode s' qs' i in
           let M = val (s .cathode .params .«c_s_max») in
-          let z : x ≤F y +F nat 2 *F nat (K s qs) *F M /F pow2 49 = ranked-at Electrode.cathode s s s' qs qs' v v' (ks Electrode.cathode) (kept Electrode.cathode) more (λ k o. ≤F-of-≈F (≈F-sym (w .nodes Electrode.cathode k (subst (λ (n : ℕ). k < n) (nodes-are s h Electrode.cathode) o)))) i (rw (nodes-are s h Electrode.cathode) l) in
+          let z : x ≤F y +F nat 2 *F nat (K s qs) *F M /F pow2 49 = ranked-at Electrode.cathode s s s' qs qs' v v' (ks Electrode.cathode) (conditions Electrode.cathode) more (λ k o. ≤F-of-≈F (≈F-sym (w .nodes Electrode.cathode k (subst (λ (n : ℕ). k < n) (nodes-are s h Electrode.cathode) o)))) i (rw (nodes-are s h Electrode.cathode) l) in
           let d : x -F nat 2 *F nat (K s qs) *F M /F pow2 49 ≤F y = le-by (x ∷ y ∷ nat (K s qs) ∷ M ∷ share ∷ []) 0 (up z) (search quote depth 24) tt in
           d;
-      anode = λ i l. rw (← same) (ranked-at Electrode.anode s s' s qs' qs v' v (kept Electrode.anode) (ks Electrode.anode) less (λ k o. ≤F-of-≈F (w .nodes Electrode.anode k (subst (λ (n : ℕ). k < n) (nodes-are s h Electrode.anode) o))) i (rw (nodes-are s h Electrode.anode) l));
+      anode = λ i l. rw (← same) (ranked-at Electrode.anode s s' s qs' qs v' v (conditions Electrode.anode) (ks Electrode.anode) less (λ k o. ≤F-of-≈F (w .nodes Electrode.anode k (subst (λ (n : ℕ). k < n) (nodes-are s h Electrode.anode) o))) i (rw (nodes-are s h Electrode.anode) l));
     }

@@ -10,8 +10,8 @@ use lib.Ieee.Fits.{add-fits}
 use Rattle.runs.specs.Endings.{byRefusal, endingOf}
 use Rattle.runs.specs.Rows.{runAfter}
 use Rattle.solver.specs.declared.SpmSolver.{SpmSolver}
-use Rattle.discharge_run.specs.declared.Feed.{Feed}
-use Rattle.discharge_run.specs.declared.Run.{Run}
+use Rattle.discharge_run.specs.declared.RunSettings.{RunSettings}
+use Rattle.discharge_run.specs.declared.RunState.{RunState}
 use Rattle.discharge_run.specs.Discharge.{overOf, lastRow, timeOver, overAfter, started, followed, turned, finishedRun, allTurns, runRefusal, refusedRun, discharged}
 use Rattle.solver_laws.specs.Closure.{step-refused, step-clock}
 use Rattle.solver_laws.specs.Clock.{step-again}
@@ -19,7 +19,7 @@ use Rattle.solver_laws.specs.Demand.{answer}
 use Rattle.solver_laws.specs.RunLists.{callOf}
 
 -- going on, by the voltage or by the time
-over-most : (w : Feed) (cutoff : Bool) (clock : Float) → overAfter w cutoff clock ≤ 2
+over-most : (w : RunSettings) (cutoff : Bool) (clock : Float) → overAfter w cutoff clock ≤ 2
 unfolding overAfter
 over-most w true clock = lit≤ tt
 over-most w false clock = go (timeOver w clock)
@@ -36,54 +36,54 @@ ending-other (suc zero) k l e = omega (arith, e)
 ending-other (suc (suc zero)) k l e = omega (arith, e)
 ending-other (suc (suc (suc n))) k l e = omega (arith, l)
 
-module _ (w : Feed) where
+module _ (w : RunSettings) where
   -- a run that has a row is not refused, and its next step is accepted
-  record Course (r : Run) : Type 0 where
+  record RunInvariant (r : RunState) : Type 0 where
     ended : (r .rows ≡ 0 → ⊥) → r .over ≤ 2
     next : (r .rows ≡ 0 → ⊥) → answer (r .solver) (callOf w) .refusal ≡ 0
     clock : T (fits binary64 (r .solver .«time_s»))
 
-  followed-course : (r : Run) (b : Bool) → eqb (answer (r .solver) (callOf w) .refusal) 0 ≡ b → Course r → Course (followed w r (answer (r .solver) (callOf w)))
+  followed-invariant : (r : RunState) (b : Bool) → eqb (answer (r .solver) (callOf w) .refusal) 0 ≡ b → RunInvariant r → RunInvariant (followed w r (answer (r .solver) (callOf w)))
   unfolding followed
-  followed-course r true e c =
+  followed-invariant r true e c =
       let h = eqb-true (answer (r .solver) (callOf w) .refusal) 0 e in
       rw e (record {
         ended = λ n. over-most w _ _;
         next = λ n. step-again (r .solver) (w .«current_a») (w .dt) (w .«temp_k») (c .clock) h;
         clock = rw (step-clock (r .solver) (w .«current_a») (w .dt) (w .«temp_k») h) (add-fits binary64 (r .solver .«time_s») (w .dt));
       })
-  followed-course r false e c =
+  followed-invariant r false e c =
       let n = eqb-false (answer (r .solver) (callOf w) .refusal) 0 e in
       let s = step-refused (r .solver) (w .«current_a») (w .dt) (w .«temp_k») n .0 in
       rw e (record { ended = λ m. absurd (n (c .next m)); next = λ m. absurd (n (c .next m)); clock = rw s (c .clock) })
 
-  turned-course : (r : Run) → Course r → Course (turned w r)
+  turned-invariant : (r : RunState) → RunInvariant r → RunInvariant (turned w r)
   unfolding turned
-  turned-course r c = followed-course r (eqb (answer (r .solver) (callOf w) .refusal) 0) refl c
+  turned-invariant r c = followed-invariant r (eqb (answer (r .solver) (callOf w) .refusal) 0) refl c
 
-  after-course : (k : ℕ) (r : Run) → Course r → Course (runAfter overOf (turned w) lastRow k r)
+  after-invariant : (k : ℕ) (r : RunState) → RunInvariant r → RunInvariant (runAfter overOf (turned w) lastRow k r)
   unfolding runAfter
-  after-course zero r c = c
-  after-course (suc k) r c =
+  after-invariant zero r c = c
+  after-invariant (suc k) r c =
       let a = runAfter overOf (turned w) lastRow k r in
-      let d = after-course k r c in
-      go (eqb (a .over) 0) a (turned w a) d (turned-course a d)
+      let d = after-invariant k r c in
+      go (eqb (a .over) 0) a (turned w a) d (turned-invariant a d)
     where
-      go : (b : Bool) (x y : Run) → Course x → Course y → Course (cond b y x)
+      go : (b : Bool) (x y : RunState) → RunInvariant x → RunInvariant y → RunInvariant (cond b y x)
       go true x y c d = d
       go false x y c d = c
 
-  start-course : (s : SpmSolver) → T (fits binary64 (s .«time_s»)) → Course (started w s)
+  start-invariant : (s : SpmSolver) → T (fits binary64 (s .«time_s»)) → RunInvariant (started w s)
   unfolding started
-  start-course s f = record { ended = λ n. absurd (n refl); next = λ n. absurd (n refl); clock = f }
+  start-invariant s f = record { ended = λ n. absurd (n refl); next = λ n. absurd (n refl); clock = f }
 
   turns-end : (s : SpmSolver) (total : ℕ) → T (fits binary64 (s .«time_s»)) → (allTurns w (started w s) total .rows ≡ 0 → ⊥)
       → allTurns w (started w s) total .ended .ending ≡ byRefusal → ⊥
   unfolding allTurns finishedRun
-  turns-end s total f n e = ending-other _ _ (after-course total (started w s) (start-course s f) .ended n) e
+  turns-end s total f n e = ending-other _ _ (after-invariant total (started w s) (start-invariant s f) .ended n) e
 
 -- A RUN THAT HAS A ROW is not refused. The cell's clock is a number of binary64, as each f64 of a program is.
-pub run-ends : (w : Feed) (s : SpmSolver) (places : ℕ) → T (fits binary64 (s .«time_s»)) → (discharged w s places .rows ≡ 0 → ⊥)
+pub run-ends : (w : RunSettings) (s : SpmSolver) (places : ℕ) → T (fits binary64 (s .«time_s»)) → (discharged w s places .rows ≡ 0 → ⊥)
     → discharged w s places .ended .ending ≡ byRefusal → ⊥
 unfolding discharged
 run-ends w s places f = go (eqb (runRefusal w s places) 0)

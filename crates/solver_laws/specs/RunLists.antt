@@ -10,26 +10,26 @@ use lib.Dec.{eqb}
 use lib.ListN.{replicate}
 use Rattle.fraction.specs.Fraction.{nat, pow2, _-F_, _*F_, _/F_, _within_}
 use Rattle.binary64.specs.Value.{val}
-use Rattle.refusal.specs.Numbers.{firstMet, refusalUnless, grid, sheet, none-met}
-use Rattle.diffusion.specs.Premises.{Kept}
+use Rattle.refusal.specs.Numbers.{firstRefusal, refusalUnless, grid, sheet, neither-refused}
+use Rattle.diffusion.specs.Premises.{StepConditions}
 use Rattle.diffusion.specs.Copies.{each-copies}
 use Rattle.particle.specs.Particle.{placeOf}
 use Rattle.runs.specs.Rows.{runAfter}
 use Rattle.solver.specs.declared.SpmSolver.{SpmSolver}
 use Rattle.solver.specs.Cell.{gridFits, cellFits, cellRefusal}
 use Rattle.solver_plan.specs.Plans.{subStepsOf}
-use Rattle.discharge_run.specs.declared.Feed.{Feed}
-use Rattle.discharge_run.specs.declared.Run.{Run}
-use Rattle.discharge_run.specs.Discharge.{RunSaid, overOf, lastRow, started, followed, turned, finishedRun, allTurns, runRefusal, refusedRun, discharged}
+use Rattle.discharge_run.specs.declared.RunSettings.{RunSettings}
+use Rattle.discharge_run.specs.declared.RunState.{RunState}
+use Rattle.discharge_run.specs.Discharge.{RunOutcome, overOf, lastRow, started, followed, turned, finishedRun, allTurns, runRefusal, refusedRun, discharged}
 use Rattle.solver_laws.specs.Electrodes.{Electrode, particleAt}
 use Rattle.solver_laws.specs.Closure.{step-refused, step-count}
 use Rattle.solver_laws.specs.Demand.{Call, answer, cellAfter, taken, K, planFor, numbersAt, exactPlace, Inv, itself, stays, same-plan, solver-near}
 
 -- ---- what a run feeds each step, and its list of calls: one for each row. A step that is refused ends the run without a row: it leaves the cell as it was, and adds no call.
-abbrev pub callOf : Feed → Call
+abbrev pub callOf : RunSettings → Call
 callOf w = record { current = w .«current_a»; dt = w .dt; temp = w .«temp_k» }
 
-abbrev pub callsOf : Feed → SpmSolver → ℕ → List Call
+abbrev pub callsOf : RunSettings → SpmSolver → ℕ → List Call
 callsOf w s places = replicate (discharged w s places .rows) (callOf w)
 
 -- every call of a list is accepted
@@ -54,13 +54,13 @@ accepted-more zero s q a h = AllAccepted.more h AllAccepted.none
 accepted-more (suc n) s q (AllAccepted.more k a) h = AllAccepted.more k (accepted-more n (answer s q .solver) q a h)
 
 -- ---- the turns of a run
-module _ (w : Feed) (s : SpmSolver) where
+module _ (w : RunSettings) (s : SpmSolver) where
   -- its cell is that after a call for each row, all of them accepted
-  record Listed (r : Run) : Type 0 where
+  record Listed (r : RunState) : Type 0 where
     cell : r .solver ≡ cellAfter s (replicate (r .rows) (callOf w))
     accepted : AllAccepted s (replicate (r .rows) (callOf w))
 
-  followed-listed : (r : Run) (b : Bool) → eqb (answer (r .solver) (callOf w) .refusal) 0 ≡ b → Listed r → Listed (followed w r (answer (r .solver) (callOf w)))
+  followed-listed : (r : RunState) (b : Bool) → eqb (answer (r .solver) (callOf w) .refusal) 0 ≡ b → Listed r → Listed (followed w r (answer (r .solver) (callOf w)))
   unfolding followed
   followed-listed r true e l =
       let h = eqb-true (answer (r .solver) (callOf w) .refusal) 0 e in
@@ -73,15 +73,15 @@ module _ (w : Feed) (s : SpmSolver) where
       let n = eqb-false (answer (r .solver) (callOf w) .refusal) 0 e in
       rw e (record { cell = step-refused (r .solver) (w .«current_a») (w .dt) (w .«temp_k») n .0 ∙ l .cell; accepted = l .accepted })
 
-  turned-listed : (r : Run) → Listed r → Listed (turned w r)
+  turned-listed : (r : RunState) → Listed r → Listed (turned w r)
   unfolding turned
   turned-listed r l = followed-listed r (eqb (answer (r .solver) (callOf w) .refusal) 0) refl l
 
-  either : (b : Bool) (r r' : Run) → Listed r → Listed r' → Listed (cond b r r')
+  either : (b : Bool) (r r' : RunState) → Listed r → Listed r' → Listed (cond b r r')
   either true r r' l l' = l
   either false r r' l l' = l'
 
-  after-listed : (k : ℕ) (r : Run) → Listed r → Listed (runAfter overOf (turned w) lastRow k r)
+  after-listed : (k : ℕ) (r : RunState) → Listed r → Listed (runAfter overOf (turned w) lastRow k r)
   unfolding runAfter
   after-listed zero r l = l
   after-listed (suc k) r l =
@@ -94,7 +94,7 @@ module _ (w : Feed) (s : SpmSolver) where
   start-listed = record { cell = refl; accepted = AllAccepted.none }
 
   -- ---- the whole run
-  record RunListed (r : RunSaid) : Type 0 where
+  record RunListed (r : RunOutcome) : Type 0 where
     cell : r .solver ≡ cellAfter s (replicate (r .rows) (callOf w))
     accepted : AllAccepted s (replicate (r .rows) (callOf w))
 
@@ -115,11 +115,11 @@ module _ (w : Feed) (s : SpmSolver) where
       go false = refused-listed (runRefusal w s places)
 
 -- THE CELL THAT A RUN LEAVES is the cell after one call of `step` for each row; a run that is refused as a whole has no rows
-pub run-is-list : (w : Feed) (s : SpmSolver) (places : ℕ) → discharged w s places .solver ≡ cellAfter s (callsOf w s places)
+pub run-is-list : (w : RunSettings) (s : SpmSolver) (places : ℕ) → discharged w s places .solver ≡ cellAfter s (callsOf w s places)
 run-is-list w s places = discharged-listed w s places .cell
 
 -- and each of them is accepted
-pub run-accepted : (w : Feed) (s : SpmSolver) (places : ℕ) → taken s (callsOf w s places) ≡ callsOf w s places
+pub run-accepted : (w : RunSettings) (s : SpmSolver) (places : ℕ) → taken s (callsOf w s places) ≡ callsOf w s places
 run-accepted w s places = all-taken (discharged-listed w s places .accepted)
 
 -- ---- THEOREM 2 for a run
@@ -132,22 +132,22 @@ all-counted s q (suc n) r v (AllAccepted.more h a) =
     let c = step-count r (q .current) (q .dt) (q .temp) h ∙ ap subStepsOf (same-plan s r q (v .make)) in
     rw (c, all-counted s q n (answer r q .solver) (stays s r q v) a, suc-mul n k) (add-comm k (n * k))
 
-run-tests : (w : Feed) (s : SpmSolver) (places : ℕ) → runRefusal w s places ≡ 0 → (refusalUnless (gridFits s) grid ≡ 0) × (refusalUnless (cellFits s) sheet ≡ 0)
+run-tests : (w : RunSettings) (s : SpmSolver) (places : ℕ) → runRefusal w s places ≡ 0 → (refusalUnless (gridFits s) grid ≡ 0) × (refusalUnless (cellFits s) sheet ≡ 0)
 unfolding runRefusal
-run-tests w s places h = let a = none-met _ _ h in (a .0, none-met _ _ (none-met _ _ (a .1) .1) .0)
+run-tests w s places h = let a = neither-refused _ _ h in (a .0, neither-refused _ _ (neither-refused _ _ (a .1) .1) .0)
 
-run-cell : (w : Feed) (s : SpmSolver) (places : ℕ) → runRefusal w s places ≡ 0 → cellRefusal s ≡ 0
-unfolding cellRefusal firstMet
+run-cell : (w : RunSettings) (s : SpmSolver) (places : ℕ) → runRefusal w s places ≡ 0 → cellRefusal s ≡ 0
+unfolding cellRefusal firstRefusal
 run-cell w s places h = let a = run-tests w s places h in rw (a .0, a .1)
 
 -- Nothing refuses the whole run; at the electrode e its step keeps the two conditions. Then every node of e in the cell that the run leaves is within K·M / 2 ^ 49 of the exact
 -- scheme from the same start over the run's calls, where K = rows · sub-steps of one step.
-pub run-near : (e : Electrode) (w : Feed) (s : SpmSolver) (places : ℕ) → runRefusal w s places ≡ 0 → Kept (numbersAt e s (callOf w)) → (i : ℕ) → i < particleAt e s .«n_nodes»
+pub run-near : (e : Electrode) (w : RunSettings) (s : SpmSolver) (places : ℕ) → runRefusal w s places ≡ 0 → StepConditions (numbersAt e s (callOf w)) → (i : ℕ) → i < particleAt e s .«n_nodes»
     → val (placeOf (particleAt e (discharged w s places .solver)) i) -F exactPlace e s (callsOf w s places) i
     within nat (discharged w s places .rows * subStepsOf (planFor s (callOf w))) *F val (particleAt e s .params .«c_s_max») /F pow2 49
 run-near e w s places h k i l =
     let c = run-cell w s places h in
     let n = discharged w s places .rows in
-    let k' = each-copies (λ q. Kept (numbersAt e s q)) (callOf w) n k in
+    let k' = each-copies (λ q. StepConditions (numbersAt e s q)) (callOf w) n k in
     let near = solver-near e s (callsOf w s places) c (rw (run-accepted w s places) k') i l in
     rw (run-is-list w s places) (rw (all-counted s (callOf w) n s (itself s c) (discharged-listed w s places .accepted)) at near)

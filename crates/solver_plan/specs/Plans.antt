@@ -5,15 +5,15 @@ use mathlib.Core.Bool.{not, _&&_}
 use mathlib.Core.List.{List}
 use lib.Ieee.{Float, lt, neg}
 use Rattle.binary64.specs.Operators.{_⊗_, _⊘_, f64}
-use Rattle.choice.specs.Choice.{minOf}
-use Rattle.choice.specs.Count.{ceilOf}
-use Rattle.refusal.specs.Numbers.{firstMet, refusalUnless, diffusivity, subSteps}
+use Rattle.min_max.specs.MinMax.{minOf}
+use Rattle.min_max.specs.Count.{ceilOf}
+use Rattle.refusal.specs.Numbers.{firstRefusal, refusalUnless, diffusivity, subSteps}
 use Rattle.refusal.specs.Ranges.{inRange}
 use Rattle.electrode.specs.declared.ElectrodeParams.{ElectrodeParams}
 use Rattle.electrode.specs.Sheet.{diffusivityAt}
 use Rattle.particle.specs.declared.ParticleDiffusion.{ParticleDiffusion}
 use Rattle.particle.specs.Particle.{particleOf, stableStep}
-use Rattle.kinetics.specs.Kinetics.{wallCurrent}
+use Rattle.kinetics.specs.Kinetics.{surfaceCurrent}
 use Rattle.solver_plan.specs.declared.Plan.{Plan}
 
 -- an electrode's longest sub-step: dt_stable * 0.45
@@ -32,8 +32,8 @@ planWith a c faraday j dt t =
     record {
       «d_neg» = dNeg;
       «d_pos» = dPos;
-      «j_neg» = neg j ⊘ wallCurrent (a .params) faraday;
-      «j_pos» = j ⊘ wallCurrent (c .params) faraday;
+      «j_neg» = neg j ⊘ surfaceCurrent (a .params) faraday;
+      «j_pos» = j ⊘ surfaceCurrent (c .params) faraday;
       q = quotientWith a c dt dNeg dPos;
     }
 
@@ -44,7 +44,7 @@ PlanOf a n c m faraday j dt t r = (p q : List Float) → r ≡ planWith (particl
 -- corrected D from 1e-20 to 1e-8 in both electrodes; no more than 4,096 sub-steps
 unfoldable pub planRefusal : Plan → ℕ
 planRefusal p =
-    firstMet
+    firstRefusal
     (refusalUnless (inRange (p .«d_neg») (f64 0x3bc7_9ca1_0c92_4223) (f64 0x3e45_798e_e230_8c3a) && inRange (p .«d_pos») (f64 0x3bc7_9ca1_0c92_4223) (f64 0x3e45_798e_e230_8c3a)) diffusivity)
     (refusalUnless (not (lt (f64 0x40b0_0000_0000_0000) (p .q))) subSteps)
 

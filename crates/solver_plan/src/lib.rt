@@ -1,7 +1,7 @@
 // What a step of the single-particle cell works with, and what is refused of it. A changed translation of
 // src/battery/p2d/solver.rs (`step`).
 use electrode::ElectrodeParams;
-use kinetics::wall_current;
+use kinetics::surface_current;
 use particle::stable_step;
 ghost use mathlib.Core.Path.{_≡_};
 ghost use Prim.Native.Nat.{_≤_};
@@ -36,12 +36,12 @@ pub fn plan_for(
     let d_pos = pos.diffusivity_at(temp_k);
     let dt_neg = stable_step(neg, n_neg, d_neg) * 0.45;
     let dt_pos = stable_step(pos, n_pos, d_pos) * 0.45;
-    let dt_use = choice::min(choice::min(dt, dt_neg), dt_pos);
+    let dt_use = min_max::min(min_max::min(dt, dt_neg), dt_pos);
     Plan {
         d_neg,
         d_pos,
-        j_neg: -i_app / wall_current(neg, faraday),
-        j_pos: i_app / wall_current(pos, faraday),
+        j_neg: -i_app / surface_current(neg, faraday),
+        j_pos: i_app / surface_current(pos, faraday),
         q: dt / dt_use,
     }
 }
@@ -52,7 +52,7 @@ pub fn plan_refusal(p: Plan) -> u64
 {
     let within = refusal::within(p.d_neg, 1e-20, 1e-8) & refusal::within(p.d_pos, 1e-20, 1e-8);
     let few = !(p.q > 4096.0);
-    refusal::first_met(
+    refusal::first_refusal(
         refusal::refusal_unless(within, refusal::DIFFUSIVITY),
         refusal::refusal_unless(few, refusal::SUB_STEPS),
     )
@@ -68,5 +68,5 @@ pub fn argument_refusal(current_a: f64, dt: f64, temp_k: f64) -> u64
         refusal::temperature_fits(temp_k),
         refusal::TEMPERATURE,
     );
-    refusal::first_met(load, refusal::first_met(interval, temperature))
+    refusal::first_refusal(load, refusal::first_refusal(interval, temperature))
 }

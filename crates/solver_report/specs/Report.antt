@@ -8,18 +8,18 @@ use Rattle.particle.specs.Particle.{surfaceTheta, surfacePotential, averageThet
 use Rattle.kinetics.specs.declared.SpmConfig.{SpmConfig}
 use Rattle.kinetics.specs.Kinetics.{overpotential, terminalVoltage}
 use Rattle.solver_report.specs.declared.SpmState.{SpmState}
-use Rattle.solver_report.specs.declared.Wall.{Wall}
+use Rattle.solver_report.specs.declared.SurfaceState.{SurfaceState}
 
 -- what a particle shows at its wall: stoichiometries, open-circuit potential, overpotential
-abbrev pub wallOf : SpmConfig → ParticleDiffusion → Float → Float → Wall
-wallOf g p j t = record {
+abbrev pub surfaceState : SpmConfig → ParticleDiffusion → Float → Float → SurfaceState
+surfaceState g p j t = record {
   theta = surfaceTheta p;
   «theta_avg» = averageTheta p;
   potential = surfacePotential p;
   overpotential = overpotential g j p t;
 }
 
-abbrev reportAt : SpmConfig → Wall → Wall → Float → Float → Float → SpmState
+abbrev reportAt : SpmConfig → SurfaceState → SurfaceState → Float → Float → Float → SpmState
 reportAt g a c i time v = record {
   voltage = v;
   current = i;
@@ -32,7 +32,7 @@ reportAt g a c i time v = record {
 }
 
 -- from both walls
-abbrev pub reportWith : SpmConfig → Float → Wall → Wall → Float → Float → SpmState
+abbrev pub reportWith : SpmConfig → Float → SurfaceState → SurfaceState → Float → Float → SpmState
 reportWith g density a c i time =
     reportAt g a c i time
     (terminalVoltage (a .potential) (c .potential) (neg (a .overpotential)) (neg (c .overpotential)) (density ⊗ g .«r_electrolyte_ohm_m2») i)

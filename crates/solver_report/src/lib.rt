@@ -10,7 +10,7 @@ use particle::surface_theta;
 ghost use mathlib.Core.Path.{_≡_};
 ghost use Prim.Native.Nat.{_≤_};
 ghost use Rattle.particle.specs.Particle.{particleOf};
-ghost use Rattle.solver_report.specs.Report.{wallOf, reportWith, finiteWith, noState};
+ghost use Rattle.solver_report.specs.Report.{surfaceState, reportWith, finiteWith, noState};
 
 // What a step reports.
 pub struct SpmState {
@@ -29,8 +29,8 @@ pub struct SpmState {
     pub cutoff: bool,
 }
 
-// What a particle shows at its wall: see `wall_of`.
-pub struct Wall {
+// What a particle shows at its wall: see `surface_state`.
+pub struct SurfaceState {
     pub theta: f64,
     pub theta_avg: f64,
     pub potential: f64,
@@ -55,18 +55,18 @@ pub fn no_state() -> SpmState
 
 // What a particle after the sub-steps shows at its wall: its stoichiometries, there and on average, its open-circuit
 // potential, and the overpotential of its flux.
-pub fn wall_of(
+pub fn surface_state(
     config: SpmConfig,
     params: ElectrodeParams,
     n: usize,
     c: &[f64; 64],
     j_n: f64,
     temp_k: f64,
-) -> Wall
+) -> SurfaceState
     requires { ⌜ (3 ≤ n) × (n ≤ 64) ⌝ }
-    ensures { λ r. ⌜ r ≡ wallOf config (particleOf params n (now (c .entry))) «j_n» «temp_k» ⌝ }
+    ensures { λ r. ⌜ r ≡ surfaceState config (particleOf params n (now (c .entry))) «j_n» «temp_k» ⌝ }
 {
-    Wall {
+    SurfaceState {
         theta: surface_theta(params, n, c),
         potential: surface_potential(params, n, c),
         overpotential: bv_overpotential(config, j_n, params, n, c, temp_k),
@@ -78,8 +78,8 @@ pub fn wall_of(
 pub fn reported(
     config: SpmConfig,
     i_app: f64,
-    neg: Wall,
-    pos: Wall,
+    neg: SurfaceState,
+    pos: SurfaceState,
     current_a: f64,
     time_s: f64,
 ) -> SpmState

@@ -9,10 +9,10 @@ use solver_report::SpmState;
 use solver_report::finite_with;
 use solver_report::no_state;
 use solver_report::reported;
-use solver_report::wall_of;
+use solver_report::surface_state;
 ghost use mathlib.Core.Path.{_≡_};
 ghost use Prim.Native.Nat.{_≤_};
-ghost use Rattle.solver_step.specs.Moves.{refusedMove, lent, followedOn};
+ghost use Rattle.solver_step.specs.Moves.{refusedMove, stepInPlace, followedOn};
 
 // A cell without its profiles.
 pub struct SpmParts {
@@ -25,18 +25,18 @@ pub struct SpmParts {
 }
 
 // What a step on lent profiles answers.
-pub struct SpmMoved {
+pub struct SpmReported {
     pub refusal: u64,
     pub state: SpmState,
     pub sub_steps: u64,
 }
 
 // A step on lent profiles that is refused.
-pub fn refused_move(number: u64) -> SpmMoved
+pub fn refused_move(number: u64) -> SpmReported
     ensures { λ r. ⌜ r ≡ refusedMove number ⌝ }
 {
     let state = no_state();
-    SpmMoved {
+    SpmReported {
         refusal: number,
         state,
         sub_steps: 0,
@@ -52,23 +52,23 @@ pub fn follow(
     current_a: f64,
     dt: f64,
     temp_k: f64,
-) -> SpmMoved
+) -> SpmReported
     requires { ⌜ ((3 ≤ q .«n_neg») × (q .«n_neg» ≤ 64)) × ((3 ≤ q .«n_pos») × (q .«n_pos» ≤ 64)) ⌝ }
-    ensures { λ r. ⌜ lent r (now («c_neg» .exit)) (now («c_pos» .exit)) ≡ followedOn q p (now («c_neg» .entry)) (now («c_pos» .entry)) «current_a» dt «temp_k» ⌝ }
+    ensures { λ r. ⌜ stepInPlace r (now («c_neg» .exit)) (now («c_pos» .exit)) ≡ followedOn q p (now («c_neg» .entry)) (now («c_pos» .entry)) «current_a» dt «temp_k» ⌝ }
 {
-    let turns = choice::ceil_count(p.q);
+    let turns = min_max::ceil_count(p.q);
     let k = turns as usize;
     let h = dt / std::num::nearest_u64_to_f64(turns);
     let neg = advance(q.neg, q.n_neg, *c_neg, p.d_neg, p.j_neg, h, k);
     let pos = advance(q.pos, q.n_pos, *c_pos, p.d_pos, p.j_pos, h, k);
-    let anode = wall_of(q.config, q.neg, q.n_neg, &neg, p.j_neg, temp_k);
-    let cathode = wall_of(q.config, q.pos, q.n_pos, &pos, p.j_pos, temp_k);
+    let anode = surface_state(q.config, q.neg, q.n_neg, &neg, p.j_neg, temp_k);
+    let cathode = surface_state(q.config, q.pos, q.n_pos, &pos, p.j_pos, temp_k);
     let i_app = current_a / q.neg.area;
     let state = reported(q.config, i_app, anode, cathode, current_a, q.time_s + dt);
     if finite_with(profile_finite(&neg) & profile_finite(&pos), state) {
         *c_neg = neg;
         *c_pos = pos;
-        return SpmMoved {
+        return SpmReported {
             refusal: 0,
             state,
             sub_steps: turns,

@@ -9,7 +9,7 @@ use lib.Ieee.Positive.{num, den, den-pos}
 use lib.Ieee.Scale.{round-same}
 use Rattle.fraction.specs.Order.{≤F-refl}
 use Rattle.binary64.specs.Operators.{negative}
-use Rattle.binary64.specs.Held.{own-round}
+use Rattle.binary64.specs.Representable.{own-round}
 use Rattle.square_root.specs.Standard.{natural, Nearest, SquareRoot}
 use Rattle.square_root.proofs.Fractions.{natural-finite, most-val}
 use Rattle.square_root.proofs.Monotone.{nearest-mono}

@@ -7,8 +7,8 @@ use native.Mathlib.Numerals.{add-one}
 use lib.ListN.{getD, set}
 use lib.Ieee.{Float, nan}
 use Rattle.binary64.specs.Operators.{_⊕_}
-use Rattle.turns.specs.Turns.{firstBy, first-above, first-suc}
-use Rattle.sub_step.specs.declared.Drive.{Drive}
+use Rattle.iterate.specs.Iterate.{firstBy, first-above, first-suc}
+use Rattle.sub_step.specs.declared.SubStepCoefficients.{SubStepCoefficients}
 use Rattle.sub_step.specs.SubSteps.{placesOf, movedBy, shellBy, nodeBy, node-shell, surface-last, subStepBy}
 
 -- the centre put back
@@ -16,7 +16,7 @@ pub restored : (l : List Float) (x : Float) → set (set l 0 x) 0 (getD l 0 nan)
 restored [] x = refl
 restored (a ∷ l) x = refl
 
-module _ (v : Drive) (w old : List Float) where
+module _ (v : SubStepCoefficients) (w old : List Float) where
   abbrev pub New : List Float → ℕ → Type 0
   New c i = c ≡ firstBy i (nodeBy v w (placesOf old)) old
 
@@ -33,6 +33,6 @@ module _ (v : Drive) (w old : List Float) where
     pub kept : getD c i nan ≡ getD old (i + 1 - 1) nan
     kept = still c i i e (omega arith) ∙ ap (λ (k : ℕ). getD old k nan) (omega arith)
 
-    pub surface-turn : 2 ≤ v .n → i ≡ v .n - 1 → set c i (movedBy v (getD c i nan) (shellBy v (getD w i nan) before (getD c i nan) (before ⊕ v .push))) ≡ subStepBy v w old
+    pub surface-turn : 2 ≤ v .n → i ≡ v .n - 1 → set c i (movedBy v (getD c i nan) (shellBy v (getD w i nan) before (getD c i nan) (before ⊕ v .«flux_term»))) ≡ subStepBy v w old
     surface-turn h q =
         rw (still c i i e (omega arith), b, q) (surface-last v w old c h (e ∙ ap (λ (k : ℕ). firstBy k (nodeBy v w (placesOf old)) old) q))

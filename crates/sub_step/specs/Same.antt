@@ -9,18 +9,18 @@ use lib.Dec.{ltb, eqb·suc-zero}
 use lib.ListN.{getD, replicate}
 use lib.Ieee.{Float, nan}
 use Rattle.binary64.specs.Operators.{_⊕_, _⊗_, _⊘_, f64, count}
-use Rattle.turns.specs.Turns.{firstBy, first-below, first-cong}
+use Rattle.iterate.specs.Iterate.{firstBy, first-below, first-cong}
 use Rattle.diffusion.specs.SubStep as S
-use Rattle.sub_step.specs.declared.Drive.{Drive}
+use Rattle.sub_step.specs.declared.SubStepCoefficients.{SubStepCoefficients}
 use Rattle.sub_step.specs.SubSteps.{prepared, inverseRadius, inverseRadii, placesOf, movedBy, shellBy, nodeBy, subStepBy}
 
-abbrev pub preparedOf : S.Drive → Drive
+abbrev pub preparedOf : S.SubStepParams → SubStepCoefficients
 preparedOf d = prepared (d .n) (d .dr) (d .d_s) (d .c_max) (d .j_n) (d .dt)
 
-abbrev pub tableOf : S.Drive → List Float
+abbrev pub tableOf : S.SubStepParams → List Float
 tableOf d = inverseRadii (d .n) (d .dr)
 
-module _ (d : S.Drive) (few : d .n ≤ 64) where
+module _ (d : S.SubStepParams) (few : d .n ≤ 64) where
   table-at : (i : ℕ) → i < d .n → getD (tableOf d) i nan ≡ S.two ⊘ (count i ⊗ d .dr)
   unfolding inverseRadii
   table-at i h = first-below (inverseRadius (d .dr)) (replicate 64 (f64 0)) (d .n) i nan h few
@@ -30,7 +30,7 @@ module _ (d : S.Drive) (few : d .n ≤ 64) where
 
   -- the two kinds of nodes that have an outer neighbour
   either : (w : Float) (c : ℕ → Float) (i : ℕ) (b : Bool) → cond b (movedBy (preparedOf d) (c i) (shellBy (preparedOf d) w (c (i - 1)) (c i) (c (i + 1))))
-      (movedBy (preparedOf d) (c i) (shellBy (preparedOf d) w (c (i - 1)) (c i) (c (i - 1) ⊕ preparedOf d .push)))
+      (movedBy (preparedOf d) (c i) (shellBy (preparedOf d) w (c (i - 1)) (c i) (c (i - 1) ⊕ preparedOf d .«flux_term»)))
       ≡ movedBy (preparedOf d) (c i) (shellBy (preparedOf d) w (c (i - 1)) (c i) (outer c i b))
   either w c i true = refl
   either w c i false = refl

@@ -9,20 +9,20 @@ use lib.Dec.{ltb, eqb}
 use lib.ListN.{getD, set, replicate}
 use lib.Ieee.{Float, nan}
 use Rattle.binary64.specs.Operators.{_⊕_, _⊖_, _⊗_, _⊘_, f64, count}
-use Rattle.choice.specs.Choice.{clampOf}
-use Rattle.turns.specs.Turns.{firstBy, first-suc}
+use Rattle.min_max.specs.MinMax.{clampOf}
+use Rattle.iterate.specs.Iterate.{firstBy, first-suc}
 use Rattle.diffusion.specs.SubStep.{two, six}
-use Rattle.sub_step.specs.declared.Drive.{Drive}
+use Rattle.sub_step.specs.declared.SubStepCoefficients.{SubStepCoefficients}
 
 -- n nodes, spacing, diffusivity, the most that a node holds, flux, interval
-abbrev pub prepared : ℕ → Float → Float → Float → Float → Float → Drive
+abbrev pub prepared : ℕ → Float → Float → Float → Float → Float → SubStepCoefficients
 prepared n dr ds cmax j dt = record {
   n = n;
   «d_s» = ds;
   «six_d» = six ⊗ ds;
   «dr_2» = dr ⊗ dr;
   «two_dr» = two ⊗ dr;
-  push = two ⊗ dr ⊗ j ⊘ ds;
+  «flux_term» = two ⊗ dr ⊗ j ⊘ ds;
   «c_max» = cmax;
   dt = dt;
 }
@@ -37,7 +37,7 @@ inverseRadii n dr = firstBy n (inverseRadius dr) (replicate 64 (f64 0))
 abbrev pub placesOf : List Float → ℕ → Float
 placesOf c i = getD c i nan
 
-module _ (v : Drive) where
+module _ (v : SubStepCoefficients) where
   abbrev pub centreBy : Float → Float → Float
   centreBy c0 c1 = v .«six_d» ⊗ (c1 ⊖ c0) ⊘ v .«dr_2»
 
@@ -56,7 +56,7 @@ module _ (v : Drive) where
   shellNode w c i = movedBy (c i) (shellBy (getD w i nan) (c (i - 1)) (c i) (c (i + 1)))
 
   abbrev pub surfaceNode : List Float → (ℕ → Float) → ℕ → Float
-  surfaceNode w c i = movedBy (c i) (shellBy (getD w i nan) (c (i - 1)) (c i) (c (i - 1) ⊕ v .push))
+  surfaceNode w c i = movedBy (c i) (shellBy (getD w i nan) (c (i - 1)) (c i) (c (i - 1) ⊕ v .«flux_term»))
 
   unfoldable pub nodeBy : List Float → (ℕ → Float) → ℕ → Float
   nodeBy w c i = cond (eqb i 0) (centreNode c) (cond (ltb i (v .n - 1)) (shellNode w c i) (surfaceNode w c i))

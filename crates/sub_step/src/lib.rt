@@ -4,11 +4,11 @@
 ghost use mathlib.Core.Path.{_≡_};
 ghost use Prim.Native.Nat.{_≤_, _-_};
 ghost use Rattle.binary64.specs.Operators.{count};
-ghost use Rattle.turns.specs.Turns.{times};
+ghost use Rattle.iterate.specs.Iterate.{times};
 ghost use Rattle.sub_step.specs.SubSteps.{prepared, inverseRadii, centreBy, shellBy, movedBy, subStepBy};
 
 // What does not change within a call.
-pub struct Drive {
+pub struct SubStepCoefficients {
     pub n: usize,
     // The diffusivity, and six times it.
     pub d_s: f64,
@@ -17,22 +17,22 @@ pub struct Drive {
     pub dr_2: f64,
     pub two_dr: f64,
     // What the flux adds to the value beyond the surface.
-    pub push: f64,
+    pub flux_term: f64,
     pub c_max: f64,
     pub dt: f64,
 }
 
 // The numbers of a call, of n nodes with the spacing dr.
-pub fn prepare(n: usize, dr: f64, d_s: f64, c_max: f64, j_n: f64, dt: f64) -> Drive
+pub fn prepare(n: usize, dr: f64, d_s: f64, c_max: f64, j_n: f64, dt: f64) -> SubStepCoefficients
     ensures { λ r. ⌜ r ≡ prepared n dr «d_s» «c_max» «j_n» dt ⌝ }
 {
-    Drive {
+    SubStepCoefficients {
         n,
         d_s,
         six_d: 6.0 * d_s,
         dr_2: dr * dr,
         two_dr: 2.0 * dr,
-        push: 2.0 * dr * j_n / d_s,
+        flux_term: 2.0 * dr * j_n / d_s,
         c_max,
         dt,
     }
@@ -59,14 +59,14 @@ pub fn inverse_radii(n: usize, dr: f64) -> [f64; 64]
 }
 
 // The rate of change at the centre.
-fn centre_rate(v: Drive, c0: f64, c1: f64) -> f64
+fn centre_rate(v: SubStepCoefficients, c0: f64, c1: f64) -> f64
     ensures { λ r. ⌜ r ≡ centreBy v c0 c1 ⌝ }
 {
     v.six_d * (c1 - c0) / v.dr_2
 }
 
 // The rate of change at a node with w = 2 / r, between its neighbours.
-fn shell_rate(v: Drive, w: f64, before: f64, here: f64, after: f64) -> f64
+fn shell_rate(v: SubStepCoefficients, w: f64, before: f64, here: f64, after: f64) -> f64
     ensures { λ r. ⌜ r ≡ shellBy v w before here after ⌝ }
 {
     let d2c = (after - 2.0 * here + before) / v.dr_2;
@@ -75,14 +75,14 @@ fn shell_rate(v: Drive, w: f64, before: f64, here: f64, after: f64) -> f64
 }
 
 // A node after the sub-step.
-fn moved(v: Drive, here: f64, rate: f64) -> f64
+fn moved(v: SubStepCoefficients, here: f64, rate: f64) -> f64
     ensures { λ r. ⌜ r ≡ movedBy v here rate ⌝ }
 {
-    choice::clamp(here + v.dt * rate, 0.0, v.c_max)
+    min_max::clamp(here + v.dt * rate, 0.0, v.c_max)
 }
 
 // A node with w = 2 / r after the sub-step, from itself and its neighbours.
-fn shell_node(v: Drive, w: f64, before: f64, here: f64, after: f64) -> f64
+fn shell_node(v: SubStepCoefficients, w: f64, before: f64, here: f64, after: f64) -> f64
     ensures { λ r. ⌜ r ≡ movedBy v here (shellBy v w before here after) ⌝ }
 {
     moved(v, here, shell_rate(v, w, before, here, after))
@@ -90,7 +90,7 @@ fn shell_node(v: Drive, w: f64, before: f64, here: f64, after: f64) -> f64
 
 // The profile after a sub-step: each node from its old neighbours, of which the one before is kept aside. The flux gives the surface a
 // neighbour outside.
-fn sub_step(v: Drive, w: &[f64; 64], c: [f64; 64]) -> [f64; 64]
+fn sub_step(v: SubStepCoefficients, w: &[f64; 64], c: [f64; 64]) -> [f64; 64]
     requires { ⌜ (3 ≤ v .n) × (v .n ≤ 64) ⌝ }
     ensures { λ r. ⌜ r ≡ subStepBy v (now (w .entry)) c ⌝ }
 {
@@ -103,12 +103,12 @@ fn sub_step(v: Drive, w: &[f64; 64], c: [f64; 64]) -> [f64; 64]
         out[i] = shell_node(v, w[i], before, here, out[i + 1]);
         before = here;
     }
-    out[last] = shell_node(v, w[last], before, out[last], before + v.push);
+    out[last] = shell_node(v, w[last], before, out[last], before + v.flux_term);
     out
 }
 
 // The profile after so many sub-steps.
-pub fn sub_steps(v: Drive, w: &[f64; 64], c: [f64; 64], turns: usize) -> [f64; 64]
+pub fn sub_steps(v: SubStepCoefficients, w: &[f64; 64], c: [f64; 64], turns: usize) -> [f64; 64]
     requires { ⌜ (3 ≤ v .n) × (v .n ≤ 64) ⌝ }
     ensures { λ r. ⌜ r ≡ times turns (subStepBy v (now (w .entry))) c ⌝ }
 {

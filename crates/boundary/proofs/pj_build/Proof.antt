@@ -2,7 +2,7 @@
 use mathlib.Core.Path.{refl}
 use native.Mathlib.Omega.{arith}
 use borrow.Author.Tests.{le-leb, lt-leb}
-use Rattle.boundary.specs.Calls.{met, buildNumber, buildAfter}
+use Rattle.boundary.specs.Calls.{afterLengths, buildReturn, buildAfter}
 use Rattle.boundary.proofs.Answers.{on, off}
 use borrow.Author.Needs.{needs}
 use Rattle.boundary.proofs.pj_build.Statement.{statement}
@@ -12,7 +12,7 @@ is-listed-requires : tie.Need-is-listed-requires
 is-listed-requires c κs = search needs
 
 returns : tie.Need-returns
-unfolding buildNumber buildAfter
+unfolding buildReturn buildAfter
 returns c = rw (← c .before .is-listed .ensures, off (c .before .is-listed .result) (c .if1 .taken)) (refl, refl)
 
 build-length-requires : tie.Need-build-length-requires
@@ -25,7 +25,7 @@ lengths-fit-requires : tie.Need-lengths-fit-requires
 lengths-fit-requires c κs = search needs
 
 returns-2 : tie.Need-returns-2
-unfolding met buildNumber buildAfter
+unfolding afterLengths buildReturn buildAfter
 returns-2 c = rw (← c .before .before .before .before .before .is-listed .ensures, on (c .before .before .before .before .before .is-listed .result) (c .before .before .before .before .if1 .left), ← c .before .before .before .build-length .ensures, ← c .before .before .built-length .ensures, ← c .before .lengths-fit .ensures, off (c .before .lengths-fit .result) (c .if2 .taken)) (refl, refl)
 
 put-ready-requires : tie.Need-put-ready-requires
@@ -35,7 +35,7 @@ same-length : tie.Need-same-length
 same-length c = search needs depth 24
 
 returns-3 : tie.Need-returns-3
-unfolding met buildNumber buildAfter
+unfolding afterLengths buildReturn buildAfter
 returns-3 c = rw (← c .before .before .before .before .before .before .before .before .before .before .is-listed .ensures, on (c .before .before .before .before .before .before .before .before .before .before .is-listed .result) (c .before .before .before .before .before .before .before .before .before .if1 .left), ← c .before .before .before .before .before .before .before .before .build-length .ensures, ← c .before .before .before .before .before .before .before .built-length .ensures, ← c .before .before .before .before .before .before .lengths-fit .ensures, on (c .before .before .before .before .before .before .lengths-fit .result) (c .before .before .before .before .before .if2 .left), le-leb (c .before .before .before .before .before .before .before .before .before .before .before .before .before .args .call) 6 (omega arith)) (refl, c .before .before .put-ready .ensures)
 
 put-new-requires : tie.Need-put-new-requires
@@ -45,7 +45,7 @@ same-length-2 : tie.Need-same-length-2
 same-length-2 c = search needs depth 24
 
 returns-4 : tie.Need-returns-4
-unfolding met buildNumber buildAfter
+unfolding afterLengths buildReturn buildAfter
 returns-4 c = rw (← c .before .before .before .before .before .before .before .before .before .before .is-listed .ensures, on (c .before .before .before .before .before .before .before .before .before .before .is-listed .result) (c .before .before .before .before .before .before .before .before .before .if1 .left), ← c .before .before .before .before .before .before .before .before .build-length .ensures, ← c .before .before .before .before .before .before .before .built-length .ensures, ← c .before .before .before .before .before .before .lengths-fit .ensures, on (c .before .before .before .before .before .before .lengths-fit .result) (c .before .before .before .before .before .if2 .left), lt-leb (c .before .before .before .before .before .before .before .before .before .before .before .before .before .args .call) 6 (omega arith)) (c .before .before .put-new .ensures)
 
 pub pj-build-spec : {M : Type 1} → statement M

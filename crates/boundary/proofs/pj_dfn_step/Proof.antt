@@ -1,6 +1,6 @@
 -- `boundary::pj_dfn_step` meets its contract. Assumes nothing.
 use mathlib.Core.Path.{refl}
-use Rattle.boundary.specs.Calls.{met, dfnNumber, dfnAfter}
+use Rattle.boundary.specs.Calls.{afterLengths, dfnReturn, dfnAfter}
 use Rattle.boundary.proofs.Answers.{on, off}
 use borrow.Author.Needs.{needs}
 use Rattle.boundary.proofs.pj_dfn_step.Statement.{statement}
@@ -10,7 +10,7 @@ lengths-fit-requires : tie.Need-lengths-fit-requires
 lengths-fit-requires c κs = search needs
 
 returns : tie.Need-returns
-unfolding met dfnNumber dfnAfter
+unfolding afterLengths dfnReturn dfnAfter
 returns c = rw (← c .before .lengths-fit .ensures, off (c .before .lengths-fit .result) (c .if1 .taken)) (refl, refl)
 
 dfn-step-requires : tie.Need-dfn-step-requires
@@ -20,7 +20,7 @@ same-length : tie.Need-same-length
 same-length c = search needs depth 24
 
 returns-2 : tie.Need-returns-2
-unfolding met dfnNumber dfnAfter
+unfolding afterLengths dfnReturn dfnAfter
 returns-2 c = rw (← c .before .before .before .before .before .lengths-fit .ensures, on (c .before .before .before .before .before .lengths-fit .result) (c .before .before .before .before .if1 .left)) (c .before .before .dfn-step .ensures)
 
 pub pj-dfn-step-spec : {M : Type 1} → statement M

@@ -1,7 +1,7 @@
 -- `boundary::pj_simulate_discharge` meets its contract. Assumes nothing.
 use mathlib.Core.Path.{refl}
-use Rattle.boundary.specs.Calls.{met}
-use Rattle.boundary.specs.Runs.{dischargeNumber, dischargeRows, dischargeAfter}
+use Rattle.boundary.specs.Calls.{afterLengths}
+use Rattle.boundary.specs.Runs.{dischargeReturn, dischargeRows, dischargeAfter}
 use Rattle.boundary.proofs.Answers.{on, off}
 use borrow.Author.Needs.{needs}
 use Rattle.boundary.proofs.pj_simulate_discharge.Statement.{statement}
@@ -11,7 +11,7 @@ lengths-fit-requires : tie.Need-lengths-fit-requires
 lengths-fit-requires c κs = search needs
 
 returns : tie.Need-returns
-unfolding met dischargeNumber dischargeRows dischargeAfter
+unfolding afterLengths dischargeReturn dischargeRows dischargeAfter
 returns c = rw (← c .before .lengths-fit .ensures, off (c .before .lengths-fit .result) (c .if1 .taken)) (refl, (refl, refl))
 
 simulate-discharge-requires : tie.Need-simulate-discharge-requires
@@ -24,7 +24,7 @@ same-length-2 : tie.Need-same-length-2
 same-length-2 c = search needs depth 24
 
 returns-2 : tie.Need-returns-2
-unfolding met dischargeNumber dischargeRows dischargeAfter
+unfolding afterLengths dischargeReturn dischargeRows dischargeAfter
 returns-2 c = rw (← c .before .before .before .before .before .before .before .before .lengths-fit .ensures, on (c .before .before .before .before .before .before .before .before .lengths-fit .result) (c .before .before .before .before .before .before .before .if1 .left)) (c .before .before .before .before .simulate-discharge .ensures)
 
 pub pj-simulate-discharge-spec : {M : Type 1} → statement M

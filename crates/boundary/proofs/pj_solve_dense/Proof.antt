@@ -4,13 +4,13 @@ use borrow.Author.Tests.{eq-eqb, ne-eqb}
 use Rattle.dense.specs.declared.Solved.{Solved}
 use Rattle.codec.specs.Words.{putRow}
 use Rattle.image_rows.specs.Written.{accepted, refused}
-use Rattle.boundary.specs.Calls.{met, denseNumber, denseAfter}
+use Rattle.boundary.specs.Calls.{afterLengths, denseReturn, denseAfter}
 use borrow.Author.Needs.{needs}
 use Rattle.boundary.proofs.pj_solve_dense.Statement.{statement}
 use Rattle.boundary.proofs.pj_solve_dense.Tie as tie
 
 returns : tie.Need-returns
-unfolding met denseNumber denseAfter
+unfolding afterLengths denseReturn denseAfter
 returns c = rw (ne-eqb _ _ (c .if1 .taken)) (refl, refl)
 
 solve-dense-requires : tie.Need-solve-dense-requires
@@ -23,7 +23,7 @@ same-length : tie.Need-same-length
 same-length c = c .before .before .write-places .kept .0
 
 returns-2 : tie.Need-returns-2
-unfolding met denseNumber denseAfter
+unfolding afterLengths denseReturn denseAfter
 returns-2 c =
     let called = c .before .before .before .before .before .before .before .before in
     rw (eq-eqb _ _ (called .before .if1 .left))
@@ -31,7 +31,7 @@ returns-2 c =
     (called .solve-dense .ensures) _ (c .before .before .before .before .before .before .before .if2 .taken) (c .before .before .write-places .ensures))
 
 returns-3 : tie.Need-returns-3
-unfolding met denseNumber denseAfter
+unfolding afterLengths denseReturn denseAfter
 returns-3 c =
     let called = c .before in
     rw (eq-eqb _ _ (called .before .if1 .left))

@@ -13,8 +13,8 @@ fill-64-requires c κs = search needs
 fill-64-requires-2 : tie.Need-fill-64-requires-2
 fill-64-requires-2 c κs = search needs
 
-step-lent-requires : tie.Need-step-lent-requires
-step-lent-requires c κs = search needs
+step-in-place-requires : tie.Need-step-in-place-requires
+step-in-place-requires c κs = search needs
 
 put-stepped-requires : tie.Need-put-stepped-requires
 put-stepped-requires c κs = search needs
@@ -26,14 +26,14 @@ returns : tie.Need-returns
 returns c =
     let a = c .before .before .before .before .before .before .before .before .before .before .before .before .before .before .before .before .before .before .before .args in
     cell-taken (a .cell .now) (a .answer .now) (a .current-a) (a .dt) (a .temp-k)
-    (c .before .before .before .before .before .before .before .before .before .before .before .before .before .before .before .before .parts-at .result) _ _ (c .before .before .before .before .before .before .before .before .before .before .before .before .before .before .before .before .parts-at .ensures) (c .before .before .before .before .before .before .before .before .before .before .before .before .before .before .fill-64 .ensures) (c .before .before .before .before .before .before .before .before .before .before .before .before .fill-642 .ensures) (c .before .before .before .before .before .before .before .before .before .step-lent .result) _ _ (c .before .before .before .before .before .before .before .before .before .step-lent .ensures)
+    (c .before .before .before .before .before .before .before .before .before .before .before .before .before .before .before .before .parts-at .result) _ _ (c .before .before .before .before .before .before .before .before .before .before .before .before .before .before .before .before .parts-at .ensures) (c .before .before .before .before .before .before .before .before .before .before .before .before .before .before .fill-64 .ensures) (c .before .before .before .before .before .before .before .before .before .before .before .before .fill-642 .ensures) (c .before .before .before .before .before .before .before .before .before .step-in-place .result) _ _ (c .before .before .before .before .before .before .before .before .before .step-in-place .ensures)
     _ (c .before .before .before .before .before .before .before .before .if1 .taken) (c .before .before .put-stepped .ensures)
 
 returns-2 : tie.Need-returns-2
 returns-2 c =
     let a = c .before .before .before .before .before .before .before .before .before .before .before .args in
     cell-left (a .cell .now) (a .answer .now) (a .current-a) (a .dt) (a .temp-k)
-    (c .before .before .before .before .before .before .before .before .parts-at .result) _ _ (c .before .before .before .before .before .before .before .before .parts-at .ensures) (c .before .before .before .before .before .before .fill-64 .ensures) (c .before .before .before .before .fill-642 .ensures) (c .before .step-lent .result) _ _ (c .before .step-lent .ensures)
+    (c .before .before .before .before .before .before .before .before .parts-at .result) _ _ (c .before .before .before .before .before .before .before .before .parts-at .ensures) (c .before .before .before .before .before .before .fill-64 .ensures) (c .before .before .before .before .fill-642 .ensures) (c .before .step-in-place .result) _ _ (c .before .step-in-place .ensures)
     (c .if1 .left)
 
 pub cell-step-spec : {M : Type 1} → statement M
@@ -43,7 +43,7 @@ cell-step-spec =
     parts-at-requires
     fill-64-requires
     fill-64-requires-2
-    step-lent-requires
+    step-in-place-requires
     put-stepped-requires
     same-length
     returns

@@ -2,7 +2,7 @@
 use Rattle.particle.specs.declared.ParticleAnswer.{ParticleAnswer}
 use Rattle.image_rows.specs.Written.{accepted, refused}
 use Rattle.sheet_images.specs.Images.{putParticle}
-use Rattle.cell_calls.specs.Steps.{particleNumber, particleAfter}
+use Rattle.cell_calls.specs.Steps.{particleReturn, particleAfter}
 use borrow.Author.Needs.{needs}
 use Rattle.cell_calls.proofs.particle_step.Statement.{statement}
 use Rattle.cell_calls.proofs.particle_step.Tie as tie
@@ -20,11 +20,11 @@ same-length : tie.Need-same-length
 same-length c = c .before .before .put-particle .kept .0
 
 returns : tie.Need-returns
-unfolding particleNumber particleAfter
+unfolding particleReturn particleAfter
 returns c = accepted (λ (t : ParticleAnswer). t .refusal) (λ (t : ParticleAnswer). putParticle (c .before .before .before .before .before .before .before .before .before .before .args .answer .now) 0 (t .particle)) _ _ _ (rw (c .before .before .before .before .before .before .before .particle-at .ensures) at (c .before .before .before .before .before .before .step .ensures)) _ (c .before .before .before .before .before .if1 .taken) (c .before .before .put-particle .ensures)
 
 returns-2 : tie.Need-returns-2
-unfolding particleNumber particleAfter
+unfolding particleReturn particleAfter
 returns-2 c = refused (λ (t : ParticleAnswer). t .refusal) (λ (t : ParticleAnswer). putParticle (c .before .before .before .before .before .args .answer .now) 0 (t .particle)) _ _ _ (rw (c .before .before .particle-at .ensures) at (c .before .step .ensures)) (c .if1 .left)
 
 pub particle-step-spec : {M : Type 1} → statement M

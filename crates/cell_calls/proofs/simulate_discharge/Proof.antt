@@ -1,10 +1,10 @@
 -- `cell_calls::simulate_discharge` meets its contract. Assumes nothing.
 use mathlib.Core.Path.{_∙_}
-use Rattle.runs.specs.Told.{run-told, run-kept}
-use Rattle.discharge_run.specs.Discharge.{RunSaid}
+use Rattle.runs.specs.RunAnswers.{run-written, run-kept}
+use Rattle.discharge_run.specs.Discharge.{RunOutcome}
 use Rattle.cell_images.specs.Images.{putCell}
 use Rattle.image_rows.specs.Written.{putEnding}
-use Rattle.cell_calls.specs.Runs.{dischargeNumber, dischargeRows, dischargeAfter}
+use Rattle.cell_calls.specs.Runs.{dischargeReturn, dischargeRows, dischargeAfter}
 use borrow.Author.Needs.{needs}
 use Rattle.cell_calls.proofs.simulate_discharge.Statement.{statement}
 use Rattle.cell_calls.proofs.simulate_discharge.Tie as tie
@@ -34,10 +34,10 @@ same-length-2 : tie.Need-same-length-2
 same-length-2 c = search needs depth 24
 
 returns : tie.Need-returns
-unfolding dischargeNumber dischargeRows dischargeAfter
+unfolding dischargeReturn dischargeRows dischargeAfter
 returns c =
     let p =
-    run-told (λ (t : RunSaid). t .ended .refusal) (λ (t : RunSaid). t .rows) (λ (t : RunSaid). putEnding (putCell (c .before .before .before .before .before .before .before .before .before .before .before .before .before .before .before .before .before .before .before .before .args .answer .now) (t .solver)) 157 (t .ended .ending) (t .rows)) _ _ _
+    run-written (λ (t : RunOutcome). t .ended .refusal) (λ (t : RunOutcome). t .rows) (λ (t : RunOutcome). putEnding (putCell (c .before .before .before .before .before .before .before .before .before .before .before .before .before .before .before .before .before .before .before .before .args .answer .now) (t .solver)) 157 (t .ended .ending) (t .rows)) _ _ _
     (rw (c .before .before .before .before .before .before .before .before .before .before .before .before .before .before .before .before .cell-at .ensures) at (c .before .before .before .before .before .before .before .before .before .before .before .before .before .before .simulate-discharge .ensures .0))
     _ (rw (c .before .before .before .before .before .before .before .before .before .before .before .ending-refusal .ensures) at (c .before .before .before .before .before .before .before .before .before .before .if1 .taken)) (rw (c .before .before .before .before .before .before .before .put-cell .ensures, c .before .before .before .ending-number .ensures) at (c .before .before .put-ending .ensures)) in
     (c .before .before .before .before .before .before .before .before .before .before .before .ending-refusal .ensures ∙ p .0, (rw (c .before .before .before .before .before .before .before .before .before .before .before .before .before .before .before .before .cell-at .ensures) at (c .before .before .before .before .before .before .before .before .before .before .before .before .before .before .simulate-discharge .ensures .1), p .1))
@@ -46,10 +46,10 @@ same-length-3 : tie.Need-same-length-3
 same-length-3 c = search needs depth 24
 
 returns-2 : tie.Need-returns-2
-unfolding dischargeNumber dischargeRows dischargeAfter
+unfolding dischargeReturn dischargeRows dischargeAfter
 returns-2 c =
     let p =
-    run-kept (λ (t : RunSaid). t .ended .refusal) (λ (t : RunSaid). t .rows) (λ (t : RunSaid). putEnding (putCell (c .before .before .before .before .before .before .before .before .before .before .args .answer .now) (t .solver)) 157 (t .ended .ending) (t .rows)) _ _ _
+    run-kept (λ (t : RunOutcome). t .ended .refusal) (λ (t : RunOutcome). t .rows) (λ (t : RunOutcome). putEnding (putCell (c .before .before .before .before .before .before .before .before .before .before .args .answer .now) (t .solver)) 157 (t .ended .ending) (t .rows)) _ _ _
     (rw (c .before .before .before .before .before .before .cell-at .ensures) at (c .before .before .before .before .simulate-discharge .ensures .0))
     (rw (c .before .ending-refusal .ensures) at (c .if1 .left)) in
     (c .before .ending-refusal .ensures ∙ p .0, (rw (c .before .before .before .before .before .before .cell-at .ensures) at (c .before .before .before .before .simulate-discharge .ensures .1), p .1))

@@ -5,7 +5,7 @@ use native.Mathlib.Omega.{arith}
 use native.Mathlib.Numerals.{add-one}
 use lib.ListN.{length}
 use borrow.Author.Needs.{needs}
-use Rattle.turns.specs.Turns.{allBelow}
+use Rattle.iterate.specs.Iterate.{allBelow}
 use Rattle.matrix_rows.specs.Places.{firstFinite, allFinite}
 use Rattle.dense.proofs.entries_finite.Statement.{statement}
 use Rattle.dense.proofs.entries_finite.Tie as tie

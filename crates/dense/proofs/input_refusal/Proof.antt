@@ -9,7 +9,7 @@ use lib.ListN.{length}
 use lib.Ieee.{Float}
 use borrow.Author.Needs.{needs}
 use borrow.Author.Tests.{le-leb, lt-leb, not-true, not-false}
-use Rattle.refusal.specs.Numbers.{grid, sheet, badLength, refusalUnless, firstMet}
+use Rattle.refusal.specs.Numbers.{grid, sheet, badLength, refusalUnless, firstRefusal}
 use Rattle.matrix_rows.specs.Places.{allFinite}
 use Rattle.dense.specs.Solve.{inputRefusal}
 use Rattle.dense.proofs.Sizes.{square-fits}
@@ -19,15 +19,15 @@ use Rattle.dense.proofs.input_refusal.Tie as tie
 -- which number it is, by the tests in their order
 module _ (a b : List Float) (n : ℕ) where
   too-many : 32 < n → inputRefusal a b n ≡ grid
-  unfolding inputRefusal refusalUnless firstMet
+  unfolding inputRefusal refusalUnless firstRefusal
   too-many h = rw (lt-leb n 32 h)
 
   wrong-length : n ≤ 32 → (eqb (length a) (n * n) && eqb (length b) n) ≡ false → inputRefusal a b n ≡ badLength
-  unfolding inputRefusal refusalUnless firstMet
+  unfolding inputRefusal refusalUnless firstRefusal
   wrong-length h e = rw (le-leb n 32 h, e)
 
   by-entries : n ≤ 32 → (eqb (length a) (n * n) && eqb (length b) n) ≡ true → inputRefusal a b n ≡ refusalUnless (allFinite a && allFinite b) sheet
-  unfolding inputRefusal refusalUnless firstMet
+  unfolding inputRefusal refusalUnless firstRefusal
   by-entries h e = rw (le-leb n 32 h, e)
 
 returns : tie.Need-returns

@@ -4,7 +4,7 @@ use mathlib.Core.Path.{_≡_, refl}
 use native.Mathlib.Omega.{arith}
 use native.Mathlib.Numerals.{add-one}
 use borrow.Author.Needs.{needs}
-use Rattle.turns.specs.Turns.{firstBy}
+use Rattle.iterate.specs.Iterate.{firstBy}
 use Rattle.matrix_rows.specs.Places.{at}
 use Rattle.dense.proofs.load_side.Statement.{statement}
 use Rattle.dense.proofs.load_side.Tie as tie

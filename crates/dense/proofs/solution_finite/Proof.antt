@@ -4,7 +4,7 @@ use mathlib.Core.Path.{_≡_, refl}
 use native.Mathlib.Omega.{arith}
 use native.Mathlib.Numerals.{add-one}
 use borrow.Author.Needs.{needs}
-use Rattle.turns.specs.Turns.{allBelow}
+use Rattle.iterate.specs.Iterate.{allBelow}
 use Rattle.matrix_rows.specs.Places.{firstFinite}
 use Rattle.dense.proofs.solution_finite.Statement.{statement}
 use Rattle.dense.proofs.solution_finite.Tie as tie

@@ -1,7 +1,7 @@
 -- `dense::solve_fit` meets its contract. Assumes nothing.
 use borrow.Author.Needs.{needs}
 use borrow.Author.Tests.{ne-eqb}
-use Rattle.refusal.specs.Numbers.{firstMet}
+use Rattle.refusal.specs.Numbers.{firstRefusal}
 use Rattle.dense.specs.Solve.{loaded, reduced, solution, solutionRefusal, answer}
 use Rattle.dense.proofs.solve_fit.Statement.{statement}
 use Rattle.dense.proofs.solve_fit.Tie as tie
@@ -19,7 +19,7 @@ answer-requires : tie.Need-answer-requires
 answer-requires c κs = search needs
 
 returns : tie.Need-returns
-unfolding solutionRefusal reduced loaded firstMet answer
+unfolding solutionRefusal reduced loaded firstRefusal answer
 returns c = rw (← c .before .before .before .before .before .before .before .load-matrix .ensures, ← c .before .before .before .before .before .load-side .ensures, ← c .before .before .eliminate .ensures, ne-eqb _ _ (c .before .if1 .taken), c .answer .ensures, ne-eqb _ _ (c .before .if1 .taken))
 
 substitute-requires : tie.Need-substitute-requires
@@ -31,15 +31,15 @@ solution-finite-requires c κs = search needs
 refusal-unless-requires : tie.Need-refusal-unless-requires
 refusal-unless-requires c κs = search needs
 
-first-met-requires : tie.Need-first-met-requires
-first-met-requires c κs = search needs
+first-refusal-requires : tie.Need-first-refusal-requires
+first-refusal-requires c κs = search needs
 
 answer-requires-2 : tie.Need-answer-requires-2
 answer-requires-2 c κs = search needs
 
 returns-2 : tie.Need-returns-2
-unfolding solutionRefusal solution reduced loaded firstMet
-returns-2 c = rw (← c .before .before .before .before .before .before .before .before .before .before .before .before .before .before .load-matrix .ensures, ← c .before .before .before .before .before .before .before .before .before .before .before .before .load-side .ensures, ← c .before .before .before .before .before .before .before .before .before .eliminate .ensures, c .before .before .before .before .before .before .before .before .if1 .left, ← c .before .before .before .before .before .substitute .ensures, c .answer2 .ensures, c .before .first-met .ensures, c .before .before .refusal-unless .ensures, c .before .before .before .solution-finite .ensures)
+unfolding solutionRefusal solution reduced loaded firstRefusal
+returns-2 c = rw (← c .before .before .before .before .before .before .before .before .before .before .before .before .before .before .load-matrix .ensures, ← c .before .before .before .before .before .before .before .before .before .before .before .before .load-side .ensures, ← c .before .before .before .before .before .before .before .before .before .eliminate .ensures, c .before .before .before .before .before .before .before .before .if1 .left, ← c .before .before .before .before .before .substitute .ensures, c .answer2 .ensures, c .before .first-refusal .ensures, c .before .before .refusal-unless .ensures, c .before .before .before .solution-finite .ensures)
 
 pub solve-fit-spec : {M : Type 1} → statement M
 solve-fit-spec =
@@ -53,6 +53,6 @@ solve-fit-spec =
     substitute-requires
     solution-finite-requires
     refusal-unless-requires
-    first-met-requires
+    first-refusal-requires
     answer-requires-2
     returns-2)

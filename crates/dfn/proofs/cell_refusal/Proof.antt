@@ -1,7 +1,7 @@
 -- `dfn::cell_refusal` meets its contract. Assumes nothing.
 use borrow.Author.Tests.{not-true, not-false}
 use native.Mathlib.Omega.{arith}
-use Rattle.refusal.specs.Numbers.{refusalUnless, firstMet}
+use Rattle.refusal.specs.Numbers.{refusalUnless, firstRefusal}
 use Rattle.dfn_solid.specs.Room.{room}
 use Rattle.dfn.specs.Checks.{grid-of}
 use borrow.Author.Needs.{needs}
@@ -12,7 +12,7 @@ grid-fits-requires : tie.Need-grid-fits-requires
 grid-fits-requires c κs = search needs
 
 returns : tie.Need-returns
-unfolding firstMet refusalUnless
+unfolding firstRefusal refusalUnless
 returns c = rw (← c .before .grid-fits .ensures, not-true (c .before .grid-fits .result) (c .if1 .taken))
 
 fit-requires : tie.Need-fit-requires
@@ -55,7 +55,7 @@ refusal-unless-requires : tie.Need-refusal-unless-requires
 refusal-unless-requires c κs = search needs
 
 returns-2 : tie.Need-returns-2
-unfolding firstMet refusalUnless
+unfolding firstRefusal refusalUnless
 returns-2 c = rw (← c .before .before .before .before .before .before .before .before .before .before .before .before .grid-fits .ensures, not-false (c .before .before .before .before .before .before .before .before .before .before .before .before .grid-fits .result) (c .before .before .before .before .before .before .before .before .before .before .before .if1 .left), c .refusal-unless .ensures, c .before .before .before .before .before .before .before .before .before .before .fit .ensures, c .before .before .before .before .before .before .before .before .before .limits-fit .ensures, c .before .before .before .before .before .before .before .solid-fits .ensures, c .before .before .before .before .before .solid-fits2 .ensures, c .before .before .electrolyte-fits .ensures, c .before .clock-fits .ensures)
 
 pub cell-refusal-spec : {M : Type 1} → statement M

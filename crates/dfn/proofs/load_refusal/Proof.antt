@@ -15,11 +15,11 @@ interval-fits-requires c κs = search needs
 refusal-unless-requires-2 : tie.Need-refusal-unless-requires-2
 refusal-unless-requires-2 c κs = search needs
 
-first-met-requires : tie.Need-first-met-requires
-first-met-requires c κs = search needs
+first-refusal-requires : tie.Need-first-refusal-requires
+first-refusal-requires c κs = search needs
 
 returns : tie.Need-returns
-returns c = rw (c .first-met .ensures, c .before .refusal-unless2 .ensures, c .before .before .interval-fits .ensures, c .before .before .before .refusal-unless .ensures, c .before .before .before .before .load-fits .ensures)
+returns c = rw (c .first-refusal .ensures, c .before .refusal-unless2 .ensures, c .before .before .interval-fits .ensures, c .before .before .before .refusal-unless .ensures, c .before .before .before .before .load-fits .ensures)
 
 pub load-refusal-spec : {M : Type 1} → statement M
 load-refusal-spec =
@@ -29,5 +29,5 @@ load-refusal-spec =
     refusal-unless-requires
     interval-fits-requires
     refusal-unless-requires-2
-    first-met-requires
+    first-refusal-requires
     returns)

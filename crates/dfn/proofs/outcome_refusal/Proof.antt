@@ -24,21 +24,21 @@ is-finite-requires-3 c κs = search needs
 is-finite-requires-4 : tie.Need-is-finite-requires-4
 is-finite-requires-4 c κs = search needs
 
-first-met-requires : tie.Need-first-met-requires
-first-met-requires c κs = search needs
+first-refusal-requires : tie.Need-first-refusal-requires
+first-refusal-requires c κs = search needs
 
 refusal-unless-requires : tie.Need-refusal-unless-requires
 refusal-unless-requires c κs = search needs
 
-first-met-requires-2 : tie.Need-first-met-requires-2
-first-met-requires-2 c κs = search needs
+first-refusal-requires-2 : tie.Need-first-refusal-requires-2
+first-refusal-requires-2 c κs = search needs
 
 returns : tie.Need-returns
 returns c =
     let tests = c .before .before .before in
     rw (
-      c .first-met2 .ensures,
-      c .before .before .first-met .ensures,
+      c .first-refusal2 .ensures,
+      c .before .before .first-refusal .ensures,
       c .before .refusal-unless .ensures,
       tests .is-finite4 .ensures,
       tests .before .is-finite3 .ensures,
@@ -58,7 +58,7 @@ outcome-refusal-spec =
     is-finite-requires-2
     is-finite-requires-3
     is-finite-requires-4
-    first-met-requires
+    first-refusal-requires
     refusal-unless-requires
-    first-met-requires-2
+    first-refusal-requires-2
     returns)

@@ -5,8 +5,8 @@ use mathlib.Core.Path.{_≡_, refl}
 use native.Mathlib.Omega.{arith}
 use native.Mathlib.Numerals.{add-one}
 use Rattle.binary64.specs.Operators.{f64}
-use Rattle.choice.specs.Choice.{clampOf}
-use Rattle.turns.specs.Turns.{firstBy}
+use Rattle.min_max.specs.MinMax.{clampOf}
+use Rattle.iterate.specs.Iterate.{firstBy}
 use Rattle.dfn_electrolyte.specs.Electrolyte.{nodeWith, nodesWith}
 use borrow.Author.Needs.{needs}
 use Rattle.dfn_electrolyte.proofs.nodes.Statement.{statement}

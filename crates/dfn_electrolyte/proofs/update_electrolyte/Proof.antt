@@ -23,8 +23,8 @@ pore-flux-requires-2 c κs = search needs
 region-of-requires-2 : tie.Need-region-of-requires-2
 region-of-requires-2 c κs = search needs
 
-salt-of-requires : tie.Need-salt-of-requires
-salt-of-requires c κs = search needs
+diffusivity-params-requires : tie.Need-diffusivity-params-requires
+diffusivity-params-requires c κs = search needs
 
 add-diffusivities : tie.Need-add-diffusivities
 add-diffusivities c = omega arith
@@ -40,7 +40,7 @@ nodes-requires c κs = rw (c .before .before .before .before .before .region-of 
 
 returns : tie.Need-returns
 unfolding electrolyteAfter
-returns c = rw (c .nodes .ensures, c .before .before .diffusivities .ensures, c .before .before .before .salt-of .ensures, c .before .before .before .before .region-of2 .ensures, c .before .before .before .before .before .before .region-of .ensures, c .before .before .before .before .before .pore-flux2 .ensures, c .before .before .before .before .before .before .before .pore-flux .ensures, c .before .before .before .before .before .before .before .before .cathode .ensures, c .before .before .before .before .before .before .before .before .before .anode .ensures)
+returns c = rw (c .nodes .ensures, c .before .before .diffusivities .ensures, c .before .before .before .diffusivity-params .ensures, c .before .before .before .before .region-of2 .ensures, c .before .before .before .before .before .before .region-of .ensures, c .before .before .before .before .before .pore-flux2 .ensures, c .before .before .before .before .before .before .before .pore-flux .ensures, c .before .before .before .before .before .before .before .before .cathode .ensures, c .before .before .before .before .before .before .before .before .before .anode .ensures)
 
 pub update-electrolyte-spec : {M : Type 1} → statement M
 update-electrolyte-spec =
@@ -52,7 +52,7 @@ update-electrolyte-spec =
     region-of-requires
     pore-flux-requires-2
     region-of-requires-2
-    salt-of-requires
+    diffusivity-params-requires
     add-diffusivities
     add-diffusivities-2
     diffusivities-requires

@@ -6,7 +6,7 @@ use Prim.Native.Nat.{_≤_, _-_}
 use mathlib.Core.Path.{_≡_, refl}
 use native.Mathlib.Omega.{arith}
 use native.Mathlib.Numerals.{add-one}
-use Rattle.turns.specs.Turns.{allBelow}
+use Rattle.iterate.specs.Iterate.{allBelow}
 use Rattle.dfn_parameters.specs.Ranges.{coefficientFits, coefficientsFit}
 use borrow.Author.Needs.{needs}
 use Rattle.dfn_parameters.proofs.coefficients_fit.Statement.{statement}

@@ -5,7 +5,7 @@ use mathlib.Core.Path.{_≡_, refl}
 use native.Mathlib.Omega.{arith}
 use native.Mathlib.Numerals.{add-one}
 use Rattle.binary64.specs.Operators.{f64}
-use Rattle.turns.specs.Turns.{allBelow}
+use Rattle.iterate.specs.Iterate.{allBelow}
 use Rattle.dfn_places.specs.Places.{at, placeFits, electrolyteFits}
 use borrow.Author.Needs.{needs}
 use Rattle.dfn_places.proofs.electrolyte_fits.Statement.{statement}

@@ -5,7 +5,7 @@ use mathlib.Core.Path.{_≡_, refl}
 use native.Mathlib.Omega.{arith}
 use native.Mathlib.Numerals.{add-one}
 use Rattle.binary64.specs.Operators.{f64}
-use Rattle.turns.specs.Turns.{firstBy}
+use Rattle.iterate.specs.Iterate.{firstBy}
 use borrow.Author.Needs.{needs}
 use Rattle.dfn_places.proofs.uniform_solid.Statement.{statement}
 use Rattle.dfn_places.proofs.uniform_solid.Tie as tie

@@ -5,7 +5,7 @@ use native.Mathlib.Omega.{arith}
 use native.Mathlib.Numerals.{add-one}
 use lib.Ieee.{Float}
 use borrow.Author.Tests.{le-ltb}
-use Rattle.turns.specs.Turns.{allBelow}
+use Rattle.iterate.specs.Iterate.{allBelow}
 use Rattle.dfn_places.specs.Places.{placeFits, solidFitsTo, solidFits}
 use borrow.Author.Needs.{needs}
 use Rattle.dfn_places.proofs.unused_fit.Statement.{statement}

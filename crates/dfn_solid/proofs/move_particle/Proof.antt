@@ -5,8 +5,8 @@ use mathlib.Core.List.{List}
 use native.Mathlib.Omega.{arith}
 use native.Mathlib.Numerals.{add-one}
 use lib.Ieee.{Float}
-use Rattle.places.specs.Places.{placesBy}
-use Rattle.dfn_solid.specs.Solid.{nodeWith, heldNode}
+use Rattle.array_update.specs.ArrayUpdate.{placesBy}
+use Rattle.dfn_solid.specs.Solid.{nodeWith, clampedNode}
 use Rattle.dfn_solid.proofs.NodeKinds.{one-place, inner-is, surface-is, last-place}
 use borrow.Author.Needs.{needs}
 use Rattle.dfn_solid.proofs.move_particle.Statement.{statement}
@@ -14,7 +14,7 @@ use Rattle.dfn_solid.proofs.move_particle.Tie as tie
 
 abbrev Inv-loop : tie.InvT-loop
 Inv-loop v c d base out₀ last i₀ out i =
-    (1 ≤ i) × ((i ≤ v .n - 1) × ((l : List Float) → out₀ ≡ placesBy base 1 (heldNode v c d base) l → out ≡ placesBy base i (heldNode v c d base) l))
+    (1 ≤ i) × ((i ≤ v .n - 1) × ((l : List Float) → out₀ ≡ placesBy base 1 (clampedNode v c d base) l → out ≡ placesBy base i (clampedNode v c d base) l))
 
 abbrev μ-loop : tie.MeasureT-loop
 μ-loop v c d base out₀ last i₀ out i = v .n - 1 - i
@@ -96,7 +96,7 @@ returns c =
     let first = c .before .before .before .before in
     let e : p .i ≡ s .v .n - 1 = omega arith in
     let l = s .out .now in
-    let f = heldNode (s .v) (s .c .now) (s .d .now) (s .base) in
+    let f = clampedNode (s .v) (s .c .now) (s .d .now) (s .base) in
     rw (
       last-place (s .v) (s .c .now) (s .d .now) (s .base) l h,
       c .clamp3 .ensures,

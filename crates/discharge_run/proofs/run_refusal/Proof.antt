@@ -2,7 +2,7 @@
 use Prim.Native.Nat.{ℕ, zero, suc}
 use mathlib.Core.Path.{_≡_, refl}
 use lib.Dec.{eqb·suc-zero}
-use Rattle.refusal.specs.Numbers.{firstMet}
+use Rattle.refusal.specs.Numbers.{firstRefusal}
 use Rattle.solver.specs.Cell.{cellRefusal}
 use Rattle.discharge_run.specs.Discharge.{runRefusal}
 use borrow.Author.Needs.{needs}
@@ -42,24 +42,24 @@ refusal-unless-requires-5 c κs = search needs
 temperature-fits-requires : tie.Need-temperature-fits-requires
 temperature-fits-requires c κs = search needs
 
-first-met-requires : tie.Need-first-met-requires
-first-met-requires c κs = search needs
+first-refusal-requires : tie.Need-first-refusal-requires
+first-refusal-requires c κs = search needs
 
-first-met-requires-2 : tie.Need-first-met-requires-2
-first-met-requires-2 c κs = search needs
+first-refusal-requires-2 : tie.Need-first-refusal-requires-2
+first-refusal-requires-2 c κs = search needs
 
-first-met-requires-3 : tie.Need-first-met-requires-3
-first-met-requires-3 c κs = search needs
+first-refusal-requires-3 : tie.Need-first-refusal-requires-3
+first-refusal-requires-3 c κs = search needs
 
-first-met-requires-4 : tie.Need-first-met-requires-4
-first-met-requires-4 c κs = search needs
+first-refusal-requires-4 : tie.Need-first-refusal-requires-4
+first-refusal-requires-4 c κs = search needs
 
-first-met-requires-5 : tie.Need-first-met-requires-5
-first-met-requires-5 c κs = search needs
+first-refusal-requires-5 : tie.Need-first-refusal-requires-5
+first-refusal-requires-5 c κs = search needs
 
 -- what refuses the cell is its grid or what is met after that
-grid-once : (g l f x : ℕ) → firstMet g (firstMet l (firstMet (firstMet g f) x)) ≡ firstMet g (firstMet l (firstMet f x))
-unfolding firstMet
+grid-once : (g l f x : ℕ) → firstRefusal g (firstRefusal l (firstRefusal (firstRefusal g f) x)) ≡ firstRefusal g (firstRefusal l (firstRefusal f x))
+unfolding firstRefusal
 grid-once zero l f x = refl
 grid-once (suc g) l f x = rw eqb·suc-zero
 
@@ -67,11 +67,11 @@ returns : tie.Need-returns
 unfolding runRefusal cellRefusal
 returns c =
     rw (
-      c .first-met5 .ensures,
-      c .before .first-met4 .ensures,
-      c .before .before .first-met3 .ensures,
-      c .before .before .before .first-met2 .ensures,
-      c .before .before .before .before .first-met .ensures,
+      c .first-refusal5 .ensures,
+      c .before .first-refusal4 .ensures,
+      c .before .before .first-refusal3 .ensures,
+      c .before .before .before .first-refusal2 .ensures,
+      c .before .before .before .before .first-refusal .ensures,
       c .before .before .before .before .before .refusal-unless5 .ensures,
       c .before .before .before .before .before .before .temperature-fits .ensures,
       c .before .before .before .before .before .before .before .refusal-unless4 .ensures,
@@ -101,9 +101,9 @@ run-refusal-spec =
     refusal-unless-requires-4
     temperature-fits-requires
     refusal-unless-requires-5
-    first-met-requires
-    first-met-requires-2
-    first-met-requires-3
-    first-met-requires-4
-    first-met-requires-5
+    first-refusal-requires
+    first-refusal-requires-2
+    first-refusal-requires-3
+    first-refusal-requires-4
+    first-refusal-requires-5
     returns)

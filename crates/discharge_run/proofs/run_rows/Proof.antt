@@ -4,7 +4,7 @@ use mathlib.Core.Path.{_≡_, refl, _∙_, ap}
 use native.Mathlib.Omega.{arith}
 use Rattle.runs.specs.Rows.{runAfter, rowsAfter}
 use Rattle.runs.specs.Laws.{Going, going-on, over-at-once, ends-refused, ends-stopped, ends-full}
-use Rattle.discharge_run.specs.declared.Run.{Run}
+use Rattle.discharge_run.specs.declared.RunState.{RunState}
 use Rattle.discharge_run.specs.Discharge.{overOf, lastRow, turned, finishedRun, allTurns, allRows}
 use Rattle.discharge_run.specs.Laws.{turned-rows}
 use borrow.Author.Needs.{needs}
@@ -74,7 +74,7 @@ loop-again : tie.Need-loop-again Inv-loop μ-loop
 loop-again c = let t = c .before .before .before .before .before .before .before .before .before .before .turn .ensures in
     let l = c .before .before .before .before .before .before .before .before .before .before .before .before .loop in (
       going-on overOf (turned (c .before .before .before .before .before .before .before .before .before .before .before .before .before .before .before .before .args .w)) lastRow _ _ _ _ _ _ (l .inv .0) _ _ _ t (c .before .before .before .before .before .before .before .before .if2 .left) (c .before .before .before .before .before .row-of .ensures) (c .before .before .before .before .put-row .ensures) (c .before .before .before .before .put-row .kept .0) (c .before .before .before .before .before .before .before .before .before .before .before .loop-test .taken) (c .if3 .left),
-      ap (λ (r : Run). r .rows) t ∙ turned-rows (c .before .before .before .before .before .before .before .before .before .before .before .before .before .before .before .before .args .w) (l .run) (rw t at (c .before .before .before .before .before .before .before .before .if2 .left)) ∙ ap (λ (k : ℕ). k + 1) (l .inv .1),
+      ap (λ (r : RunState). r .rows) t ∙ turned-rows (c .before .before .before .before .before .before .before .before .before .before .before .before .before .before .before .before .args .w) (l .run) (rw t at (c .before .before .before .before .before .before .before .before .if2 .left)) ∙ ap (λ (k : ℕ). k + 1) (l .inv .1),
     )
 
 finished-requires-4 : tie.Need-finished-requires-4 Inv-loop μ-loop

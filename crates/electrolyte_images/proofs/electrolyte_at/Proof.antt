@@ -1,12 +1,12 @@
 -- `electrolyte_images::electrolyte_at` meets its contract. Assumes nothing.
 use Rattle.electrolyte_images.specs.Images.{electrolyteAt}
-use Rattle.turns.specs.Turns.{firstBy}
+use Rattle.iterate.specs.Iterate.{firstBy}
 use borrow.Author.Needs.{needs}
 use Rattle.electrolyte_images.proofs.electrolyte_at.Statement.{statement}
 use Rattle.electrolyte_images.proofs.electrolyte_at.Tie as tie
 
-salt-at-requires : tie.Need-salt-at-requires
-salt-at-requires c κs = search needs
+electrolyte-params-at-requires : tie.Need-electrolyte-params-at-requires
+electrolyte-params-at-requires c κs = search needs
 
 slice-aggregate-read-places : tie.Need-slice-aggregate-read-places
 slice-aggregate-read-places c = search needs
@@ -49,13 +49,13 @@ read-word-requires-3 c κs = search needs
 
 returns : tie.Need-returns
 unfolding electrolyteAt firstBy
-returns c = rw (c .read-word3 .ensures, c .before .read-word2 .ensures, c .before .before .read-word .ensures, c .before .before .before .before .read-places2 .ensures, c .before .before .before .before .before .before .before .read-places .ensures, c .before .before .before .before .before .before .before .before .before .salt-at .ensures)
+returns c = rw (c .read-word3 .ensures, c .before .read-word2 .ensures, c .before .before .read-word .ensures, c .before .before .before .before .read-places2 .ensures, c .before .before .before .before .before .before .before .read-places .ensures, c .before .before .before .before .before .before .before .before .before .electrolyte-params-at .ensures)
 
 pub electrolyte-at-spec : {M : Type 1} → statement M
 electrolyte-at-spec =
     tie.close
     (tie.spec
-    salt-at-requires
+    electrolyte-params-at-requires
     slice-aggregate-read-places
     read-places-requires
     slice-aggregate-read-places-2

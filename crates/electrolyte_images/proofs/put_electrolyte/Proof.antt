@@ -4,8 +4,8 @@ use borrow.Author.Needs.{needs}
 use Rattle.electrolyte_images.proofs.put_electrolyte.Statement.{statement}
 use Rattle.electrolyte_images.proofs.put_electrolyte.Tie as tie
 
-put-salt-requires : tie.Need-put-salt-requires
-put-salt-requires c κs = search needs
+put-electrolyte-params-requires : tie.Need-put-electrolyte-params-requires
+put-electrolyte-params-requires c κs = search needs
 
 put-regions-requires : tie.Need-put-regions-requires
 put-regions-requires c κs = search needs
@@ -18,9 +18,9 @@ same-length c = search needs depth 32
 
 returns : tie.Need-returns
 unfolding putElectrolyte
-returns c = rw (c .before .before .write-places .ensures, c .before .before .before .before .before .before .before .before .before .put-regions .ensures, c .before .before .before .before .before .before .before .before .before .before .before .before .before .put-salt .ensures)
+returns c = rw (c .before .before .write-places .ensures, c .before .before .before .before .before .before .before .before .before .put-regions .ensures, c .before .before .before .before .before .before .before .before .before .before .before .before .before .put-electrolyte-params .ensures)
 
 pub put-electrolyte-spec : {M : Type 1} → statement M
 put-electrolyte-spec =
     tie.close
-    (tie.spec put-salt-requires put-regions-requires write-places-requires same-length returns)
+    (tie.spec put-electrolyte-params-requires put-regions-requires write-places-requires same-length returns)

@@ -13,14 +13,14 @@ temperature-fits-requires c κs = search needs
 refusal-unless-requires-2 : tie.Need-refusal-unless-requires-2
 refusal-unless-requires-2 c κs = search needs
 
-first-met-requires : tie.Need-first-met-requires
-first-met-requires c κs = search needs
+first-refusal-requires : tie.Need-first-refusal-requires
+first-refusal-requires c κs = search needs
 
 returns : tie.Need-returns
 unfolding rateRefusal
 returns c =
     rw (
-      c .first-met .ensures,
+      c .first-refusal .ensures,
       c .before .refusal-unless2 .ensures,
       c .before .before .temperature-fits .ensures,
       c .before .before .before .refusal-unless .ensures,
@@ -33,5 +33,5 @@ rate-refusal-spec =
     refusal-unless-requires
     temperature-fits-requires
     refusal-unless-requires-2
-    first-met-requires
+    first-refusal-requires
     returns)

@@ -4,7 +4,7 @@ use mathlib.Core.Path.{_≡_, refl}
 use native.Mathlib.Omega.{arith}
 use native.Mathlib.Numerals.{add-one}
 use borrow.Author.Needs.{needs}
-use Rattle.turns.specs.Turns.{firstBy}
+use Rattle.iterate.specs.Iterate.{firstBy}
 use Rattle.electrolyte_profile.specs.Step.{nodeNew, profileNew}
 use Rattle.electrolyte_profile.proofs.advanced.Statement.{statement}
 use Rattle.electrolyte_profile.proofs.advanced.Tie as tie

@@ -7,7 +7,7 @@ use lib.ListN.{getD}
 use lib.Ieee.{nan}
 use borrow.Author.Needs.{needs}
 use Rattle.refusal.specs.Ranges.{finite}
-use Rattle.turns.specs.Turns.{allBelow}
+use Rattle.iterate.specs.Iterate.{allBelow}
 use Rattle.electrolyte_profile.specs.Places.{allFinite}
 use Rattle.electrolyte_profile.proofs.all_finite.Statement.{statement}
 use Rattle.electrolyte_profile.proofs.all_finite.Tie as tie

@@ -7,7 +7,7 @@ use lib.Dec.{ltb}
 use lib.ListN.{getD}
 use lib.Ieee.{nan}
 use borrow.Author.Needs.{needs}
-use Rattle.turns.specs.Turns.{allBelow}
+use Rattle.iterate.specs.Iterate.{allBelow}
 use Rattle.electrolyte_profile.specs.Places.{placeFits, profileFits}
 use Rattle.electrolyte_profile.proofs.profile_fits.Statement.{statement}
 use Rattle.electrolyte_profile.proofs.profile_fits.Tie as tie

@@ -12,7 +12,7 @@ use Rattle.binary64.specs.Operators.{_⊘_, f64}
 use Rattle.square_root.specs.Parts.{unitsOf, Normal}
 use Rattle.square_root.proofs.Patterns.{positive-value, positive-units, at-top, at-negative, no-nan-bits, not-nan, zero-by-zero}
 use Rattle.elementary.specs.Ln.{two, lnParts, lnSplit, lnOf}
-use Rattle.choice.proofs.SignLaws.{is-nan}
+use Rattle.min_max.proofs.SignLaws.{is-nan}
 use Rattle.elementary.proofs.LnLaws.{split-small, split-large}
 use Rattle.elementary.proofs.LnSplits.{ln-split, nan-ln, infinity-ln, zero-ln, negative-ln}
 use borrow.Author.Needs.{needs}
@@ -20,14 +20,14 @@ use Rattle.elementary.proofs.ln.Statement.{statement}
 use Rattle.elementary.proofs.ln.Tie as tie
 
 -- what owning an `f64` tells: the format holds it
-held : (c : tie.Start) → T (fits binary64 (c .args .x))
-held c = subst T (sym (c .good .0 .1)) tt
+representable : (c : tie.Start) → T (fits binary64 (c .args .x))
+representable c = subst T (sym (c .good .0 .1)) tt
 
 abbrev bits : (c : tie.Start) → ℕ
 bits c = toBits binary64 (c .args .x)
 
 back : (c : tie.Start) → f64 (bits c) ≡ c .args .x
-back c = ofBits-toBits binary64 (c .args .x) (held c)
+back c = ofBits-toBits binary64 (c .args .x) (representable c)
 
 zeros : (f64 0xfff0_0000_0000_0000 ≡ lnOf (f64 0)) × (f64 0xfff0_0000_0000_0000 ≡ lnOf (f64 (2 ^ 63)))
 unfolding ofBits
@@ -52,7 +52,7 @@ returns-2 c = zeros .1 ∙ ap lnOf (ap f64 (sym (c .if3 .taken)) ∙ back (c .be
 returns-3 : tie.Need-returns-3
 returns-3 c =
     let start = c .before .before .before in
-    let lt : bits start < 2 ^ 64 = toBits-lt binary64 (start .args .x) (held start) in
+    let lt : bits start < 2 ^ 64 = toBits-lt binary64 (start .args .x) (representable start) in
     zero-by-zero ∙ sym (subst (λ (v : Float). lnOf v ≡ nan) (back start) (at-negative lnOf nan-ln negative-ln (bits start) (lt-of-le-ne (c .before .if2 .taken) (λ e. c .if3 .left (sym e))) lt))
 
 float-from-bits-result-2 : tie.Need-float-from-bits-result-2

@@ -22,18 +22,18 @@ refusal-unless-requires-3 c κs = search needs
 step-refusal-requires : tie.Need-step-refusal-requires
 step-refusal-requires c κs = search needs
 
-first-met-requires : tie.Need-first-met-requires
-first-met-requires c κs = search needs
+first-refusal-requires : tie.Need-first-refusal-requires
+first-refusal-requires c κs = search needs
 
-first-met-requires-2 : tie.Need-first-met-requires-2
-first-met-requires-2 c κs = search needs
+first-refusal-requires-2 : tie.Need-first-refusal-requires-2
+first-refusal-requires-2 c κs = search needs
 
-first-met-requires-3 : tie.Need-first-met-requires-3
-first-met-requires-3 c κs = search needs
+first-refusal-requires-3 : tie.Need-first-refusal-requires-3
+first-refusal-requires-3 c κs = search needs
 
 returns : tie.Need-returns
 unfolding runRefusal
-returns c = rw (c .first-met3 .ensures, c .before .first-met2 .ensures, c .before .before .first-met .ensures, c .before .before .before .step-refusal .ensures, c .before .before .before .before .refusal-unless3 .ensures, c .before .before .before .before .before .is-finite .ensures, c .before .before .before .before .before .before .refusal-unless2 .ensures, c .before .before .before .before .before .before .before .refusal-unless .ensures, c .before .before .before .before .before .before .before .before .grid-fits .ensures)
+returns c = rw (c .first-refusal3 .ensures, c .before .first-refusal2 .ensures, c .before .before .first-refusal .ensures, c .before .before .before .step-refusal .ensures, c .before .before .before .before .refusal-unless3 .ensures, c .before .before .before .before .before .is-finite .ensures, c .before .before .before .before .before .before .refusal-unless2 .ensures, c .before .before .before .before .before .before .before .refusal-unless .ensures, c .before .before .before .before .before .before .before .before .grid-fits .ensures)
 
 pub run-refusal-spec : {M : Type 1} → statement M
 run-refusal-spec =
@@ -45,7 +45,7 @@ run-refusal-spec =
     is-finite-requires
     refusal-unless-requires-3
     step-refusal-requires
-    first-met-requires
-    first-met-requires-2
-    first-met-requires-3
+    first-refusal-requires
+    first-refusal-requires-2
+    first-refusal-requires-3
     returns)

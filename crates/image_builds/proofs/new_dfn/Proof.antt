@@ -1,8 +1,8 @@
 -- `image_builds::new_dfn` meets its contract. Assumes nothing.
 use mathlib.Core.Path.{_≡_}
 use borrow.Author.Needs.{needs}
-use Rattle.dfn.specs.declared.DfnBuild.{DfnBuild}
-use Rattle.porous_images.specs.Images.{putCell}
+use Rattle.dfn.specs.declared.DfnBuildAnswer.{DfnBuildAnswer}
+use Rattle.dfn_images.specs.Images.{putCell}
 use Rattle.image_rows.specs.Written.{accepted, refused}
 use Rattle.image_builds.specs.Builds.{dfnMade}
 use Rattle.image_builds.proofs.new_dfn.Statement.{statement}
@@ -27,13 +27,13 @@ returns : tie.Need-returns
 unfolding dfnMade
 returns c =
     let e : c .before .before .before .before .before .before .new .result ≡ dfnMade (c .before .before .before .before .before .before .before .before .before .before .before .args .image .now) = rw (← c .before .before .before .before .before .before .before .before .params-at .ensures, ← c .before .before .before .before .before .before .before .config-at .ensures) (c .before .before .before .before .before .before .new .ensures) in
-    accepted (λ (t : DfnBuild). t .refusal) (λ (t : DfnBuild). putCell (c .before .before .before .before .before .before .before .before .before .before .before .args .answer .now) (t .cell)) _ _ _ e _ (c .before .before .before .before .before .if1 .taken) (c .before .before .put-cell .ensures)
+    accepted (λ (t : DfnBuildAnswer). t .refusal) (λ (t : DfnBuildAnswer). putCell (c .before .before .before .before .before .before .before .before .before .before .before .args .answer .now) (t .cell)) _ _ _ e _ (c .before .before .before .before .before .if1 .taken) (c .before .before .put-cell .ensures)
 
 returns-2 : tie.Need-returns-2
 unfolding dfnMade
 returns-2 c =
     let e : c .before .new .result ≡ dfnMade (c .before .before .before .before .before .before .args .image .now) = rw (← c .before .before .before .params-at .ensures, ← c .before .before .config-at .ensures) (c .before .new .ensures) in
-    refused (λ (t : DfnBuild). t .refusal) (λ (t : DfnBuild). putCell (c .before .before .before .before .before .before .args .answer .now) (t .cell)) _ _ _ e (c .if1 .left)
+    refused (λ (t : DfnBuildAnswer). t .refusal) (λ (t : DfnBuildAnswer). putCell (c .before .before .before .before .before .before .args .answer .now) (t .cell)) _ _ _ e (c .if1 .left)
 
 pub new-dfn-spec : {M : Type 1} → statement M
 new-dfn-spec =

@@ -1,6 +1,6 @@
 -- `image_builds::new_electrolyte` meets its contract. Assumes nothing.
 use borrow.Author.Needs.{needs}
-use Rattle.electrolyte.specs.declared.StateAnswer.{StateAnswer}
+use Rattle.electrolyte.specs.declared.ElectrolyteAnswer.{ElectrolyteAnswer}
 use Rattle.electrolyte_images.specs.Images.{putElectrolyte}
 use Rattle.image_rows.specs.Written.{accepted, refused}
 use Rattle.image_builds.specs.Builds.{electrolyteBuilt}
@@ -18,10 +18,10 @@ same-length c = search needs depth 24
 
 returns : tie.Need-returns
 returns c =
-    accepted (λ (t : StateAnswer). t .refusal) (λ (t : StateAnswer). putElectrolyte (c .before .before .before .before .before .before .before .before .before .args .answer .now) (t .state)) _ _ _ (c .before .before .before .before .before .before .built-electrolyte .ensures) _ (c .before .before .before .before .before .if1 .taken) (c .before .before .put-electrolyte .ensures)
+    accepted (λ (t : ElectrolyteAnswer). t .refusal) (λ (t : ElectrolyteAnswer). putElectrolyte (c .before .before .before .before .before .before .before .before .before .args .answer .now) (t .state)) _ _ _ (c .before .before .before .before .before .before .built-electrolyte .ensures) _ (c .before .before .before .before .before .if1 .taken) (c .before .before .put-electrolyte .ensures)
 
 returns-2 : tie.Need-returns-2
-returns-2 c = refused (λ (t : StateAnswer). t .refusal) (λ (t : StateAnswer). putElectrolyte (c .before .before .before .before .args .answer .now) (t .state)) _ _ _ (c .before .built-electrolyte .ensures) (c .if1 .left)
+returns-2 c = refused (λ (t : ElectrolyteAnswer). t .refusal) (λ (t : ElectrolyteAnswer). putElectrolyte (c .before .before .before .before .args .answer .now) (t .state)) _ _ _ (c .before .built-electrolyte .ensures) (c .if1 .left)
 
 pub new-electrolyte-spec : {M : Type 1} → statement M
 new-electrolyte-spec =

@@ -1,7 +1,7 @@
 -- `image_builds::put_new` meets its contract. Assumes nothing.
 use native.Mathlib.Omega.{arith}
 use borrow.Author.Tests.{ne-eqb, le-leb, lt-leb}
-use Rattle.image_builds.specs.Builds.{newNumber, newAfter}
+use Rattle.image_builds.specs.Builds.{newReturn, newAfter}
 use borrow.Author.Needs.{needs}
 use Rattle.image_builds.proofs.put_new.Statement.{statement}
 use Rattle.image_builds.proofs.put_new.Tie as tie
@@ -13,7 +13,7 @@ same-length : tie.Need-same-length
 same-length c = search needs depth 24
 
 returns : tie.Need-returns
-unfolding newNumber newAfter
+unfolding newReturn newAfter
 returns c = rw (c .before .before .before .before .if1 .taken) (c .before .before .new-particle .ensures)
 
 new-cell-requires : tie.Need-new-cell-requires
@@ -23,7 +23,7 @@ same-length-2 : tie.Need-same-length-2
 same-length-2 c = search needs depth 24
 
 returns-2 : tie.Need-returns-2
-unfolding newNumber newAfter
+unfolding newReturn newAfter
 returns-2 c = rw (ne-eqb _ _ (c .before .before .before .before .before .if1 .left), le-leb (c .before .before .before .before .before .before .before .before .args .call) 10 (omega arith)) (c .before .before .new-cell .ensures)
 
 new-electrolyte-requires : tie.Need-new-electrolyte-requires
@@ -33,7 +33,7 @@ same-length-3 : tie.Need-same-length-3
 same-length-3 c = search needs depth 24
 
 returns-3 : tie.Need-returns-3
-unfolding newNumber newAfter
+unfolding newReturn newAfter
 returns-3 c = rw (c .before .before .before .before .if3 .taken) (c .before .before .new-electrolyte .ensures)
 
 new-dfn-requires : tie.Need-new-dfn-requires
@@ -43,7 +43,7 @@ same-length-4 : tie.Need-same-length-4
 same-length-4 c = search needs depth 24
 
 returns-4 : tie.Need-returns-4
-unfolding newNumber newAfter
+unfolding newReturn newAfter
 returns-4 c = rw (ne-eqb _ _ (c .before .before .before .before .before .before .if1 .left), lt-leb (c .before .before .before .before .before .before .before .before .before .args .call) 10 (omega arith), ne-eqb _ _ (c .before .before .before .before .if3 .left)) (c .before .before .new-dfn .ensures)
 
 pub put-new-spec : {M : Type 1} → statement M

@@ -15,8 +15,8 @@ put-sheet-requires c κs = search needs
 lipf6-ec-dmc-requires : tie.Need-lipf6-ec-dmc-requires
 lipf6-ec-dmc-requires c κs = search needs
 
-put-salt-requires : tie.Need-put-salt-requires
-put-salt-requires c κs = search needs
+put-electrolyte-params-requires : tie.Need-put-electrolyte-params-requires
+put-electrolyte-params-requires c κs = search needs
 
 ready-params-requires : tie.Need-ready-params-requires
 ready-params-requires c κs = search needs
@@ -36,7 +36,7 @@ same-length-2 c = search needs depth 24
 
 returns-2 : tie.Need-returns-2
 unfolding readyPut
-returns-2 c = rw (c .before .before .before .before .before .if2 .taken, ← c .before .before .before .lipf6-ec-dmc .ensures) (c .before .before .put-salt .ensures)
+returns-2 c = rw (c .before .before .before .before .before .if2 .taken, ← c .before .before .before .lipf6-ec-dmc .ensures) (c .before .before .put-electrolyte-params .ensures)
 
 same-length-3 : tie.Need-same-length-3
 same-length-3 c = search needs depth 24
@@ -52,7 +52,7 @@ put-ready-spec =
     ready-sheet-requires
     put-sheet-requires
     lipf6-ec-dmc-requires
-    put-salt-requires
+    put-electrolyte-params-requires
     ready-params-requires
     put-params-requires
     same-length

@@ -1,5 +1,5 @@
 -- `image_numbers::nodes_number` meets its contract. Assumes nothing.
-use Rattle.image_numbers.specs.Numbers.{countSaid, nodesSaid}
+use Rattle.image_numbers.specs.Numbers.{countOutcome, nodesOutcome}
 use mathlib.Core.Path.{sym, ap, _∙_}
 use Rattle.electrolyte.specs.Calls.{counted}
 use borrow.Author.Needs.{needs}
@@ -23,12 +23,12 @@ enum-known-n-2 : tie.Need-enum-known-n-2
 enum-known-n-2 c = search needs
 
 returns : tie.Need-returns
-unfolding nodesSaid
-returns c = rw (c .nearest-u64-to-f64 .ensures) (ap (λ t. countSaid (counted t)) (sym (c .before .before .n .given .1)) ∙ ap countSaid (c .before .before .before .before .n-total .ensures))
+unfolding nodesOutcome
+returns c = rw (c .nearest-u64-to-f64 .ensures) (ap (λ t. countOutcome (counted t)) (sym (c .before .before .n .given .1)) ∙ ap countOutcome (c .before .before .before .before .n-total .ensures))
 
 returns-2 : tie.Need-returns-2
-unfolding nodesSaid
-returns-2 c = ap (λ t. countSaid (counted t)) (sym (c .before .n2 .given .1)) ∙ ap countSaid (c .before .before .before .n-total .ensures)
+unfolding nodesOutcome
+returns-2 c = ap (λ t. countOutcome (counted t)) (sym (c .before .n2 .given .1)) ∙ ap countOutcome (c .before .before .before .n-total .ensures)
 
 pub nodes-number-spec : {M : Type 1} → statement M
 nodes-number-spec =

@@ -1,5 +1,5 @@
 -- `image_numbers::number_of` meets its contract. Assumes nothing.
-use Rattle.image_numbers.specs.Numbers.{numberSaid}
+use Rattle.image_numbers.specs.Numbers.{numberOutcome}
 use native.Mathlib.Omega.{arith}
 use borrow.Author.Tests.{le-leb, lt-leb}
 use borrow.Author.Needs.{needs}
@@ -16,7 +16,7 @@ use Rattle.image_numbers.proofs.particle_number.Reads as particle-numbe
 use Rattle.image_numbers.proofs.rate_number.Reads as rate-number-reads
 use Rattle.image_numbers.proofs.sheet_number.Reads as sheet-number-reads
 use Rattle.electrolyte_images.proofs.electrolyte_at.Reads as electrolyte-at-reads
-use Rattle.electrolyte_images.proofs.salt_at.Reads as salt-at-reads
+use Rattle.electrolyte_images.proofs.electrolyte_params_at.Reads as electrolyte-params-at-reads
 
 sheet-at-requires : tie.Need-sheet-at-requires
 sheet-at-requires c κs = search needs
@@ -25,7 +25,7 @@ sheet-number-requires : tie.Need-sheet-number-requires
 sheet-number-requires c κs = search needs
 
 returns : tie.Need-returns
-unfolding numberSaid
+unfolding numberOutcome
 returns c = rw (le-leb (c .before .before .before .before .args .call) 5 (omega arith), ← c .before .sheet-at .ensures) (c .sheet-number .ensures)
 
 particle-at-requires : tie.Need-particle-at-requires
@@ -35,7 +35,7 @@ particle-number-requires : tie.Need-particle-number-requires
 particle-number-requires c κs = search needs
 
 returns-2 : tie.Need-returns-2
-unfolding numberSaid
+unfolding numberOutcome
 returns-2 c = rw (lt-leb (c .before .before .before .before .before .args .call) 5 (omega arith), le-leb (c .before .before .before .before .before .args .call) 10 (omega arith), ← c .before .particle-at .ensures) (c .particle-number .ensures)
 
 cell-at-requires : tie.Need-cell-at-requires
@@ -45,18 +45,18 @@ cell-number-requires : tie.Need-cell-number-requires
 cell-number-requires c κs = search needs
 
 returns-3 : tie.Need-returns-3
-unfolding numberSaid
+unfolding numberOutcome
 returns-3 c = rw (lt-leb (c .before .before .before .before .before .before .args .call) 5 (omega arith), lt-leb (c .before .before .before .before .before .before .args .call) 10 (omega arith), le-leb (c .before .before .before .before .before .before .args .call) 12 (omega arith), ← c .before .cell-at .ensures) (c .cell-number .ensures)
 
-salt-at-requires : tie.Need-salt-at-requires
-salt-at-requires c κs = search needs
+electrolyte-params-at-requires : tie.Need-electrolyte-params-at-requires
+electrolyte-params-at-requires c κs = search needs
 
 rate-number-requires : tie.Need-rate-number-requires
 rate-number-requires c κs = search needs
 
 returns-4 : tie.Need-returns-4
-unfolding numberSaid
-returns-4 c = rw (lt-leb (c .before .before .before .before .before .before .before .args .call) 5 (omega arith), lt-leb (c .before .before .before .before .before .before .before .args .call) 10 (omega arith), lt-leb (c .before .before .before .before .before .before .before .args .call) 12 (omega arith), le-leb (c .before .before .before .before .before .before .before .args .call) 16 (omega arith), ← c .before .salt-at .ensures) (c .rate-number .ensures)
+unfolding numberOutcome
+returns-4 c = rw (lt-leb (c .before .before .before .before .before .before .before .args .call) 5 (omega arith), lt-leb (c .before .before .before .before .before .before .before .args .call) 10 (omega arith), lt-leb (c .before .before .before .before .before .before .before .args .call) 12 (omega arith), le-leb (c .before .before .before .before .before .before .before .args .call) 16 (omega arith), ← c .before .electrolyte-params-at .ensures) (c .rate-number .ensures)
 
 electrolyte-at-requires : tie.Need-electrolyte-at-requires
 electrolyte-at-requires c κs = search needs
@@ -65,7 +65,7 @@ electrolyte-number-requires : tie.Need-electrolyte-number-requires
 electrolyte-number-requires c κs = search needs
 
 returns-5 : tie.Need-returns-5
-unfolding numberSaid
+unfolding numberOutcome
 returns-5 c = rw (lt-leb (c .before .before .before .before .before .before .before .args .call) 5 (omega arith), lt-leb (c .before .before .before .before .before .before .before .args .call) 10 (omega arith), lt-leb (c .before .before .before .before .before .before .before .args .call) 12 (omega arith), lt-leb (c .before .before .before .before .before .before .before .args .call) 16 (omega arith), ← c .before .electrolyte-at .ensures) (c .electrolyte-number .ensures)
 
 pub number-of-spec : {M : Type 1} → statement M
@@ -81,7 +81,7 @@ number-of-spec =
     cell-at-requires
     cell-number-requires
     returns-3
-    salt-at-requires
+    electrolyte-params-at-requires
     rate-number-requires
     returns-4
     electrolyte-at-requires

@@ -5,7 +5,7 @@ use native.Mathlib.Omega.{arith}
 use native.Mathlib.Numerals.{add-one}
 use lib.ListN.{length, getD}
 use lib.Ieee.{nan, eq}
-use Rattle.turns.specs.Turns.{allBelow}
+use Rattle.iterate.specs.Iterate.{allBelow}
 use Rattle.image_rows.specs.Rows.{noNan}
 use borrow.Author.Needs.{needs}
 use Rattle.image_rows.proofs.no_nan.Statement.{statement}

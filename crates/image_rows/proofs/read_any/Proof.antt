@@ -5,7 +5,7 @@ use native.Mathlib.Omega.{arith}
 use native.Mathlib.Numerals.{add-one}
 use borrow.Author.Needs.{needs}
 use lib.ListN.{length}
-use Rattle.turns.specs.Turns.{firstBy}
+use Rattle.iterate.specs.Iterate.{firstBy}
 use Rattle.codec.specs.Words.{floatAt}
 use Rattle.image_rows.proofs.read_any.Statement.{statement}
 use Rattle.image_rows.proofs.read_any.Tie as tie

@@ -7,7 +7,7 @@ use lib.ListN.{length}
 use mathlib.Core.Bool.{not}
 use lib.Dec.{T}
 use lib.Ieee.{binary64, nanBits}
-use Rattle.turns.specs.Turns.{firstBy, all-at}
+use Rattle.iterate.specs.Iterate.{firstBy, all-at}
 use Rattle.codec.specs.Words.{wordAt, floatAt}
 use Rattle.image_rows.specs.Rows.{finitePattern, finiteWords}
 use Rattle.image_rows.proofs.RowLaws.{word-is, no-nan-pattern}

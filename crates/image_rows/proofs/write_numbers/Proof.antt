@@ -5,7 +5,7 @@ use native.Mathlib.Omega.{arith}
 use native.Mathlib.Numerals.{add-one}
 use lib.ListN.{length, getD}
 use lib.Ieee.{nan, eq}
-use Rattle.turns.specs.Turns.{all-at}
+use Rattle.iterate.specs.Iterate.{all-at}
 use Rattle.codec.specs.Words.{putFloat, putPlaces}
 use Rattle.image_rows.specs.Rows.{noNan}
 use Rattle.image_rows.proofs.RowLaws.{put-is, no-nan}

@@ -1,7 +1,7 @@
 -- `particle::advance` meets its contract: the prepared sub-step is the sub-step. Assumes nothing.
-use Rattle.turns.specs.Turns.{times-cong}
+use Rattle.iterate.specs.Iterate.{times-cong}
 use Rattle.sub_step.specs.Same.{same-sub-step}
-use Rattle.particle.specs.Particle.{particleOf, driveWith}
+use Rattle.particle.specs.Particle.{particleOf, subStepParamsOf}
 use borrow.Author.Needs.{needs}
 use Rattle.particle.proofs.advance.Statement.{statement}
 use Rattle.particle.proofs.advance.Tie as tie
@@ -22,7 +22,7 @@ returns : tie.Need-returns
 returns c = let a = c .before .before .before .before .before .args in
     let p = particleOf (a .params) (a .n) (a .c) in
     rw (c .sub-steps .ensures, c .before .before .before .prepare .ensures, c .before .before .inverse-radii .ensures, c .before .before .before .before .spacing .ensures (a .c))
-    (times-cong _ _ (a .turns) (same-sub-step (driveWith p (a .d-s) (a .j-n) (a .dt)) (c .before .before .before .before .before .pre .1)) (a .c))
+    (times-cong _ _ (a .turns) (same-sub-step (subStepParamsOf p (a .d-s) (a .j-n) (a .dt)) (c .before .before .before .before .before .pre .1)) (a .c))
 
 pub advance-spec : {M : Type 1} → statement M
 advance-spec =

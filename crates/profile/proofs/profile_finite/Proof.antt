@@ -6,7 +6,7 @@ use native.Mathlib.Numerals.{add-one}
 use lib.ListN.{getD}
 use lib.Ieee.{nan}
 use Rattle.refusal.specs.Ranges.{finite}
-use Rattle.turns.specs.Turns.{allBelow}
+use Rattle.iterate.specs.Iterate.{allBelow}
 use Rattle.profile.specs.Places.{finiteProfile}
 use borrow.Author.Needs.{needs}
 use Rattle.profile.proofs.profile_finite.Statement.{statement}

@@ -4,7 +4,7 @@ use mathlib.Core.Path.{_≡_}
 use native.Mathlib.Omega.{arith}
 use native.Mathlib.Numerals.{add-one}
 use borrow.Author.Tests.{le-ltb}
-use Rattle.turns.specs.Turns.{allBelow}
+use Rattle.iterate.specs.Iterate.{allBelow}
 use Rattle.profile.specs.Places.{placesFit, profileFits}
 use borrow.Author.Needs.{needs}
 use Rattle.profile.proofs.profile_fits.Statement.{statement}

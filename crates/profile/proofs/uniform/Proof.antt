@@ -5,7 +5,7 @@ use native.Mathlib.Omega.{arith}
 use native.Mathlib.Numerals.{add-one}
 use lib.ListN.{replicate}
 use Rattle.binary64.specs.Operators.{f64}
-use Rattle.turns.specs.Turns.{firstBy}
+use Rattle.iterate.specs.Iterate.{firstBy}
 use Rattle.profile.specs.Places.{filled}
 use borrow.Author.Needs.{needs}
 use Rattle.profile.proofs.uniform.Statement.{statement}

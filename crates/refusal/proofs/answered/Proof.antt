@@ -11,18 +11,18 @@ is-finite-requires c κs = search needs
 refusal-unless-requires : tie.Need-refusal-unless-requires
 refusal-unless-requires c κs = search needs
 
-first-met-requires : tie.Need-first-met-requires
-first-met-requires c κs = search needs
+first-refusal-requires : tie.Need-first-refusal-requires
+first-refusal-requires c κs = search needs
 
 returns : tie.Need-returns
 unfolding outcome
 returns c =
-    rw (← c .before .before .before .is-finite .ensures, ← c .before .before .refusal-unless .ensures, ← c .before .first-met .ensures, eq-eqb _ _ (c .if1 .taken))
+    rw (← c .before .before .before .is-finite .ensures, ← c .before .before .refusal-unless .ensures, ← c .before .first-refusal .ensures, eq-eqb _ _ (c .if1 .taken))
 
 returns-2 : tie.Need-returns-2
 unfolding outcome
 returns-2 c =
-    rw (← c .before .before .before .is-finite .ensures, ← c .before .before .refusal-unless .ensures, ← c .before .first-met .ensures, ne-eqb _ _ (c .if1 .left))
+    rw (← c .before .before .before .is-finite .ensures, ← c .before .before .refusal-unless .ensures, ← c .before .first-refusal .ensures, ne-eqb _ _ (c .if1 .left))
 
 pub answered-spec : {M : Type 1} → statement M
-answered-spec = tie.close (tie.spec is-finite-requires refusal-unless-requires first-met-requires returns returns-2)
+answered-spec = tie.close (tie.spec is-finite-requires refusal-unless-requires first-refusal-requires returns returns-2)

@@ -5,7 +5,7 @@ use native.Mathlib.Omega.{arith}
 use native.Mathlib.Numerals.{add-one}
 use lib.ListN.{length, getD, length-set}
 use lib.Ieee.{nan}
-use Rattle.places.specs.Places.{placesBy}
+use Rattle.array_update.specs.ArrayUpdate.{placesBy}
 use borrow.Author.Needs.{needs}
 use Rattle.runs.proofs.put_row.Statement.{statement}
 use Rattle.runs.proofs.put_row.Tie as tie

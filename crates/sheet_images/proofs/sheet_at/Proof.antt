@@ -1,6 +1,6 @@
 -- `sheet_images::sheet_at` meets its contract. Assumes nothing.
 use Rattle.sheet_images.specs.Images.{sheetAt}
-use Rattle.turns.specs.Turns.{firstBy}
+use Rattle.iterate.specs.Iterate.{firstBy}
 use borrow.Author.Needs.{needs}
 use Rattle.sheet_images.proofs.sheet_at.Statement.{statement}
 use Rattle.sheet_images.proofs.sheet_at.Tie as tie

@@ -1,7 +1,7 @@
 -- `solver::cell_refusal` meets its contract: each way out has what the test found. Assumes nothing.
 use mathlib.Core.Path.{_≡_}
 use borrow.Author.Tests.{eq-eqb, ne-eqb}
-use Rattle.refusal.specs.Numbers.{firstMet, refusalUnless, grid}
+use Rattle.refusal.specs.Numbers.{firstRefusal, refusalUnless, grid}
 use Rattle.solver.specs.Cell.{gridFits, cellRefusal, grid-passed, grid-anode, grid-cathode}
 use Rattle.solver.specs.Parts.{cellOf}
 use borrow.Author.Needs.{needs}
@@ -12,7 +12,7 @@ refusal-unless-requires : tie.Need-refusal-unless-requires
 refusal-unless-requires c κs = search needs
 
 returns : tie.Need-returns
-unfolding cellRefusal firstMet
+unfolding cellRefusal firstRefusal
 returns c = rw (← c .before .refusal-unless .ensures, ne-eqb _ _ (c .if1 .taken))
 
 fits-requires : tie.Need-fits-requires
@@ -39,7 +39,7 @@ refusal-unless-requires-2 : tie.Need-refusal-unless-requires-2
 refusal-unless-requires-2 c κs = search needs
 
 returns-2 : tie.Need-returns-2
-unfolding cellRefusal firstMet
+unfolding cellRefusal firstRefusal
 returns-2 c =
     rw (
       ← c .before .before .before .before .before .before .refusal-unless .ensures,

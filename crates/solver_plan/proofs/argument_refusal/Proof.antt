@@ -21,17 +21,17 @@ temperature-fits-requires c κs = search needs
 refusal-unless-requires-3 : tie.Need-refusal-unless-requires-3
 refusal-unless-requires-3 c κs = search needs
 
-first-met-requires : tie.Need-first-met-requires
-first-met-requires c κs = search needs
+first-refusal-requires : tie.Need-first-refusal-requires
+first-refusal-requires c κs = search needs
 
-first-met-requires-2 : tie.Need-first-met-requires-2
-first-met-requires-2 c κs = search needs
+first-refusal-requires-2 : tie.Need-first-refusal-requires-2
+first-refusal-requires-2 c κs = search needs
 
 returns : tie.Need-returns
 returns c =
     rw (
-      c .first-met2 .ensures,
-      c .before .first-met .ensures,
+      c .first-refusal2 .ensures,
+      c .before .first-refusal .ensures,
       c .before .before .refusal-unless3 .ensures,
       c .before .before .before .temperature-fits .ensures,
       c .before .before .before .before .refusal-unless2 .ensures,
@@ -50,6 +50,6 @@ argument-refusal-spec =
     refusal-unless-requires-2
     temperature-fits-requires
     refusal-unless-requires-3
-    first-met-requires
-    first-met-requires-2
+    first-refusal-requires
+    first-refusal-requires-2
     returns)

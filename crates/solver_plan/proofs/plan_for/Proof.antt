@@ -21,17 +21,17 @@ min-requires c κs = search needs
 min-requires-2 : tie.Need-min-requires-2
 min-requires-2 c κs = search needs
 
-wall-current-requires : tie.Need-wall-current-requires
-wall-current-requires c κs = search needs
+surface-current-requires : tie.Need-surface-current-requires
+surface-current-requires c κs = search needs
 
-wall-current-requires-2 : tie.Need-wall-current-requires-2
-wall-current-requires-2 c κs = search needs
+surface-current-requires-2 : tie.Need-surface-current-requires-2
+surface-current-requires-2 c κs = search needs
 
 returns : tie.Need-returns
 returns c = λ p q.
     rw (
-      c .wall-current2 .ensures,
-      c .before .wall-current .ensures,
+      c .surface-current2 .ensures,
+      c .before .surface-current .ensures,
       c .before .before .min2 .ensures,
       c .before .before .before .min .ensures,
       c .before .before .before .before .stable-step2 .ensures q,
@@ -50,6 +50,6 @@ plan-for-spec =
     stable-step-requires-2
     min-requires
     min-requires-2
-    wall-current-requires
-    wall-current-requires-2
+    surface-current-requires
+    surface-current-requires-2
     returns)

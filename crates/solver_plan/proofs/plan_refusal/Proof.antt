@@ -16,12 +16,12 @@ refusal-unless-requires c κs = search needs
 refusal-unless-requires-2 : tie.Need-refusal-unless-requires-2
 refusal-unless-requires-2 c κs = search needs
 
-first-met-requires : tie.Need-first-met-requires
-first-met-requires c κs = search needs
+first-refusal-requires : tie.Need-first-refusal-requires
+first-refusal-requires c κs = search needs
 
 returns : tie.Need-returns
 unfolding planRefusal
-returns c = rw (c .first-met .ensures, c .before .refusal-unless2 .ensures, c .before .before .refusal-unless .ensures, c .before .before .before .before .within2 .ensures, c .before .before .before .before .before .within .ensures)
+returns c = rw (c .first-refusal .ensures, c .before .refusal-unless2 .ensures, c .before .before .refusal-unless .ensures, c .before .before .before .before .within2 .ensures, c .before .before .before .before .before .within .ensures)
 
 pub plan-refusal-spec : {M : Type 1} → statement M
 plan-refusal-spec =
@@ -31,5 +31,5 @@ plan-refusal-spec =
     within-requires-2
     refusal-unless-requires
     refusal-unless-requires-2
-    first-met-requires
+    first-refusal-requires
     returns)

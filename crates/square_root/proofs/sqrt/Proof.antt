@@ -18,18 +18,18 @@ use Rattle.square_root.proofs.sqrt.Statement.{statement}
 use Rattle.square_root.proofs.sqrt.Tie as tie
 
 -- what owning an `f64` tells: the format holds it
-held : (c : tie.Start) → T (fits binary64 (c .args .x))
-held c = subst T (sym (c .good .0 .1)) tt
+representable : (c : tie.Start) → T (fits binary64 (c .args .x))
+representable c = subst T (sym (c .good .0 .1)) tt
 
 abbrev bits : (c : tie.Start) → ℕ
 bits c = toBits binary64 (c .args .x)
 
 back : (c : tie.Start) → ofBits binary64 (bits c) ≡ c .args .x
-back c = ofBits-toBits binary64 (c .args .x) (held c)
+back c = ofBits-toBits binary64 (c .args .x) (representable c)
 
 -- both clauses of the contract, from the first
 both : (c : tie.Start) (r : Float) → r ≡ sqrtOf (c .args .x) → (r ≡ sqrtOf (c .args .x)) × SquareRoot (c .args .x) r
-both c r e = (e, subst (SquareRoot (c .args .x)) (sym e) (standard (c .args .x) (held c)))
+both c r e = (e, subst (SquareRoot (c .args .x)) (sym e) (standard (c .args .x) (representable c)))
 
 -- x is its own root where the value of its bits is
 same : (c : tie.Start) → sqrtOf (ofBits binary64 (bits c)) ≡ ofBits binary64 (bits c) → c .args .x ≡ sqrtOf (c .args .x)
@@ -56,7 +56,7 @@ returns-2 c =
 returns-3 : tie.Need-returns-3
 returns-3 c =
     let start = c .before .before .before in
-    let lt : bits start < 2 ^ 64 = toBits-lt binary64 (start .args .x) (held start) in
+    let lt : bits start < 2 ^ 64 = toBits-lt binary64 (start .args .x) (representable start) in
     both start _ (zero-by-zero ∙ sym (subst (λ (v : Float). sqrtOf v ≡ nan) (back start) (at-negative sqrtOf nan-root negative-root (bits start) (lt-of-le-ne (c .before .if2 .taken) (λ e. c .if3 .left (sym e))) lt)))
 
 returns-4 : tie.Need-returns-4

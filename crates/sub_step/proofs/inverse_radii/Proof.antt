@@ -5,7 +5,7 @@ use native.Mathlib.Omega.{arith}
 use native.Mathlib.Numerals.{add-one}
 use lib.ListN.{replicate}
 use Rattle.binary64.specs.Operators.{f64}
-use Rattle.turns.specs.Turns.{firstBy}
+use Rattle.iterate.specs.Iterate.{firstBy}
 use Rattle.sub_step.specs.SubSteps.{inverseRadius, inverseRadii}
 use borrow.Author.Needs.{needs}
 use Rattle.sub_step.proofs.inverse_radii.Statement.{statement}

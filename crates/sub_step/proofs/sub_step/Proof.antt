@@ -5,7 +5,7 @@ use mathlib.Core.Path.{_≡_, ap, _∙_}
 use native.Mathlib.Omega.{arith}
 use lib.ListN.{getD, set}
 use lib.Ieee.{nan}
-use Rattle.turns.specs.Turns.{firstBy}
+use Rattle.iterate.specs.Iterate.{firstBy}
 use Rattle.sub_step.specs.SubSteps.{nodeBy, subStepBy}
 use Rattle.sub_step.proofs.InPlace.{New, restored, shell-turn, kept, surface-turn}
 use borrow.Author.Needs.{needs}

@@ -3,7 +3,7 @@ use Prim.Native.Nat.{_≤_, _-_}
 use mathlib.Core.Path.{_≡_, refl, ap, _∙_}
 use native.Mathlib.Omega.{arith}
 use native.Mathlib.Numerals.{add-one}
-use Rattle.turns.specs.Turns.{times}
+use Rattle.iterate.specs.Iterate.{times}
 use Rattle.sub_step.specs.SubSteps.{subStepBy}
 use borrow.Author.Needs.{needs}
 use Rattle.sub_step.proofs.sub_steps.Statement.{statement}

@@ -2,7 +2,7 @@
 use mathlib.Core.Bool.{_&&_}
 use borrow.Author.Tests.{not-true, not-false}
 use native.Mathlib.Omega.{arith}
-use Rattle.refusal.specs.Numbers.{refusalUnless, firstMet}
+use Rattle.refusal.specs.Numbers.{refusalUnless, firstRefusal}
 use Rattle.dfn_solid.specs.Room.{room}
 use Rattle.dfn.specs.Checks.{Grid, grid-of}
 use Rattle.dfn.specs.Build.{newRefusal, fresh, made}
@@ -17,7 +17,7 @@ no-cell-requires : tie.Need-no-cell-requires
 no-cell-requires c κs = search needs
 
 returns : tie.Need-returns
-unfolding made newRefusal firstMet refusalUnless
+unfolding made newRefusal firstRefusal refusalUnless
 returns c = rw (← c .before .before .grid-fits .ensures, not-true (c .before .before .grid-fits .result) (c .before .if1 .taken), c .no-cell .ensures)
 
 fit-requires : tie.Need-fit-requires
@@ -30,7 +30,7 @@ no-cell-requires-2 : tie.Need-no-cell-requires-2
 no-cell-requires-2 c κs = search needs
 
 returns-2 : tie.Need-returns-2
-unfolding made newRefusal firstMet refusalUnless
+unfolding made newRefusal firstRefusal refusalUnless
 returns-2 c = rw (← c .before .before .before .before .before .grid-fits .ensures, not-false (c .before .before .before .before .before .grid-fits .result) (c .before .before .before .before .if1 .left), ← c .before .before .before .fit .ensures, ← c .before .before .limits-fit .ensures, not-true (c .before .before .before .fit .result && c .before .before .limits-fit .result) (c .before .if2 .taken), c .no-cell2 .ensures)
 
 mul-uniform-solid : tie.Need-mul-uniform-solid
@@ -66,7 +66,7 @@ uniform-electrolyte-requires c κs = let g = grid-of (c .before .before .before 
     omega (arith, g .most-neg, g .most-pos)
 
 returns-3 : tie.Need-returns-3
-unfolding made newRefusal fresh firstMet refusalUnless
+unfolding made newRefusal fresh firstRefusal refusalUnless
 returns-3 c = rw (← c .before .before .before .before .before .before .before .before .before .before .before .before .before .grid-fits .ensures, not-false (c .before .before .before .before .before .before .before .before .before .before .before .before .before .grid-fits .result) (c .before .before .before .before .before .before .before .before .before .before .before .before .if1 .left), ← c .before .before .before .before .before .before .before .before .before .before .before .fit .ensures, ← c .before .before .before .before .before .before .before .before .before .before .limits-fit .ensures, not-false (c .before .before .before .before .before .before .before .before .before .before .before .fit .result && c .before .before .before .before .before .before .before .before .before .before .limits-fit .result) (c .before .before .before .before .before .before .before .before .before .if2 .left), c .uniform-electrolyte .ensures, c .before .before .before .uniform-solid2 .ensures, c .before .before .before .before .before .before .uniform-solid .ensures)
 
 pub new-spec : {M : Type 1} → statement M

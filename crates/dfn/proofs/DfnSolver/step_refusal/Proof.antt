@@ -10,12 +10,12 @@ cell-refusal-requires c κs = search needs
 load-refusal-requires : tie.Need-load-refusal-requires
 load-refusal-requires c κs = search needs
 
-first-met-requires : tie.Need-first-met-requires
-first-met-requires c κs = search needs
+first-refusal-requires : tie.Need-first-refusal-requires
+first-refusal-requires c κs = search needs
 
 returns : tie.Need-returns
 unfolding stepRefusal cellRefusal
-returns c = rw (c .first-met .ensures, c .before .load-refusal .ensures, c .before .before .cell-refusal .ensures)
+returns c = rw (c .first-refusal .ensures, c .before .load-refusal .ensures, c .before .before .cell-refusal .ensures)
 
 pub step-refusal-spec : {M : Type 1} → statement M
-step-refusal-spec = tie.close (tie.spec cell-refusal-requires load-refusal-requires first-met-requires returns)
+step-refusal-spec = tie.close (tie.spec cell-refusal-requires load-refusal-requires first-refusal-requires returns)

@@ -16,8 +16,8 @@ temperature-fits-requires c κs = search needs
 refusal-unless-requires-2 : tie.Need-refusal-unless-requires-2
 refusal-unless-requires-2 c κs = search needs
 
-first-met-requires : tie.Need-first-met-requires
-first-met-requires c κs = search needs
+first-refusal-requires : tie.Need-first-refusal-requires
+first-refusal-requires c κs = search needs
 
 diffusivity-at-requires : tie.Need-diffusivity-at-requires
 diffusivity-at-requires c κs = search needs
@@ -27,7 +27,7 @@ answered-requires c κs = search needs
 
 returns : tie.Need-returns
 unfolding dS sheetRefusal
-returns c = rw (c .answered .ensures, c .before .diffusivity-at .ensures, c .before .before .first-met .ensures, c .before .before .before .refusal-unless2 .ensures, c .before .before .before .before .temperature-fits .ensures, c .before .before .before .before .before .refusal-unless .ensures, c .before .before .before .before .before .before .fits2 .ensures)
+returns c = rw (c .answered .ensures, c .before .diffusivity-at .ensures, c .before .before .first-refusal .ensures, c .before .before .before .refusal-unless2 .ensures, c .before .before .before .before .temperature-fits .ensures, c .before .before .before .before .before .refusal-unless .ensures, c .before .before .before .before .before .before .fits2 .ensures)
 
 pub d-s-spec : {M : Type 1} → statement M
 d-s-spec =
@@ -37,7 +37,7 @@ d-s-spec =
     refusal-unless-requires
     temperature-fits-requires
     refusal-unless-requires-2
-    first-met-requires
+    first-refusal-requires
     diffusivity-at-requires
     answered-requires
     returns)

@@ -19,14 +19,14 @@ regions-fit-requires c κs = search needs
 refusal-unless-requires-2 : tie.Need-refusal-unless-requires-2
 refusal-unless-requires-2 c κs = search needs
 
-first-met-requires : tie.Need-first-met-requires
-first-met-requires c κs = search needs
+first-refusal-requires : tie.Need-first-refusal-requires
+first-refusal-requires c κs = search needs
 
 returns : tie.Need-returns
 unfolding buildRefusal
 returns c =
     rw (
-      c .first-met .ensures,
+      c .first-refusal .ensures,
       c .before .refusal-unless2 .ensures,
       c .before .before .regions-fit .ensures,
       c .before .before .before .fits2 .ensures,
@@ -43,5 +43,5 @@ build-refusal-spec =
     fits-requires
     regions-fit-requires
     refusal-unless-requires-2
-    first-met-requires
+    first-refusal-requires
     returns)

@@ -2,7 +2,7 @@
 use mathlib.Core.Path.{sym, _∙_}
 use borrow.Author.Needs.{needs}
 use borrow.Author.Tests.{ne-eqb}
-use Rattle.refusal.specs.Numbers.{firstMet}
+use Rattle.refusal.specs.Numbers.{firstRefusal}
 use Rattle.refusal.specs.Answers.{outcome}
 use Rattle.electrolyte.specs.Calls.{cAvg}
 use Rattle.electrolyte.specs.Accepted.{state-total}
@@ -13,7 +13,7 @@ refusal-requires : tie.Need-refusal-requires
 refusal-requires c κs = search needs
 
 returns : tie.Need-returns
-unfolding cAvg outcome firstMet
+unfolding cAvg outcome firstRefusal
 returns c = rw (← c .before .refusal .ensures, ne-eqb _ _ (c .if1 .taken), ne-eqb _ _ (c .if1 .taken))
 
 average-requires : tie.Need-average-requires

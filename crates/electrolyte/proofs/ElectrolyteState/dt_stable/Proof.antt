@@ -13,8 +13,8 @@ refusal-unless-requires c κs = search needs
 refusal-requires : tie.Need-refusal-requires
 refusal-requires c κs = search needs
 
-first-met-requires : tie.Need-first-met-requires
-first-met-requires c κs = search needs
+first-refusal-requires : tie.Need-first-refusal-requires
+first-refusal-requires c κs = search needs
 
 stable-interval-requires : tie.Need-stable-interval-requires
 stable-interval-requires c κs = search needs
@@ -28,7 +28,7 @@ returns c =
     rw (
       c .answered .ensures,
       c .before .stable-interval .ensures,
-      c .before .before .first-met .ensures,
+      c .before .before .first-refusal .ensures,
       c .before .before .before .refusal .ensures,
       c .before .before .before .before .refusal-unless .ensures,
       c .before .before .before .before .before .temperature-fits .ensures,
@@ -41,7 +41,7 @@ dt-stable-spec =
     temperature-fits-requires
     refusal-unless-requires
     refusal-requires
-    first-met-requires
+    first-refusal-requires
     stable-interval-requires
     answered-requires
     returns)

@@ -2,7 +2,7 @@
 use mathlib.Core.Path.{sym, _∙_}
 use borrow.Author.Needs.{needs}
 use borrow.Author.Tests.{ne-eqb, eq-eqb}
-use Rattle.refusal.specs.Numbers.{firstMet}
+use Rattle.refusal.specs.Numbers.{firstRefusal}
 use Rattle.electrolyte.specs.Calls.{stateRefusal}
 use Rattle.electrolyte.specs.Accepted.{build-total}
 use Rattle.electrolyte.proofs.ElectrolyteState.refusal.Statement.{statement}
@@ -12,7 +12,7 @@ build-refusal-requires : tie.Need-build-refusal-requires
 build-refusal-requires c κs = search needs
 
 returns : tie.Need-returns
-unfolding stateRefusal firstMet
+unfolding stateRefusal firstRefusal
 returns c = rw (← c .before .build-refusal .ensures, ne-eqb _ _ (c .if1 .taken))
 
 nodes-requires : tie.Need-nodes-requires
@@ -25,7 +25,7 @@ refusal-unless-requires : tie.Need-refusal-unless-requires
 refusal-unless-requires c κs = search needs
 
 returns-2 : tie.Need-returns-2
-unfolding stateRefusal firstMet
+unfolding stateRefusal firstRefusal
 returns-2 c =
     rw (
       ← c .before .before .before .before .before .build-refusal .ensures,

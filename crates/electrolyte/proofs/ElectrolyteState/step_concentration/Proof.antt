@@ -2,7 +2,7 @@
 use mathlib.Core.Path.{sym, _∙_}
 use borrow.Author.Needs.{needs}
 use borrow.Author.Tests.{eq-eqb, ne-eqb, not-true, not-false}
-use Rattle.electrolyte.specs.State.{driveOf}
+use Rattle.electrolyte.specs.State.{stepParams}
 use Rattle.electrolyte.specs.Calls.{stepped, accepted}
 use Rattle.electrolyte.specs.Accepted.{step-total}
 use Rattle.electrolyte.proofs.ElectrolyteState.step_concentration.Statement.{statement}
@@ -15,12 +15,12 @@ returns : tie.Need-returns
 unfolding stepped
 returns c = rw (← c .before .step-refusal .ensures, ne-eqb _ _ (c .if1 .taken))
 
-drive-requires : tie.Need-drive-requires
-drive-requires c κs = step-total _ _ _ _ _ (sym (c .before .before .step-refusal .ensures) ∙ c .before .if1 .left)
+step-params-requires : tie.Need-step-params-requires
+step-params-requires c κs = step-total _ _ _ _ _ (sym (c .before .before .step-refusal .ensures) ∙ c .before .if1 .left)
 
 advanced-requires : tie.Need-advanced-requires
-unfolding driveOf
-advanced-requires c κs = rw (c .drive .ensures) (step-total _ _ _ _ _ (sym (c .before .before .before .step-refusal .ensures) ∙ c .before .before .if1 .left))
+unfolding stepParams
+advanced-requires c κs = rw (c .step-params .ensures) (step-total _ _ _ _ _ (sym (c .before .before .before .step-refusal .ensures) ∙ c .before .before .if1 .left))
 
 all-finite-requires : tie.Need-all-finite-requires
 all-finite-requires c κs = search needs
@@ -31,7 +31,7 @@ returns-2 c =
     rw (
       ← c .before .before .before .before .before .before .step-refusal .ensures,
       eq-eqb _ _ (c .before .before .before .before .before .if1 .left),
-      ← c .before .before .before .drive .ensures,
+      ← c .before .before .before .step-params .ensures,
       ← c .before .before .advanced .ensures,
       ← c .before .all-finite .ensures,
       not-true (c .before .all-finite .result) (c .if2 .taken),
@@ -46,7 +46,7 @@ returns-3 c =
     rw (
       ← c .before .before .before .before .before .before .before .step-refusal .ensures,
       eq-eqb _ _ (c .before .before .before .before .before .before .if1 .left),
-      ← c .before .before .before .before .drive .ensures,
+      ← c .before .before .before .before .step-params .ensures,
       ← c .before .before .before .advanced .ensures,
       ← c .before .before .all-finite .ensures,
       not-false (c .before .before .all-finite .result) (c .before .if2 .left),
@@ -59,7 +59,7 @@ step-concentration-spec =
     (tie.spec
     step-refusal-requires
     returns
-    drive-requires
+    step-params-requires
     advanced-requires
     all-finite-requires
     returns-2

@@ -28,22 +28,22 @@ refusal-unless-requires-3 c κs = search needs
 refusal-requires : tie.Need-refusal-requires
 refusal-requires c κs = search needs
 
-first-met-requires : tie.Need-first-met-requires
-first-met-requires c κs = search needs
+first-refusal-requires : tie.Need-first-refusal-requires
+first-refusal-requires c κs = search needs
 
-first-met-requires-2 : tie.Need-first-met-requires-2
-first-met-requires-2 c κs = search needs
+first-refusal-requires-2 : tie.Need-first-refusal-requires-2
+first-refusal-requires-2 c κs = search needs
 
-first-met-requires-3 : tie.Need-first-met-requires-3
-first-met-requires-3 c κs = search needs
+first-refusal-requires-3 : tie.Need-first-refusal-requires-3
+first-refusal-requires-3 c κs = search needs
 
 returns : tie.Need-returns
 unfolding stepRefusal
 returns c =
     rw (
-      c .first-met3 .ensures,
-      c .before .first-met2 .ensures,
-      c .before .before .first-met .ensures,
+      c .first-refusal3 .ensures,
+      c .before .first-refusal2 .ensures,
+      c .before .before .first-refusal .ensures,
       c .before .before .before .refusal .ensures,
       c .before .before .before .before .refusal-unless3 .ensures,
       c .before .before .before .before .before .temperature-fits .ensures,
@@ -66,7 +66,7 @@ step-refusal-spec =
     temperature-fits-requires
     refusal-unless-requires-3
     refusal-requires
-    first-met-requires
-    first-met-requires-2
-    first-met-requires-3
+    first-refusal-requires
+    first-refusal-requires-2
+    first-refusal-requires-3
     returns)

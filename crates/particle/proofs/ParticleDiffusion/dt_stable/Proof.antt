@@ -1,6 +1,6 @@
 -- `particle::ParticleDiffusion::dt_stable` meets its contract. Assumes nothing.
 use mathlib.Core.Path.{_≡_, sym, _∙_}
-use Rattle.refusal.specs.Numbers.{firstMet, refusalUnless, none-met, temperature}
+use Rattle.refusal.specs.Numbers.{firstRefusal, refusalUnless, neither-refused, temperature}
 use Rattle.refusal.specs.Ranges.{temperatureFits}
 use Rattle.binary64.specs.Operators.{f64}
 use Rattle.refusal.specs.Answers.{refused-outcome}
@@ -21,8 +21,8 @@ refusal-unless-requires c κs = search needs
 refusal-requires : tie.Need-refusal-requires
 refusal-requires c κs = search needs
 
-first-met-requires : tie.Need-first-met-requires
-first-met-requires c κs = search needs
+first-refusal-requires : tie.Need-first-refusal-requires
+first-refusal-requires c κs = search needs
 
 answered-requires : tie.Need-answered-requires
 answered-requires c κs = search needs
@@ -30,7 +30,7 @@ answered-requires c κs = search needs
 returns : tie.Need-returns
 unfolding dtStable
 returns c = let a = c .before .before .before .before .before .before .args in
-    let e : c .before .before .first-met .result ≡ firstMet (particleRefusal (a .self)) (refusalUnless (temperatureFits (a .temp-k)) temperature) = rw (c .before .before .first-met .ensures, c .before .before .before .refusal .ensures, c .before .before .before .before .refusal-unless .ensures, c .before .before .before .before .before .temperature-fits .ensures) in
+    let e : c .before .before .first-refusal .result ≡ firstRefusal (particleRefusal (a .self)) (refusalUnless (temperatureFits (a .temp-k)) temperature) = rw (c .before .before .first-refusal .ensures, c .before .before .before .refusal .ensures, c .before .before .before .before .refusal-unless .ensures, c .before .before .before .before .before .temperature-fits .ensures) in
     rw (← e, c .answered .ensures) (refused-outcome _ (f64 0) (stableStep (a .self) (diffusivityAt (a .self .params) (a .temp-k))) (c .before .if1 .taken))
 
 diffusivity-at-requires : tie.Need-diffusivity-at-requires
@@ -38,9 +38,9 @@ diffusivity-at-requires c κs = search needs
 
 stable-step-requires : tie.Need-stable-step-requires
 stable-step-requires c κs = let a = c .before .before .before .before .before .before .before .args in
-    let met : c .before .before .before .first-met .result ≡ firstMet (particleRefusal (a .self)) (refusalUnless (temperatureFits (a .temp-k)) temperature) = rw (c .before .before .before .first-met .ensures, c .before .before .before .before .refusal .ensures, c .before .before .before .before .before .refusal-unless .ensures, c .before .before .before .before .before .before .temperature-fits .ensures) in
-    let e : firstMet (particleRefusal (a .self)) (refusalUnless (temperatureFits (a .temp-k)) temperature) ≡ 0 = sym met ∙ c .before .before .if1 .left in
-    nodes-of (a .self) (none-met _ _ e .0)
+    let valid : c .before .before .before .first-refusal .result ≡ firstRefusal (particleRefusal (a .self)) (refusalUnless (temperatureFits (a .temp-k)) temperature) = rw (c .before .before .before .first-refusal .ensures, c .before .before .before .before .refusal .ensures, c .before .before .before .before .before .refusal-unless .ensures, c .before .before .before .before .before .before .temperature-fits .ensures) in
+    let e : firstRefusal (particleRefusal (a .self)) (refusalUnless (temperatureFits (a .temp-k)) temperature) ≡ 0 = sym valid ∙ c .before .before .if1 .left in
+    nodes-of (a .self) (neither-refused _ _ e .0)
 
 answered-requires-2 : tie.Need-answered-requires-2
 answered-requires-2 c κs = search needs
@@ -48,7 +48,7 @@ answered-requires-2 c κs = search needs
 returns-2 : tie.Need-returns-2
 unfolding dtStable
 returns-2 c = let a = c .before .before .before .before .before .before .before .before .before .args in
-    let e : c .before .before .before .before .before .first-met .result ≡ firstMet (particleRefusal (a .self)) (refusalUnless (temperatureFits (a .temp-k)) temperature) = rw (c .before .before .before .before .before .first-met .ensures, c .before .before .before .before .before .before .refusal .ensures, c .before .before .before .before .before .before .before .refusal-unless .ensures, c .before .before .before .before .before .before .before .before .temperature-fits .ensures) in
+    let e : c .before .before .before .before .before .first-refusal .result ≡ firstRefusal (particleRefusal (a .self)) (refusalUnless (temperatureFits (a .temp-k)) temperature) = rw (c .before .before .before .before .before .first-refusal .ensures, c .before .before .before .before .before .before .refusal .ensures, c .before .before .before .before .before .before .before .refusal-unless .ensures, c .before .before .before .before .before .before .before .before .temperature-fits .ensures) in
     rw (← e, c .answered2 .ensures, c .before .stable-step .ensures (a .self .«c_s»), c .before .before .diffusivity-at .ensures)
 
 pub dt-stable-spec : {M : Type 1} → statement M
@@ -58,7 +58,7 @@ dt-stable-spec =
     temperature-fits-requires
     refusal-unless-requires
     refusal-requires
-    first-met-requires
+    first-refusal-requires
     answered-requires
     returns
     diffusivity-at-requires

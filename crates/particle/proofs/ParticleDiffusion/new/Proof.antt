@@ -1,8 +1,8 @@
 -- `particle::ParticleDiffusion::new` meets its contract. Assumes nothing.
 use mathlib.Core.Path.{_≡_, sym, _∙_}
 use borrow.Author.Tests.{eq-eqb, ne-eqb}
-use Rattle.refusal.specs.Numbers.{none-met}
-use Rattle.particle.specs.Checks.{nodes-met}
+use Rattle.refusal.specs.Numbers.{neither-refused}
+use Rattle.particle.specs.Checks.{nodes-valid}
 use Rattle.particle.specs.Calls.{newRefusal, fresh, made}
 use borrow.Author.Needs.{needs}
 use Rattle.particle.proofs.ParticleDiffusion.new.Statement.{statement}
@@ -20,8 +20,8 @@ fits-requires c κs = search needs
 refusal-unless-requires-2 : tie.Need-refusal-unless-requires-2
 refusal-unless-requires-2 c κs = search needs
 
-first-met-requires : tie.Need-first-met-requires
-first-met-requires c κs = search needs
+first-refusal-requires : tie.Need-first-refusal-requires
+first-refusal-requires c κs = search needs
 
 no-particle-requires : tie.Need-no-particle-requires
 no-particle-requires c κs = search needs
@@ -29,20 +29,20 @@ no-particle-requires c κs = search needs
 returns : tie.Need-returns
 unfolding made newRefusal
 returns c = let a = c .before .before .before .before .before .before .before .args in
-    let e : c .before .before .first-met .result ≡ newRefusal (a .params) (a .n-nodes) = rw (c .before .before .first-met .ensures, c .before .before .before .refusal-unless2 .ensures, c .before .before .before .before .fits2 .ensures, c .before .before .before .before .before .refusal-unless .ensures, c .before .before .before .before .before .before .count-within .ensures) in
+    let e : c .before .before .first-refusal .result ≡ newRefusal (a .params) (a .n-nodes) = rw (c .before .before .first-refusal .ensures, c .before .before .before .refusal-unless2 .ensures, c .before .before .before .before .fits2 .ensures, c .before .before .before .before .before .refusal-unless .ensures, c .before .before .before .before .before .before .count-within .ensures) in
     rw (← e, ne-eqb _ _ (c .before .if1 .taken), c .no-particle .ensures)
 
 uniform-requires : tie.Need-uniform-requires
 unfolding newRefusal
 uniform-requires c κs = let a = c .before .before .before .before .before .before .before .args in
-    let met : c .before .before .first-met .result ≡ newRefusal (a .params) (a .n-nodes) = rw (c .before .before .first-met .ensures, c .before .before .before .refusal-unless2 .ensures, c .before .before .before .before .fits2 .ensures, c .before .before .before .before .before .refusal-unless .ensures, c .before .before .before .before .before .before .count-within .ensures) in
-    let e : newRefusal (a .params) (a .n-nodes) ≡ 0 = sym met ∙ c .before .if1 .left in
-    nodes-met (a .n-nodes) (none-met _ _ e .0) .1
+    let valid : c .before .before .first-refusal .result ≡ newRefusal (a .params) (a .n-nodes) = rw (c .before .before .first-refusal .ensures, c .before .before .before .refusal-unless2 .ensures, c .before .before .before .before .fits2 .ensures, c .before .before .before .before .before .refusal-unless .ensures, c .before .before .before .before .before .before .count-within .ensures) in
+    let e : newRefusal (a .params) (a .n-nodes) ≡ 0 = sym valid ∙ c .before .if1 .left in
+    nodes-valid (a .n-nodes) (neither-refused _ _ e .0) .1
 
 returns-2 : tie.Need-returns-2
 unfolding made newRefusal fresh
 returns-2 c = let a = c .before .before .before .before .before .before .before .before .args in
-    let e : c .before .before .before .first-met .result ≡ newRefusal (a .params) (a .n-nodes) = rw (c .before .before .before .first-met .ensures, c .before .before .before .before .refusal-unless2 .ensures, c .before .before .before .before .before .fits2 .ensures, c .before .before .before .before .before .before .refusal-unless .ensures, c .before .before .before .before .before .before .before .count-within .ensures) in
+    let e : c .before .before .before .first-refusal .result ≡ newRefusal (a .params) (a .n-nodes) = rw (c .before .before .before .first-refusal .ensures, c .before .before .before .before .refusal-unless2 .ensures, c .before .before .before .before .before .fits2 .ensures, c .before .before .before .before .before .before .refusal-unless .ensures, c .before .before .before .before .before .before .before .count-within .ensures) in
     rw (← e, eq-eqb _ _ (c .before .before .if1 .left), c .uniform .ensures)
 
 pub new-spec : {M : Type 1} → statement M
@@ -53,7 +53,7 @@ new-spec =
     refusal-unless-requires
     fits-requires
     refusal-unless-requires-2
-    first-met-requires
+    first-refusal-requires
     no-particle-requires
     returns
     uniform-requires

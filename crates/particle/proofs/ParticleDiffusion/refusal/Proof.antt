@@ -1,8 +1,8 @@
 -- `particle::ParticleDiffusion::refusal` meets its contract: each way out has what the test found. Assumes nothing.
 use mathlib.Core.Path.{_≡_, sym, _∙_}
 use borrow.Author.Tests.{eq-eqb, ne-eqb}
-use Rattle.refusal.specs.Numbers.{firstMet, refusalUnless, grid}
-use Rattle.particle.specs.Checks.{nodesFit, nodes-met, particleRefusal}
+use Rattle.refusal.specs.Numbers.{firstRefusal, refusalUnless, grid}
+use Rattle.particle.specs.Checks.{nodesFit, nodes-valid, particleRefusal}
 use borrow.Author.Needs.{needs}
 use Rattle.particle.proofs.ParticleDiffusion.refusal.Statement.{statement}
 use Rattle.particle.proofs.ParticleDiffusion.refusal.Tie as tie
@@ -14,19 +14,19 @@ refusal-unless-requires : tie.Need-refusal-unless-requires
 refusal-unless-requires c κs = search needs
 
 returns : tie.Need-returns
-unfolding particleRefusal firstMet
+unfolding particleRefusal firstRefusal
 returns c = rw (← c .before .before .count-within .ensures, ← c .before .refusal-unless .ensures, ne-eqb _ _ (c .if1 .taken))
 
 fields-fit-requires : tie.Need-fields-fit-requires
 fields-fit-requires c κs =
     let e : refusalUnless (nodesFit (c .before .before .before .before .before .before .args .t1 .«n_nodes»)) grid ≡ 0 = rw (← c .before .before .before .before .before .count-within .ensures, ← c .before .before .before .before .refusal-unless .ensures) (c .before .before .before .if1 .left) in
-    nodes-met _ e .1
+    nodes-valid _ e .1
 
 refusal-unless-requires-2 : tie.Need-refusal-unless-requires-2
 refusal-unless-requires-2 c κs = search needs
 
 returns-2 : tie.Need-returns-2
-unfolding particleRefusal firstMet
+unfolding particleRefusal firstRefusal
 returns-2 c =
     rw (
       ← c .before .before .before .before .before .before .before .count-within .ensures,

@@ -1,10 +1,10 @@
 -- `particle::ParticleDiffusion::step` meets its contract. Assumes nothing.
 use mathlib.Core.Path.{_≡_, sym, _∙_}
 use borrow.Author.Tests.{eq-eqb, ne-eqb}
-use Rattle.turns.specs.Turns.{times}
+use Rattle.iterate.specs.Iterate.{times}
 use Rattle.diffusion.specs.SubStep.{subStep}
 use Rattle.particle.specs.Checks.{nodes-of}
-use Rattle.particle.specs.Particle.{driveWith}
+use Rattle.particle.specs.Particle.{subStepParamsOf}
 use Rattle.particle.specs.Calls.{step-particle, stepped}
 use borrow.Author.Needs.{needs}
 use Rattle.particle.proofs.ParticleDiffusion.step.Statement.{statement}
@@ -33,7 +33,7 @@ returns-2 c =
     let d = c .before .before .before .diffusivity-at in
     let first = c .before .before .before .before .before in
     let a = first .before .before .args in
-    let moved : c .before .advance .result ≡ subStep (driveWith (a .self) (d .result) (a .j-n) (a .dt)) (a .self .«c_s») = c .before .advance .ensures in
+    let moved : c .before .advance .result ≡ subStep (subStepParamsOf (a .self) (d .result) (a .j-n) (a .dt)) (a .self .«c_s») = c .before .advance .ensures in
     rw (c .accepted .ensures, moved, d .ensures, ← first .before .step-refusal .ensures, eq-eqb _ _ (first .if1 .left))
 
 pub step-spec : {M : Type 1} → statement M

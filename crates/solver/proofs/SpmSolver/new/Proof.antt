@@ -1,8 +1,8 @@
 -- `solver::SpmSolver::new` meets its contract. Assumes nothing.
 use mathlib.Core.Path.{_≡_, sym, _∙_}
 use borrow.Author.Tests.{eq-eqb, ne-eqb}
-use Rattle.refusal.specs.Numbers.{none-met}
-use Rattle.particle.specs.Checks.{nodes-met}
+use Rattle.refusal.specs.Numbers.{neither-refused}
+use Rattle.particle.specs.Checks.{nodes-valid}
 use Rattle.particle.specs.Calls.{fresh}
 use Rattle.solver.specs.Cell.{buildRefusal, freshSolver, built}
 use borrow.Author.Needs.{needs}
@@ -27,8 +27,8 @@ fits-requires-3 c κs = search needs
 refusal-unless-requires-2 : tie.Need-refusal-unless-requires-2
 refusal-unless-requires-2 c κs = search needs
 
-first-met-requires : tie.Need-first-met-requires
-first-met-requires c κs = search needs
+first-refusal-requires : tie.Need-first-refusal-requires
+first-refusal-requires c κs = search needs
 
 no-solver-requires : tie.Need-no-solver-requires
 no-solver-requires c κs = search needs
@@ -36,27 +36,27 @@ no-solver-requires c κs = search needs
 returns : tie.Need-returns
 unfolding built buildRefusal
 returns c = let a = c .before .before .before .before .before .before .before .before .before .args in
-    let e : c .before .before .first-met .result ≡ buildRefusal (a .config) (a .anode) (a .cathode) = rw (c .before .before .first-met .ensures, c .before .before .before .refusal-unless2 .ensures, c .before .before .before .before .fits4 .ensures, c .before .before .before .before .before .fits3 .ensures, c .before .before .before .before .before .before .fits2 .ensures, c .before .before .before .before .before .before .before .refusal-unless .ensures, c .before .before .before .before .before .before .before .before .count-within .ensures) in
+    let e : c .before .before .first-refusal .result ≡ buildRefusal (a .config) (a .anode) (a .cathode) = rw (c .before .before .first-refusal .ensures, c .before .before .before .refusal-unless2 .ensures, c .before .before .before .before .fits4 .ensures, c .before .before .before .before .before .fits3 .ensures, c .before .before .before .before .before .before .fits2 .ensures, c .before .before .before .before .before .before .before .refusal-unless .ensures, c .before .before .before .before .before .before .before .before .count-within .ensures) in
     rw (← e, ne-eqb _ _ (c .before .if1 .taken), c .no-solver .ensures)
 
 uniform-requires : tie.Need-uniform-requires
 unfolding buildRefusal
 uniform-requires c κs = let a = c .before .before .before .before .before .before .before .before .before .args in
-    let met : c .before .before .first-met .result ≡ buildRefusal (a .config) (a .anode) (a .cathode) = rw (c .before .before .first-met .ensures, c .before .before .before .refusal-unless2 .ensures, c .before .before .before .before .fits4 .ensures, c .before .before .before .before .before .fits3 .ensures, c .before .before .before .before .before .before .fits2 .ensures, c .before .before .before .before .before .before .before .refusal-unless .ensures, c .before .before .before .before .before .before .before .before .count-within .ensures) in
-    let e : buildRefusal (a .config) (a .anode) (a .cathode) ≡ 0 = sym met ∙ c .before .if1 .left in
-    nodes-met (a .config .«n_nodes») (none-met _ _ e .0) .1
+    let valid : c .before .before .first-refusal .result ≡ buildRefusal (a .config) (a .anode) (a .cathode) = rw (c .before .before .first-refusal .ensures, c .before .before .before .refusal-unless2 .ensures, c .before .before .before .before .fits4 .ensures, c .before .before .before .before .before .fits3 .ensures, c .before .before .before .before .before .before .fits2 .ensures, c .before .before .before .before .before .before .before .refusal-unless .ensures, c .before .before .before .before .before .before .before .before .count-within .ensures) in
+    let e : buildRefusal (a .config) (a .anode) (a .cathode) ≡ 0 = sym valid ∙ c .before .if1 .left in
+    nodes-valid (a .config .«n_nodes») (neither-refused _ _ e .0) .1
 
 uniform-requires-2 : tie.Need-uniform-requires-2
 unfolding buildRefusal
 uniform-requires-2 c κs = let a = c .before .before .before .before .before .before .before .before .before .before .before .args in
-    let met : c .before .before .before .before .first-met .result ≡ buildRefusal (a .config) (a .anode) (a .cathode) = rw (c .before .before .before .before .first-met .ensures, c .before .before .before .before .before .refusal-unless2 .ensures, c .before .before .before .before .before .before .fits4 .ensures, c .before .before .before .before .before .before .before .fits3 .ensures, c .before .before .before .before .before .before .before .before .fits2 .ensures, c .before .before .before .before .before .before .before .before .before .refusal-unless .ensures, c .before .before .before .before .before .before .before .before .before .before .count-within .ensures) in
-    let e : buildRefusal (a .config) (a .anode) (a .cathode) ≡ 0 = sym met ∙ c .before .before .before .if1 .left in
-    nodes-met (a .config .«n_nodes») (none-met _ _ e .0) .1
+    let valid : c .before .before .before .before .first-refusal .result ≡ buildRefusal (a .config) (a .anode) (a .cathode) = rw (c .before .before .before .before .first-refusal .ensures, c .before .before .before .before .before .refusal-unless2 .ensures, c .before .before .before .before .before .before .fits4 .ensures, c .before .before .before .before .before .before .before .fits3 .ensures, c .before .before .before .before .before .before .before .before .fits2 .ensures, c .before .before .before .before .before .before .before .before .before .refusal-unless .ensures, c .before .before .before .before .before .before .before .before .before .before .count-within .ensures) in
+    let e : buildRefusal (a .config) (a .anode) (a .cathode) ≡ 0 = sym valid ∙ c .before .before .before .if1 .left in
+    nodes-valid (a .config .«n_nodes») (neither-refused _ _ e .0) .1
 
 returns-2 : tie.Need-returns-2
 unfolding built buildRefusal freshSolver fresh
 returns-2 c = let a = c .before .before .before .before .before .before .before .before .before .before .before .before .args in
-    let e : c .before .before .before .before .before .first-met .result ≡ buildRefusal (a .config) (a .anode) (a .cathode) = rw (c .before .before .before .before .before .first-met .ensures, c .before .before .before .before .before .before .refusal-unless2 .ensures, c .before .before .before .before .before .before .before .fits4 .ensures, c .before .before .before .before .before .before .before .before .fits3 .ensures, c .before .before .before .before .before .before .before .before .before .fits2 .ensures, c .before .before .before .before .before .before .before .before .before .before .refusal-unless .ensures, c .before .before .before .before .before .before .before .before .before .before .before .count-within .ensures) in
+    let e : c .before .before .before .before .before .first-refusal .result ≡ buildRefusal (a .config) (a .anode) (a .cathode) = rw (c .before .before .before .before .before .first-refusal .ensures, c .before .before .before .before .before .before .refusal-unless2 .ensures, c .before .before .before .before .before .before .before .fits4 .ensures, c .before .before .before .before .before .before .before .before .fits3 .ensures, c .before .before .before .before .before .before .before .before .before .fits2 .ensures, c .before .before .before .before .before .before .before .before .before .before .refusal-unless .ensures, c .before .before .before .before .before .before .before .before .before .before .before .count-within .ensures) in
     rw (← e, eq-eqb _ _ (c .before .before .before .before .if1 .left), c .uniform2 .ensures, c .before .before .uniform .ensures)
 
 pub new-spec : {M : Type 1} → statement M
@@ -69,7 +69,7 @@ new-spec =
     fits-requires-2
     fits-requires-3
     refusal-unless-requires-2
-    first-met-requires
+    first-refusal-requires
     no-solver-requires
     returns
     uniform-requires

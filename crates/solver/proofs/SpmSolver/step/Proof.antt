@@ -8,8 +8,8 @@ use Rattle.solver.proofs.SpmSolver.step.Tie as tie
 parts-requires : tie.Need-parts-requires
 parts-requires c κs = search needs
 
-step-lent-requires : tie.Need-step-lent-requires
-step-lent-requires c κs = search needs
+step-in-place-requires : tie.Need-step-in-place-requires
+step-in-place-requires c κs = search needs
 
 refused-step-requires : tie.Need-refused-step-requires
 refused-step-requires c κs = search needs
@@ -17,12 +17,12 @@ refused-step-requires c κs = search needs
 returns : tie.Need-returns
 returns c =
     let a = c .before .before .before .before .before .before .before .before .before .args in
-    c .refused-step .ensures ∙ answer-kept (a .self) (a .current-a) (a .dt) (a .temp-k) (c .before .before .before .step-lent .result) _ _ (rw (c .before .before .before .before .before .before .before .before .parts .ensures) at (c .before .before .before .step-lent .ensures)) (c .before .if1 .taken)
+    c .refused-step .ensures ∙ answer-kept (a .self) (a .current-a) (a .dt) (a .temp-k) (c .before .before .before .step-in-place .result) _ _ (rw (c .before .before .before .before .before .before .before .before .parts .ensures) at (c .before .before .before .step-in-place .ensures)) (c .before .if1 .taken)
 
 returns-2 : tie.Need-returns-2
 returns-2 c =
     let a = c .before .before .before .before .before .before .before .before .before .before .before .before .before .args in
-    rw (c .before .before .before .before .before .before .before .before .before .before .before .before .parts .ensures) (answer-made (a .self) (a .current-a) (a .dt) (a .temp-k) (c .before .before .before .before .before .before .before .step-lent .result) _ _ (rw (c .before .before .before .before .before .before .before .before .before .before .before .before .parts .ensures) at (c .before .before .before .before .before .before .before .step-lent .ensures)) (c .before .before .before .before .before .if1 .left))
+    rw (c .before .before .before .before .before .before .before .before .before .before .before .before .parts .ensures) (answer-made (a .self) (a .current-a) (a .dt) (a .temp-k) (c .before .before .before .before .before .before .before .step-in-place .result) _ _ (rw (c .before .before .before .before .before .before .before .before .before .before .before .before .parts .ensures) at (c .before .before .before .before .before .before .before .step-in-place .ensures)) (c .before .before .before .before .before .if1 .left))
 
 pub step-spec : {M : Type 1} → statement M
-step-spec = tie.close (tie.spec parts-requires step-lent-requires refused-step-requires returns returns-2)
+step-spec = tie.close (tie.spec parts-requires step-in-place-requires refused-step-requires returns returns-2)

@@ -1,2 +1,0 @@
--- The bench cells of document 01 as one theorem: `bench-cells`, in BenchCells, a list in the paper's order from the definitions that the contracts cite.
-pub mod BenchCells

@@ -1,0 +1,4 @@
+-- MinMax: absolute value, sign, clamp, max, min. Count: the least whole number not below a quotient.
+pub mod MinMax
+pub mod Count
+pub mod Literals
