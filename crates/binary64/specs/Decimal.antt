@@ -1,5 +1,5 @@
--- A literal's bit pattern against the decimal that it stands for: the binary64 nearest to it. Definitions only.
--- A crate lists the literals of its definitions once, and one computed theorem says that each pattern is its decimal rounded once.
+-- A literal against the decimal that it stands for: the binary64 nearest to it. Definitions only.
+-- Literals lists the literals of all definitions, and one computed theorem says that each is its decimal rounded once.
 use Prim.Native.Nat.{ℕ, _^_}
 use mathlib.Core.Bool.{Bool, true, _&&_}
 use mathlib.Core.List.{List, [], _∷_}
@@ -12,14 +12,14 @@ abbrev pub decimal : ℕ → ℕ → Float
 decimal digits places = round binary64 false digits (10 ^ places)
 
 pub record Literal : Type 0 where
-  pub pattern : ℕ
+  pub value : Float
   pub digits : ℕ
   pub places : ℕ
 
-abbrev pub literal : ℕ → ℕ → ℕ → Literal
-literal pattern digits places = record { pattern = pattern; digits = digits; places = places }
+abbrev pub literal : Float → ℕ → ℕ → Literal
+literal value digits places = record { value = value; digits = digits; places = places }
 
--- each pattern is that of its decimal
+-- each value is its decimal, rounded once
 unfoldable pub areDecimals : List Literal → Bool
 areDecimals [] = true
-areDecimals (l ∷ ls) = eqb (toBits binary64 (decimal (l .digits) (l .places))) (l .pattern) && areDecimals ls
+areDecimals (l ∷ ls) = eqb (toBits binary64 (decimal (l .digits) (l .places))) (toBits binary64 (l .value)) && areDecimals ls

@@ -9,16 +9,17 @@ use Rattle.fraction.specs.Fraction.{Fraction, whole, nat, _+F_, _*F_, _within_}
 use Rattle.fraction.specs.Field.{≈F-refl}
 use Rattle.fraction.specs.Certificate.{quote, within-by, hi, lo, _⊞_}
 use Rattle.fraction.specs.Order.{lit≤F}
-use Rattle.binary64.specs.Operators.{_⊕_, _⊗_, _⊘_, f64, count}
+use Rattle.binary64.specs.Operators.{_⊕_, _⊗_, _⊘_, count}
 use Rattle.binary64.specs.Error.{u, Close, rounding-error}
 use Rattle.binary64.specs.Near.{Fair, Near, exact, near-add, near-mul}
 use Rattle.binary64.specs.Range.{Most, Within}
 use Rattle.binary64.specs.RangeOps.{mul-most, div-count, add-over, literal}
 use Rattle.binary64.specs.Rounds.{add-rounds}
 use Rattle.binary64.specs.Value.{val}
+use Rattle.binary64.specs.Literals.{«1·0»}
 
 abbrev one : Float
-one = f64 0x3ff0_0000_0000_0000
+one = «1·0»
 
 -- a range: with a from 31/32 to 33/32 and |y| ≤ 5/256, 1 ⊕ a ⊗ y ⊘ k is from 31/32 to 33/32
 series-term : {a y : Float} {s : Bool} → Within a 33 32 31 32 → Most y s 5 256 → (k : ℕ) → 1 ≤ k → k ≤ 2 ^ 53 → Within (one ⊕ a ⊗ y ⊘ count k) 33 32 31 32

@@ -19,18 +19,19 @@ use Rattle.binary64.specs.Range.{exact, Within}
 use Rattle.binary64.specs.RangeOps.{mul-between, sub-over, literal, tested-within}
 use Rattle.binary64.specs.Rounds.{add-rounds, div-rounds}
 use Rattle.binary64.specs.Value.{val}
+use Rattle.binary64.specs.Literals.{«0·0», «0·001», «0·75», «1·0», «1·5», «3·0», «5·0»}
 
 abbrev zero : Float
-zero = f64 0
+zero = «0·0»
 
 abbrev one : Float
-one = f64 0x3ff0_0000_0000_0000
+one = «1·0»
 
 abbrev three : Float
-three = f64 0x4008_0000_0000_0000
+three = «3·0»
 
 abbrev five : Float
-five = f64 0x4014_0000_0000_0000
+five = «5·0»
 
 -- 2 ^ -1074, 2 ^ -1022, 2 ^ -53
 abbrev smallest : Float
@@ -50,7 +51,7 @@ abbrev below-half : Float
 below-half = f64 0x7fcf_ffff_ffff_ffff
 
 -- ---- what literals and operators stand for
-minus-three-halves : val (neg (f64 0x3ff8_0000_0000_0000)) ≈F frac (negsuc 2) 2 tt
+minus-three-halves : val (neg «1·5») ≈F frac (negsuc 2) 2 tt
 unfolding ofBits neg val negF
 minus-three-halves = record { cross = refl }
 
@@ -89,7 +90,7 @@ unfolding ofBits add val _+F_ _*F_ negF
 not-half h = lt-not-le (lit<F tt) (h .lo)
 
 -- and A cannot be below 2 ^ -1022: 2 ^ -1074 · 3/4 rounds to 2 ^ -1074
-not-lower : val (smallest ⊗ f64 0x3fe8_0000_0000_0000) -F val smallest *F val (f64 0x3fe8_0000_0000_0000) within val smallest *F u → ⊥
+not-lower : val (smallest ⊗ «0·75») -F val smallest *F val «0·75» within val smallest *F u → ⊥
 unfolding ofBits mul val _+F_ _*F_ negF u
 not-lower h = lt-not-le (lit<F tt) (h .hi)
 
@@ -118,9 +119,9 @@ small-missing t = t
 product-range : Within (fin false 1 (negsuc 599) ⊗ fin false 1 (negsuc 469)) 1 (2 ^ 1070) 1 (2 ^ 1070)
 product-range = mul-between (literal (fin false 1 (negsuc 599)) 1 (2 ^ 600) 1 (2 ^ 600) tt tt tt tt tt) (literal (fin false 1 (negsuc 469)) 1 (2 ^ 470) 1 (2 ^ 470) tt tt tt tt tt) 1 (2 ^ 1070) 1 (2 ^ 1070) tt tt tt tt
 
-rest-range : (x : Float) → T (le (f64 0x3f50_624d_d2f1_a9fc) x) → T (le x one) → Within (one ⊖ x) 2 1 0 1
+rest-range : (x : Float) → T (le «0·001» x) → T (le x one) → Within (one ⊖ x) 2 1 0 1
 unfolding ofBits
-rest-range x h k = sub-over (literal one 1 1 1 1 tt tt tt tt tt) (tested-within (f64 0x3f50_624d_d2f1_a9fc) x one tt tt h k .0) 2 1 0 1 tt tt tt tt tt
+rest-range x h k = sub-over (literal one 1 1 1 1 tt tt tt tt tt) (tested-within «0·001» x one tt tt h k .0) 2 1 0 1 tt tt tt tt tt
 
 -- ---- order: 1/3 rounds to a value from 0 to 1; and a product by 3
 third-in-bounds : InBounds zero (one ⊘ three) one

@@ -48,5 +48,6 @@ pub mod OrderLaws
 pub mod Bounds
 pub mod Near
 pub mod Decimal
+pub mod Literals
 pub mod Examples
 pub mod Instances

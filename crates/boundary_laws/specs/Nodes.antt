@@ -8,8 +8,8 @@ use lib.ListN.{getD, replicate}
 use lib.Ieee.{nan}
 use Rattle.image_laws.specs.CellImages.{particleIn}
 use Rattle.fraction.specs.Fraction.{Fraction}
-use Rattle.binary64.specs.Operators.{f64}
 use Rattle.binary64.specs.Value.{val}
+use Rattle.binary64.specs.Literals.{«0·0»}
 use Rattle.iterate.specs.Iterate.{first-below}
 use Rattle.particle.specs.declared.ParticleDiffusion.{ParticleDiffusion}
 use Rattle.particle.specs.Checks.{nodes-of}
@@ -39,7 +39,7 @@ abbrev pub mostAt : Electrode → SpmSolver → Fraction
 mostAt e c = val (L.particleAt e c .params .«c_s_max»)
 
 row-place : (s : List ℕ) (at i : ℕ) → i < 64 → getD (placesAt 64 s at) i nan ≡ floatAt s (at + i)
-row-place s at i l = first-below (λ k. floatAt s (at + k)) (replicate 64 (f64 0)) 64 i nan l (le-refl 64)
+row-place s at i l = first-below (λ k. floatAt s (at + k)) (replicate 64 «0·0») 64 i nan l (le-refl 64)
 
 particle-node : (s : List ℕ) (i : ℕ) → i < 64 → placeOf (particleIn s) i ≡ floatAt s (11 + i)
 unfolding particleAt

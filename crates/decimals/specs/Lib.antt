@@ -2,4 +2,3 @@
 --
 -- Nearest: the power of ten, and what is read.
 pub mod Nearest
-pub mod Literals

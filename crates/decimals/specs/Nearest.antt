@@ -3,15 +3,16 @@ use Prim.Native.Nat.{ℕ, zero, suc, _^_}
 use mathlib.Core.Bool.{Bool, true, false, _&&_}
 use lib.Dec.{leb}
 use lib.Ieee.{Float}
-use Rattle.binary64.specs.Operators.{_⊗_, f64}
+use Rattle.binary64.specs.Operators.{_⊗_}
 use Rattle.binary64.specs.Decimal.{decimal}
+use Rattle.binary64.specs.Literals.{«1·0», «10·0»}
 use Rattle.decimals.specs.declared.Reading.{Reading}
 use Rattle.decimals.specs.declared.Reading.the-variants.{Value, TooLong}
 
 -- 10 ^ k, multiplied up from 1
 unfoldable pub tens : ℕ → Float
-tens zero = f64 0x3ff0_0000_0000_0000
-tens (suc k) = tens k ⊗ f64 0x4024_0000_0000_0000
+tens zero = «1·0»
+tens (suc k) = tens k ⊗ «10·0»
 
 abbrev pub readWhere : Bool → Float → Reading
 readWhere true x = Value x

@@ -9,7 +9,6 @@ use lib.ListN.{set}
 use lib.Seq.{getD-set-other}
 use lib.Ieee.{Float, nan, ofBits}
 use borrow.Author.Tests.{ne-eqb}
-use Rattle.binary64.specs.Operators.{f64}
 use Rattle.min_max.specs.MinMax.{absOf}
 use Rattle.refusal.specs.Numbers.{neither-refused, passed}
 use Rattle.refusal.specs.Ranges.{finite}
@@ -22,15 +21,16 @@ use Rattle.dense_elimination.specs.Elimination.{pivotOf, columnWith, columnDone
 use Rattle.dense.specs.Substitution.{takenOut, columnSolved, substituted}
 use Rattle.dense.specs.Solve.{loaded, reduced, solution, solutionRefusal, answer, solved}
 use Rattle.dense_elimination.proofs.Pivots.{pivot-row}
+use Rattle.binary64.specs.Literals.{«0·0»}
 
-zeros-at : (k i : ℕ) → i < k → at (zeros k) i ≡ f64 0
+zeros-at : (k i : ℕ) → i < k → at (zeros k) i ≡ «0·0»
 zeros-at zero i l = absurd (omega (arith, l))
 zeros-at (suc k) zero l = refl
 zeros-at (suc k) (suc i) l = zeros-at k i (omega (arith, l))
 
 -- place i of l is +0
 record ZeroAt (i : ℕ) (l : List Float) : Type 0 where
-  is-zero : at l i ≡ f64 0
+  is-zero : at l i ≡ «0·0»
 
 module _ (n i : ℕ) (h : n ≤ i) where
   set-zero : (l : List Float) (k : ℕ) (v : Float) → k < n → ZeroAt i l → ZeroAt i (set l k v)
@@ -68,7 +68,7 @@ module _ (n i : ℕ) (h : n ≤ i) where
   unfolding answer
   answer-zero number x l z = either (ZeroAt i) (eqb number 0) x (zeros 32) z (record { is-zero = zeros-at 32 i l })
 
-  pub unused : (a b : List Float) → i < 32 → at (solved a b n .x) i ≡ f64 0
+  pub unused : (a b : List Float) → i < 32 → at (solved a b n .x) i ≡ «0·0»
   unfolding solved solution reduced loaded
   unused a b l =
       let side : ZeroAt i (firstBy n (at b) (zeros 32)) = record { is-zero = rw (first-above (at b) (zeros 32) n i nan h) (zeros-at 32 i l) } in

@@ -3,13 +3,13 @@ use Prim.Native.Nat.{ℕ, _+_}
 use mathlib.Core.Bool.{Bool, cond}
 use mathlib.Core.List.{List}
 use lib.Ieee.{Float, lt}
-use Rattle.binary64.specs.Operators.{f64}
 use Rattle.min_max.specs.MinMax.{absOf}
 use Rattle.refusal.specs.Numbers.{singular}
 use Rattle.matrix_rows.specs.Loops.{forRange, Tried, outcome, tryRange}
 use Rattle.matrix_rows.specs.Places.{entry}
 use Rattle.matrix_columns.specs.Columns.{System, pivotTaken}
 use Rattle.dense_elimination.specs.declared.Pivot.{Pivot}
+use Rattle.binary64.specs.Literals.{«1e-14»}
 
 -- ---- the search for a pivot
 
@@ -27,7 +27,7 @@ pivotOf a col n = forRange (col + 1) n (λ row p. larger p (candidate a row col)
 
 -- below 1e-14, which a NaN is not
 abbrev pub tiny : Float → Bool
-tiny v = lt v (f64 0x3d06_849b_86a1_2b9b)
+tiny v = lt v «1e-14»
 
 -- ---- elimination
 

@@ -3,7 +3,8 @@ use Prim.Native.Nat.{ℕ}
 use mathlib.Core.Bool.{cond, _&&_}
 use lib.Dec.{eqb}
 use lib.ListN.{replicate}
-use Rattle.binary64.specs.Operators.{_⊗_, f64}
+use Rattle.binary64.specs.Operators.{_⊗_}
+use Rattle.binary64.specs.Literals.{«0·0», «3·8»}
 use Rattle.refusal.specs.Numbers.{firstRefusal, refusalUnless, grid, sheet}
 use Rattle.dfn_parameters.specs.Ranges.{parametersFit, gridFits, limitsFit}
 use Rattle.dfn_parameters.specs.declared.DfnParams.{DfnParams}
@@ -25,9 +26,9 @@ fresh p g = record {
   «c_s_neg» = filled 512 (p .«theta_neg_0» ⊗ p .«c_s_neg_max») (usedNeg g);
   «c_s_pos» = filled 512 (p .«theta_pos_0» ⊗ p .«c_s_pos_max») (usedPos g);
   «c_e» = filled 33 (p .«c_e0») (usedElectrolyte g);
-  «time_s» = f64 0;
-  voltage = f64 0x400e_6666_6666_6666;
-  current = f64 0;
+  «time_s» = «0·0»;
+  voltage = «3·8»;
+  current = «0·0»;
   «theta_neg_surf» = p .«theta_neg_0»;
   «theta_pos_surf» = p .«theta_pos_0»;
 }
@@ -35,52 +36,52 @@ fresh p g = record {
 -- ---- the record whose every number is +0 and whose counts are 0, beside a refused build
 abbrev noParameters : DfnParams
 noParameters = record {
-  «l_neg» = f64 0;
-  «l_sep» = f64 0;
-  «l_pos» = f64 0;
-  area = f64 0;
-  «r_neg» = f64 0;
-  «d_s_neg_ref» = f64 0;
-  «c_s_neg_max» = f64 0;
-  «eps_neg» = f64 0;
-  «theta_neg_0» = f64 0;
-  «k_neg» = f64 0;
-  «r_pos» = f64 0;
-  «d_s_pos_ref» = f64 0;
-  «c_s_pos_max» = f64 0;
-  «eps_pos» = f64 0;
-  «theta_pos_0» = f64 0;
-  «k_pos» = f64 0;
-  «c_e0» = f64 0;
-  «d_e0» = f64 0;
-  «gamma_e» = f64 0;
-  «t_plus» = f64 0;
-  kappa0 = f64 0;
-  «eps_e_elec» = f64 0;
-  «eps_e_sep» = f64 0;
-  brugg = f64 0;
-  «temperature_k» = f64 0;
+  «l_neg» = «0·0»;
+  «l_sep» = «0·0»;
+  «l_pos» = «0·0»;
+  area = «0·0»;
+  «r_neg» = «0·0»;
+  «d_s_neg_ref» = «0·0»;
+  «c_s_neg_max» = «0·0»;
+  «eps_neg» = «0·0»;
+  «theta_neg_0» = «0·0»;
+  «k_neg» = «0·0»;
+  «r_pos» = «0·0»;
+  «d_s_pos_ref» = «0·0»;
+  «c_s_pos_max» = «0·0»;
+  «eps_pos» = «0·0»;
+  «theta_pos_0» = «0·0»;
+  «k_pos» = «0·0»;
+  «c_e0» = «0·0»;
+  «d_e0» = «0·0»;
+  «gamma_e» = «0·0»;
+  «t_plus» = «0·0»;
+  kappa0 = «0·0»;
+  «eps_e_elec» = «0·0»;
+  «eps_e_sep» = «0·0»;
+  brugg = «0·0»;
+  «temperature_k» = «0·0»;
   «ocv_neg_count» = 0;
-  «ocv_neg_coeffs» = replicate 16 (f64 0);
+  «ocv_neg_coeffs» = replicate 16 «0·0»;
   «ocv_pos_count» = 0;
-  «ocv_pos_coeffs» = replicate 16 (f64 0);
+  «ocv_pos_coeffs» = replicate 16 «0·0»;
 }
 
 abbrev noGrid : DfnConfig
-noGrid = record { «n_x_neg» = 0; «n_x_pos» = 0; «n_r» = 0; «v_min» = f64 0; «v_max» = f64 0 }
+noGrid = record { «n_x_neg» = 0; «n_x_pos» = 0; «n_r» = 0; «v_min» = «0·0»; «v_max» = «0·0» }
 
 unfoldable pub noCell : DfnSolver
 noCell = record {
   params = noParameters;
   config = noGrid;
-  «c_s_neg» = replicate 512 (f64 0);
-  «c_s_pos» = replicate 512 (f64 0);
-  «c_e» = replicate 33 (f64 0);
-  «time_s» = f64 0;
-  voltage = f64 0;
-  current = f64 0;
-  «theta_neg_surf» = f64 0;
-  «theta_pos_surf» = f64 0;
+  «c_s_neg» = replicate 512 «0·0»;
+  «c_s_pos» = replicate 512 «0·0»;
+  «c_e» = replicate 33 «0·0»;
+  «time_s» = «0·0»;
+  voltage = «0·0»;
+  current = «0·0»;
+  «theta_neg_surf» = «0·0»;
+  «theta_pos_surf» = «0·0»;
 }
 
 unfoldable pub made : DfnParams → DfnConfig → DfnBuildAnswer

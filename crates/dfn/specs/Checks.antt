@@ -9,7 +9,6 @@ use lib.Dec.{T, leb, ltb, leb→le}
 use lib.ListN.{getD}
 use lib.Ieee.{Float, nan}
 use lib.Ieee.Fits.{and-l, and-r}
-use Rattle.binary64.specs.Operators.{f64}
 use Rattle.refusal.specs.Numbers.{firstRefusal, refusalUnless, grid, sheet, load, interval, neither-refused, passed}
 use Rattle.refusal.specs.Ranges.{loadFits, intervalFits, clockFits}
 use Rattle.iterate.specs.Iterate.{allBelow}
@@ -18,6 +17,7 @@ use Rattle.dfn_parameters.specs.declared.DfnParams.{DfnParams}
 use Rattle.dfn_parameters.specs.declared.DfnConfig.{DfnConfig}
 use Rattle.dfn_places.specs.Places.{solidFits, electrolyteFits}
 use Rattle.dfn.specs.declared.DfnSolver.{DfnSolver}
+use Rattle.binary64.specs.Literals.{«1e6»}
 
 -- how many places are used
 abbrev pub usedNeg : DfnConfig → ℕ
@@ -51,7 +51,7 @@ cellRefusal d = partsRefusal (d .params) (d .config) (d .«c_s_neg») (d .«c_s_
 -- a current of at most 1e6 A
 abbrev pub loadRefusal : Float → Float → ℕ
 loadRefusal current dt =
-    firstRefusal (refusalUnless (loadFits current (f64 0x412e_8480_0000_0000)) load) (refusalUnless (intervalFits dt) interval)
+    firstRefusal (refusalUnless (loadFits current «1e6») load) (refusalUnless (intervalFits dt) interval)
 
 unfoldable pub stepRefusal : DfnSolver → Float → Float → ℕ
 stepRefusal d current dt = firstRefusal (cellRefusal d) (loadRefusal current dt)

@@ -8,4 +8,3 @@ pub mod Checks
 pub mod Step
 pub mod Parts
 pub mod Build
-pub mod Literals

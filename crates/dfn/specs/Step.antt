@@ -5,7 +5,8 @@ use mathlib.Core.List.{List}
 use lib.Dec.{eqb}
 use lib.ListN.{getD}
 use lib.Ieee.{Float, nan, lt, neg}
-use Rattle.binary64.specs.Operators.{_⊕_, _⊘_, f64, count}
+use Rattle.binary64.specs.Operators.{_⊕_, _⊘_, count}
+use Rattle.binary64.specs.Literals.{«0·0»}
 use Rattle.refusal.specs.Numbers.{firstRefusal, refusalUnless, notFinite}
 use Rattle.refusal.specs.Ranges.{finite}
 use Rattle.dfn_parameters.specs.Sides.{anodeOf, cathodeOf, poreFlux}
@@ -106,12 +107,12 @@ allNumbers d r = partsFinite (d .config) (d .«c_s_neg») (d .«c_s_pos») (d .�
 
 unfoldable pub noReport : DfnStep
 noReport = record {
-  voltage = f64 0;
-  current = f64 0;
-  «time_s» = f64 0;
-  «theta_neg» = f64 0;
-  «theta_pos» = f64 0;
-  «delta_c_e_max» = f64 0;
+  voltage = «0·0»;
+  current = «0·0»;
+  «time_s» = «0·0»;
+  «theta_neg» = «0·0»;
+  «theta_pos» = «0·0»;
+  «delta_c_e_max» = «0·0»;
   «newton_iter» = 0;
   cutoff = false;
 }

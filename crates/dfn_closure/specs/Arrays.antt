@@ -12,7 +12,6 @@ use lib.ListN.{length, List·getD-eq-default}
 use lib.Ieee.{Float, nan, le, toBits, ofBits}
 use lib.Ieee.Scale.{finite}
 use lib.Ieee.Fits.{and-i, and-l, and-r}
-use Rattle.binary64.specs.Operators.{f64}
 use Rattle.min_max.specs.MinMax.{clampOf}
 use Rattle.refusal.specs.Ranges.{inRange, plusZero}
 use Rattle.iterate.specs.Iterate.{firstBy, allBelow, all-at, all-of, first-below, first-above}
@@ -23,6 +22,7 @@ use Rattle.dfn_solid.specs.Solid.{nodeWith, clampedNode, particleWith, particle
 use Rattle.dfn_electrolyte.specs.declared.Region.{Region}
 use Rattle.dfn_electrolyte.specs.Electrolyte as Electrolyte
 use Rattle.dfn_closure.specs.Clamped.{clamp-in, le-chain}
+use Rattle.binary64.specs.Literals.{«0·0», «1·0», «100·0», «3000·0», «100000·0»}
 
 side : (a b : ℕ) (t : Bool) → ltb a b ≡ t → (a < b) ⊎ (b ≤ a)
 side a b true e = inl (ltb-true a b e)
@@ -70,7 +70,7 @@ module _ (v : ParticleParams) (c d : List Float) where
   particles-length zero = refl
   particles-length (suc k) = rw (places-length (k * v .n) (clampedNode v c d (k * v .n)) (particlesWith v c d k) (v .n), particles-length k)
 
-  particles-clamped : (k i : ℕ) → k * v .n ≤ length c → i < k * v .n → Clamped (at (particlesWith v c d k) i) (f64 0) (v .«c_max»)
+  particles-clamped : (k i : ℕ) → k * v .n ≤ length c → i < k * v .n → Clamped (at (particlesWith v c d k) i) «0·0» (v .«c_max»)
   unfolding particlesWith particleWith
   particles-clamped zero i m h = let z : i < 0 = rw (zero-mul (v .n)) at h in absurd (not-suc-le-zero z)
   particles-clamped (suc k) i m h =
@@ -94,32 +94,32 @@ module _ (v : ParticleParams) (c d : List Float) where
       let h′ : k * v .n + v .n ≤ i = rw (suc-mul k (v .n)) at h in
       rw (places-after (k * v .n) (clampedNode v c d (k * v .n)) (particlesWith v c d k) (v .n) i nan h′) (particles-kept k i (omega arith))
 
-  pub solid-closed : (m : ℕ) → m * v .n ≤ 512 → T (finite (f64 0)) → T (finite (v .«c_max»)) → T (le (f64 0) (v .«c_max»))
+  pub solid-closed : (m : ℕ) → m * v .n ≤ 512 → T (finite «0·0») → T (finite (v .«c_max»)) → T (le «0·0» (v .«c_max»))
       → T (solidFits c (m * v .n) (v .«c_max»)) → T (allFinite (particlesWith v c d m) (m * v .n)) → T (solidFits (particlesWith v c d m) (m * v .n) (v .«c_max»))
   unfolding solidFits solidFitsTo
   solid-closed m r z p q t f =
       let u = m * v .n in
       let out = particlesWith v c d m in
-      let n : 512 ≤ length c = long 512 c u (f64 0) (v .«c_max») t in
-      all-of (λ i. placeFits (at out i) (ltb i u) (f64 0) (v .«c_max»)) 512
+      let n : 512 ≤ length c = long 512 c u «0·0» (v .«c_max») t in
+      all-of (λ i. placeFits (at out i) (ltb i u) «0·0» (v .«c_max»)) 512
       (λ i l. ⊎-elim
-      (λ (h : i < u). used-fits (at out i) (f64 0) (v .«c_max») (ltb i u) (lt-ltb i u h)
-      (clamped-in (at out i) (f64 0) (v .«c_max») (particles-clamped m i (omega (arith, r, n)) h) z p q (all-at (λ j. finite (at out j)) u i h f)))
-      (λ (h : u ≤ i). rw (particles-kept m i h) (all-at (λ j. placeFits (at c j) (ltb j u) (f64 0) (v .«c_max»)) 512 i l t))
+      (λ (h : i < u). used-fits (at out i) «0·0» (v .«c_max») (ltb i u) (lt-ltb i u h)
+      (clamped-in (at out i) «0·0» (v .«c_max») (particles-clamped m i (omega (arith, r, n)) h) z p q (all-at (λ j. finite (at out j)) u i h f)))
+      (λ (h : u ≤ i). rw (particles-kept m i h) (all-at (λ j. placeFits (at c j) (ltb j u) «0·0» (v .«c_max»)) 512 i l t))
       (lt-or-ge i u))
 
 -- ---- the salt
 abbrev low : Float
-low = f64 0x4059_0000_0000_0000
+low = «100·0»
 
 abbrev high : Float
-high = f64 0x40a7_7000_0000_0000
+high = «3000·0»
 
 abbrev least : Float
-least = f64 0x3ff0_0000_0000_0000
+least = «1·0»
 
 abbrev most : Float
-most = f64 0x40f8_6a00_0000_0000
+most = «100000·0»
 
 low-finite : T (finite low)
 unfolding ofBits

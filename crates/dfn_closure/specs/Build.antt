@@ -14,11 +14,12 @@ use Rattle.fraction.specs.Fraction.{whole, nat, _≈F_}
 use Rattle.fraction.specs.Field.{≈F-sym, ≤F-of-≈F, ≤F-trans}
 use Rattle.fraction.specs.Order.{lit≈F}
 use Rattle.fraction.specs.Certificate.{quote, le-by, up, _⊠_}
-use Rattle.binary64.specs.Operators.{_⊗_, f64}
+use Rattle.binary64.specs.Operators.{_⊗_}
 use Rattle.binary64.specs.Order.{between-finite}
 use Rattle.binary64.specs.OrderLaws.{rounds-le}
 use Rattle.binary64.specs.Rounds.{representable, mul-rounds}
 use Rattle.binary64.specs.Value.{val, le-val}
+use Rattle.binary64.specs.Literals.{«0·0»}
 use Rattle.refusal.specs.Numbers.{grid, sheet, neither-refused, passed}
 use Rattle.refusal.specs.Ranges.{inRange, plusZero, clockFits}
 use Rattle.iterate.specs.Iterate.{all-of, first-below, first-above}
@@ -35,7 +36,7 @@ use Rattle.dfn_closure.specs.Arrays.{fitsTo}
 use Rattle.dfn_closure.specs.Closure.{zero-finite, one-finite, max-finite, max-above, cell-passes}
 
 -- ---- theta * M is from 0 to M; M is a number of binary64, as each f64 of a program is
-zero-val : val (f64 0) ≈F nat 0
+zero-val : val «0·0» ≈F nat 0
 unfolding ofBits val whole
 zero-val = lit≈F refl
 
@@ -43,23 +44,23 @@ one-val : val unit ≈F nat 1
 unfolding ofBits val whole
 one-val = lit≈F refl
 
-zero-fits : T (fits binary64 (f64 0))
+zero-fits : T (fits binary64 «0·0»)
 unfolding ofBits fits
 zero-fits = tt
 
-start-in : (x M : Float) → Range (f64 0) x unit → Range unit M top → T (fits binary64 M) → T (inRange (x ⊗ M) (f64 0) M)
+start-in : (x M : Float) → Range «0·0» x unit → Range unit M top → T (fits binary64 M) → T (inRange (x ⊗ M) «0·0» M)
 start-in x M r m f =
-    let p = between-finite (f64 0) x unit zero-finite one-finite (r .low) (r .high) in
+    let p = between-finite «0·0» x unit zero-finite one-finite (r .low) (r .high) in
     let q = max-finite M m in
-    let a = ≤F-trans (≤F-of-≈F (≈F-sym zero-val)) (le-val (f64 0) x zero-finite p (r .low)) in
+    let a = ≤F-trans (≤F-of-≈F (≈F-sym zero-val)) (le-val «0·0» x zero-finite p (r .low)) in
     let b = ≤F-trans (le-val x unit p one-finite (r .high)) (≤F-of-≈F one-val) in
-    let c = ≤F-trans (≤F-of-≈F (≈F-sym zero-val)) (le-val (f64 0) M zero-finite q (max-above M m)) in
-    and-i (le (f64 0) (x ⊗ M)) (le (x ⊗ M) M)
-    (rounds-le (representable (f64 0) zero-finite zero-fits) (mul-rounds x M p q) (≤F-trans (≤F-of-≈F zero-val) (le-by (val x ∷ val M ∷ []) 0 (a ⊠ c) (search quote depth 24) tt)))
+    let c = ≤F-trans (≤F-of-≈F (≈F-sym zero-val)) (le-val «0·0» M zero-finite q (max-above M m)) in
+    and-i (le «0·0» (x ⊗ M)) (le (x ⊗ M) M)
+    (rounds-le (representable «0·0» zero-finite zero-fits) (mul-rounds x M p q) (≤F-trans (≤F-of-≈F zero-val) (le-by (val x ∷ val M ∷ []) 0 (a ⊠ c) (search quote depth 24) tt)))
     (rounds-le (mul-rounds x M p q) (representable M q f) (le-by (val x ∷ val M ∷ []) 0 (up b ⊠ c) (search quote depth 24) tt))
 
 -- ---- an array that x fills to its used length
-unused-fits : (lo hi : Float) → T (placeFits (f64 0) false lo hi)
+unused-fits : (lo hi : Float) → T (placeFits «0·0» false lo hi)
 unfolding placeFits plusZero toBits ofBits
 unused-fits lo hi = tt
 
@@ -69,24 +70,24 @@ used-fits x lo hi t = t
 
 module _ (size n : ℕ) (x lo hi : Float) (m : n ≤ size) (t : T (inRange x lo hi)) where
   abbrev zeros : List Float
-  zeros = replicate size (f64 0)
+  zeros = replicate size «0·0»
 
   place-fits : (i : ℕ) → i < size → (b : Bool) → ltb i n ≡ b → T (placeFits (at (filled size x n) i) b lo hi)
-  place-fits i l true e = rw (first-below (λ k. x) zeros n i nan (ltb-true i n e) (rw (length-replicate size (f64 0)) m)) (used-fits x lo hi t)
-  place-fits i l false e = rw (first-above (λ k. x) zeros n i nan (ltb-false i n e), getD-replicate size i (f64 0) nan l) (unused-fits lo hi)
+  place-fits i l true e = rw (first-below (λ k. x) zeros n i nan (ltb-true i n e) (rw (length-replicate size «0·0») m)) (used-fits x lo hi t)
+  place-fits i l false e = rw (first-above (λ k. x) zeros n i nan (ltb-false i n e), getD-replicate size i «0·0» nan l) (unused-fits lo hi)
 
   filled-fits : T (fitsTo size (filled size x n) n lo hi)
   filled-fits = all-of (λ i. placeFits (at (filled size x n) i) (ltb i n) lo hi) size (λ i l. place-fits i l (ltb i n) refl)
 
-solid-filled : (n : ℕ) (x M : Float) → n ≤ 512 → T (inRange x (f64 0) M) → T (solidFits (filled 512 x n) n M)
+solid-filled : (n : ℕ) (x M : Float) → n ≤ 512 → T (inRange x «0·0» M) → T (solidFits (filled 512 x n) n M)
 unfolding solidFits solidFitsTo
-solid-filled n x M m t = filled-fits 512 n x (f64 0) M m t
+solid-filled n x M m t = filled-fits 512 n x «0·0» M m t
 
 electrolyte-filled : (n : ℕ) (x : Float) → n ≤ 33 → T (inRange x unit electrolyteMost) → T (electrolyteFits (filled 33 x n) n)
 unfolding electrolyteFits
 electrolyte-filled n x m t = filled-fits 33 n x unit electrolyteMost m t
 
-zero-clock : T (clockFits (f64 0))
+zero-clock : T (clockFits «0·0»)
 unfolding ofBits le
 zero-clock = tt
 

@@ -6,10 +6,11 @@ use lib.Ieee.{Float, nan, inf, fin, le, lt, add, ofBits}
 use lib.Ieee.Scale.{finite}
 use lib.Ieee.Fits.{and-i}
 use Rattle.fraction.specs.Field.{≈F-refl, ≤F-of-≈F, ≤F-trans, le-of-lt}
-use Rattle.binary64.specs.Operators.{_⊕_, f64}
+use Rattle.binary64.specs.Operators.{_⊕_}
 use Rattle.binary64.specs.Value.{le-val, val-le, lt-val}
 use Rattle.binary64.specs.Order.{not→lt}
 use Rattle.binary64.specs.OrderLaws.{add-le}
+use Rattle.binary64.specs.Literals.{«0·0»}
 use Rattle.min_max.specs.MinMax.{clampOf}
 
 decide : {P : Type 0} (b : Bool) → (T b → P) → (T (not b) → P) → P
@@ -55,17 +56,17 @@ interval-finite nan (inf true) hi p q h k = absurd p
 interval-finite (inf s) (inf true) hi p q h k = absurd p
 interval-finite (fin s m e) (inf true) hi p q h k = absurd h
 
-zero-sum : f64 0 ⊕ f64 0 ≡ f64 0
+zero-sum : «0·0» ⊕ «0·0» ≡ «0·0»
 unfolding add ofBits
 zero-sum = refl
 
-zero-finite : T (finite (f64 0))
+zero-finite : T (finite «0·0»)
 unfolding ofBits
 zero-finite = tt
 
 -- a clock at or above 0 and an interval above 0 and at most `hi`
-pub clock-on : (t dt hi : Float) → T (finite hi) → T (finite t) → T (le (f64 0) t) → T (lt (f64 0) dt) → T (le dt hi) → T (le (f64 0) (t ⊕ dt))
+pub clock-on : (t dt hi : Float) → T (finite hi) → T (finite t) → T (le «0·0» t) → T (lt «0·0» dt) → T (le dt hi) → T (le «0·0» (t ⊕ dt))
 clock-on t dt hi q f h l k =
-    let d = interval-finite (f64 0) dt hi zero-finite q l k in
-    let z : T (le (f64 0) dt) = val-le (f64 0) dt zero-finite d (le-of-lt (lt-val (f64 0) dt zero-finite d l)) in
-    rw zero-sum at (add-le (f64 0) t (f64 0) dt zero-finite f zero-finite d h z)
+    let d = interval-finite «0·0» dt hi zero-finite q l k in
+    let z : T (le «0·0» dt) = val-le «0·0» dt zero-finite d (le-of-lt (lt-val «0·0» dt zero-finite d l)) in
+    rw zero-sum at (add-le «0·0» t «0·0» dt zero-finite f zero-finite d h z)

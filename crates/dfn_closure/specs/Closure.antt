@@ -8,8 +8,9 @@ use lib.Dec.{T, eqb, eqb·suc-zero}
 use lib.Ieee.{Float, le, lt, neg, ofBits}
 use lib.Ieee.Scale.{finite}
 use lib.Ieee.Fits.{and-i, and-l, and-r}
-use Rattle.binary64.specs.Operators.{_⊕_, f64}
+use Rattle.binary64.specs.Operators.{_⊕_}
 use Rattle.binary64.specs.Order.{between-finite}
+use Rattle.binary64.specs.Literals.{«0·0», «86400·0», «1e6»}
 use Rattle.refusal.specs.Numbers.{firstRefusal, refusalUnless, load, interval, neither-refused, passed}
 use Rattle.refusal.specs.Ranges.{loadFits, intervalFits, clockFits}
 use Rattle.dfn_parameters.specs.Ranges.{parametersFit, gridFits, limitsFit}
@@ -74,23 +75,23 @@ top-finite : T (finite top)
 unfolding ofBits
 top-finite = tt
 
-pub zero-finite : T (finite (f64 0))
+pub zero-finite : T (finite «0·0»)
 unfolding ofBits
 zero-finite = tt
 
-day-finite : T (finite (f64 0x40f5_1800_0000_0000))
+day-finite : T (finite «86400·0»)
 unfolding ofBits
 day-finite = tt
 
-zero-one : T (le (f64 0) unit)
+zero-one : T (le «0·0» unit)
 unfolding ofBits le
 zero-one = tt
 
 pub max-finite : (x : Float) → Range unit x top → T (finite x)
 max-finite x h = between-finite unit x top one-finite top-finite (h .low) (h .high)
 
-pub max-above : (x : Float) → Range unit x top → T (le (f64 0) x)
-max-above x h = le-chain (f64 0) unit x zero-finite one-finite (max-finite x h) zero-one (h .low)
+pub max-above : (x : Float) → Range unit x top → T (le «0·0» x)
+max-above x h = le-chain «0·0» unit x zero-finite one-finite (max-finite x h) zero-one (h .low)
 
 -- ---- the fields of the new cell
 step-interval : (d : DfnSolver) (current dt : Float) → stepRefusal d current dt ≡ 0 → T (intervalFits dt)
@@ -146,8 +147,8 @@ cell-passes d g f = none (gridFits (d .config)) (fieldsFit d) g (fields-fit d f)
 
 clock-closed : (t dt : Float) → T (clockFits t) → T (intervalFits dt) → T (finite (t ⊕ dt)) → T (clockFits (t ⊕ dt))
 clock-closed t dt c i f =
-    let day = f64 0x40f5_1800_0000_0000 in
-    let z = f64 0 in
+    let day = «86400·0» in
+    let z = «0·0» in
     and-i (finite (t ⊕ dt)) (le z (t ⊕ dt)) f
     (clock-on t dt day day-finite (and-l (finite t) (le z t) c) (and-r (finite t) (le z t) c) (and-l (lt z dt) (le dt day) i) (and-r (lt z dt) (le dt day) i))
 
@@ -186,7 +187,7 @@ step-passes d current dt h =
     rw (a .leaves) (cell-passes (newCell d current dt) (grid-kept d current dt (step-cell d current dt (a .before))) (fields-closed d current dt a))
 
 -- so nothing refuses the same step again before it is made: only 8 can come
-call-valid : (d : DfnSolver) (current dt : Float) → stepRefusal d current dt ≡ 0 → firstRefusal (refusalUnless (loadFits current (f64 0x412e_8480_0000_0000)) load) (refusalUnless (intervalFits dt) interval) ≡ 0
+call-valid : (d : DfnSolver) (current dt : Float) → stepRefusal d current dt ≡ 0 → firstRefusal (refusalUnless (loadFits current «1e6») load) (refusalUnless (intervalFits dt) interval) ≡ 0
 unfolding stepRefusal
 call-valid d current dt h = neither-refused (cellRefusal d) _ h .1
 

@@ -6,9 +6,9 @@ use lib.Dec.{T}
 use lib.ListN.{getD}
 use lib.Ieee.{Float, le, ofBits}
 use lib.Ieee.Fits.{and-l, and-r}
-use Rattle.binary64.specs.Operators.{f64}
 use Rattle.dfn_parameters.specs.Ranges.{numbersFit, coefficientsFit, parametersFit}
 use Rattle.dfn_parameters.specs.declared.DfnParams.{DfnParams}
+use Rattle.binary64.specs.Literals.{«0·0», «1e-20», «1e-16», «1e-8», «1e-7», «1e-6», «0·001», «0·01», «1·0», «4·0», «100·0», «200·0», «400·0», «1000·0», «10000·0», «100000·0», «131072·0»}
 
 -- x is from lo to hi
 pub record Range (lo x hi : Float) : Type 0 where
@@ -37,7 +37,7 @@ head b (r ∷ rs) t =
     and-l b p (and-l (b && p) q (head (b && p && q) rs t))
 
 abbrev zeros : Tested
-zeros = tested (f64 0) (f64 0) (f64 0)
+zeros = tested «0·0» «0·0» «0·0»
 
 abbrev rangeOf : Tested → Type 0
 rangeOf r = Range (r .lo) (r .x) (r .hi)
@@ -58,48 +58,48 @@ range-at b (r ∷ rs) (suc k) t = range-at (b && le (r .lo) (r .x) && le (r .x) 
 -- ---- the ends of the ranges
 -- 1e-7, 1e-2, 1, 131,072
 abbrev short : Float
-short = f64 0x3e7a_d7f2_9abc_af48
+short = «1e-7»
 
 abbrev hundredth : Float
-hundredth = f64 0x3f84_7ae1_47ae_147b
+hundredth = «0·01»
 
 abbrev pub unit : Float
-unit = f64 0x3ff0_0000_0000_0000
+unit = «1·0»
 
 abbrev pub top : Float
-top = f64 0x4100_0000_0000_0000
+top = «131072·0»
 
 -- 1e5
 abbrev pub electrolyteMost : Float
-electrolyteMost = f64 0x40f8_6a00_0000_0000
+electrolyteMost = «100000·0»
 
 -- the ranges after that of l_neg, which is the first of the chain
 abbrev others : DfnParams → List Tested
 others p =
     tested short (p .«l_sep») hundredth
     ∷ tested short (p .«l_pos») hundredth
-    ∷ tested (f64 0x3eb0_c6f7_a0b5_ed8d) (p .area) (f64 0x40c3_8800_0000_0000)
-    ∷ tested (f64 0x3e45_798e_e230_8c3a) (p .«r_neg») (f64 0x3f50_624d_d2f1_a9fc)
-    ∷ tested (f64 0x3bc7_9ca1_0c92_4223) (p .«d_s_neg_ref») (f64 0x3e45_798e_e230_8c3a)
+    ∷ tested «1e-6» (p .area) «10000·0»
+    ∷ tested «1e-8» (p .«r_neg») «0·001»
+    ∷ tested «1e-20» (p .«d_s_neg_ref») «1e-8»
     ∷ tested unit (p .«c_s_neg_max») top
     ∷ tested hundredth (p .«eps_neg») unit
-    ∷ tested (f64 0) (p .«theta_neg_0») unit
-    ∷ tested (f64 0x3c9c_d2b2_97d8_89bc) (p .«k_neg») unit
-    ∷ tested (f64 0x3e45_798e_e230_8c3a) (p .«r_pos») (f64 0x3f50_624d_d2f1_a9fc)
-    ∷ tested (f64 0x3bc7_9ca1_0c92_4223) (p .«d_s_pos_ref») (f64 0x3e45_798e_e230_8c3a)
+    ∷ tested «0·0» (p .«theta_neg_0») unit
+    ∷ tested «1e-16» (p .«k_neg») unit
+    ∷ tested «1e-8» (p .«r_pos») «0·001»
+    ∷ tested «1e-20» (p .«d_s_pos_ref») «1e-8»
     ∷ tested unit (p .«c_s_pos_max») top
     ∷ tested hundredth (p .«eps_pos») unit
-    ∷ tested (f64 0) (p .«theta_pos_0») unit
-    ∷ tested (f64 0x3c9c_d2b2_97d8_89bc) (p .«k_pos») unit
+    ∷ tested «0·0» (p .«theta_pos_0») unit
+    ∷ tested «1e-16» (p .«k_pos») unit
     ∷ tested unit (p .«c_e0») electrolyteMost
-    ∷ tested (f64 0x3c9c_d2b2_97d8_89bc) (p .«d_e0») (f64 0x3eb0_c6f7_a0b5_ed8d)
-    ∷ tested (f64 0) (p .«gamma_e») (f64 0x408f_4000_0000_0000)
-    ∷ tested (f64 0) (p .«t_plus») unit
-    ∷ tested (f64 0x3eb0_c6f7_a0b5_ed8d) (p .kappa0) (f64 0x4059_0000_0000_0000)
+    ∷ tested «1e-16» (p .«d_e0») «1e-6»
+    ∷ tested «0·0» (p .«gamma_e») «1000·0»
+    ∷ tested «0·0» (p .«t_plus») unit
+    ∷ tested «1e-6» (p .kappa0) «100·0»
     ∷ tested hundredth (p .«eps_e_elec») unit
     ∷ tested hundredth (p .«eps_e_sep») unit
-    ∷ tested (f64 0) (p .brugg) (f64 0x4010_0000_0000_0000)
-    ∷ tested (f64 0x4069_0000_0000_0000) (p .«temperature_k») (f64 0x4079_0000_0000_0000) ∷ []
+    ∷ tested «0·0» (p .brugg) «4·0»
+    ∷ tested «200·0» (p .«temperature_k») «400·0» ∷ []
 
 module _ (p : DfnParams) (h : T (parametersFit p)) where
   numbers : T (numbersFit p)
@@ -118,10 +118,10 @@ module _ (p : DfnParams) (h : T (parametersFit p)) where
   pub max-pos : Range unit (p .«c_s_pos_max») top
   max-pos = number-range 11
 
-  pub theta-neg : Range (f64 0) (p .«theta_neg_0») unit
+  pub theta-neg : Range «0·0» (p .«theta_neg_0») unit
   theta-neg = number-range 7
 
-  pub theta-pos : Range (f64 0) (p .«theta_pos_0») unit
+  pub theta-pos : Range «0·0» (p .«theta_pos_0») unit
   theta-pos = number-range 13
 
   pub cE : Range unit (p .«c_e0») electrolyteMost

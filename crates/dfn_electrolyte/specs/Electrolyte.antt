@@ -5,7 +5,8 @@ use mathlib.Core.List.{List}
 use lib.Dec.{ltb}
 use lib.ListN.{getD, replicate}
 use lib.Ieee.{Float, nan, neg}
-use Rattle.binary64.specs.Operators.{_⊕_, _⊖_, _⊗_, _⊘_, f64, count}
+use Rattle.binary64.specs.Operators.{_⊕_, _⊖_, _⊗_, _⊘_, count}
+use Rattle.binary64.specs.Literals.{«0·0», «0·5», «100·0», «3000·0»}
 use Rattle.elementary.specs.Exp.{one, expOf}
 use Rattle.elementary.specs.Power.{powfOf}
 use Rattle.min_max.specs.MinMax.{clampOf}
@@ -40,11 +41,11 @@ regionOf p side n j dt = regionAt p n (side .l ⊘ count n) (source p side j) dt
 
 -- the diffusivities at the first n nodes
 unfoldable pub dEffs : DiffusivityParams → List Float → ℕ → List Float
-dEffs s c n = firstBy n (λ i. dEff s (at c i)) (replicate 33 (f64 0))
+dEffs s c n = firstBy n (λ i. dEff s (at c i)) (replicate 33 «0·0»)
 
 -- 0.5 * (da + db) * (b - a) / dx
 abbrev pub flowWith : Float → Float → Float → Float → Float → Float
-flowWith da db a b dx = f64 0x3fe0_0000_0000_0000 ⊗ (da ⊕ db) ⊗ (b ⊖ a) ⊘ dx
+flowWith da db a b dx = «0·5» ⊗ (da ⊕ db) ⊗ (b ⊖ a) ⊘ dx
 
 -- c + dt / (eps * dx) * (flux_right - flux_left) + dt * source / eps
 unfoldable pub movedWith : Region → List Float → List Float → ℕ → Float
@@ -63,7 +64,7 @@ nodeWith neg pos c d i =
 -- all nodes held to 100 to 3,000, those that keep their value too
 unfoldable pub nodesWith : Region → Region → List Float → List Float → List Float
 nodesWith neg pos c d =
-    firstBy (neg .n + 1 + pos .n) (λ i. clampOf (nodeWith neg pos c d i) (f64 0x4059_0000_0000_0000) (f64 0x40a7_7000_0000_0000)) c
+    firstBy (neg .n + 1 + pos .n) (λ i. clampOf (nodeWith neg pos c d i) «100·0» «3000·0») c
 
 -- the fluxes: -I at the anode, I at the cathode
 unfoldable pub electrolyteAfter : DfnParams → ℕ → ℕ → List Float → Float → Float → List Float

@@ -2,4 +2,3 @@
 --
 -- Electrolyte: each node after a step. `nodeWith` says which nodes move.
 pub mod Electrolyte
-pub mod Literals

@@ -3,8 +3,6 @@
 -- Ranges: what the fields are checked for.
 -- Ready: the two ready sets.
 -- Sides: the two electrodes and their open-circuit potentials.
--- Literals: each bit pattern above is its decimal rounded once.
 pub mod Ranges
 pub mod Ready
 pub mod Sides
-pub mod Literals

@@ -3,7 +3,8 @@ use Prim.Native.Nat.{ℕ, zero, suc}
 use mathlib.Core.List.{List}
 use lib.ListN.{getD}
 use lib.Ieee.{Float, nan}
-use Rattle.binary64.specs.Operators.{_⊕_, _⊗_, _⊘_, f64}
+use Rattle.binary64.specs.Operators.{_⊕_, _⊗_, _⊘_}
+use Rattle.binary64.specs.Literals.{«0·0», «3·0», «96485·0»}
 use Rattle.dfn_parameters.specs.declared.DfnParams.{DfnParams}
 use Rattle.dfn_parameters.specs.declared.Side.{Side}
 
@@ -31,11 +32,11 @@ cathodeOf p = record {
 
 -- 3 * eps / r
 abbrev pub areaOf : Side → Float
-areaOf s = f64 0x4008_0000_0000_0000 ⊗ s .eps ⊘ s .r
+areaOf s = «3·0» ⊗ s .eps ⊘ s .r
 
 -- the constant of Faraday
 abbrev pub faraday : Float
-faraday = f64 0x40f7_8e50_0000_0000
+faraday = «96485·0»
 
 -- current / (a * l * FARADAY * area)
 abbrev pub poreFlux : Side → Float → Float → Float
@@ -43,5 +44,5 @@ poreFlux s area current = current ⊘ (areaOf s ⊗ s .l ⊗ faraday ⊗ area)
 
 -- Horner's rule from 0.0 over the first k coefficients, the highest power first
 unfoldable pub horner : List Float → Float → ℕ → Float
-horner c theta zero = f64 0
+horner c theta zero = «0·0»
 horner c theta (suc k) = horner c theta k ⊗ theta ⊕ getD c k nan

@@ -1,3 +1,2 @@
 -- The arrays of the Doyle-Fuller-Newman cell, from document 01 and dfn.rs.
 pub mod Places
-pub mod Literals

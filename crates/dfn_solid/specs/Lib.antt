@@ -4,4 +4,3 @@
 -- Room: they have room in 512 places.
 pub mod Solid
 pub mod Room
-pub mod Literals

@@ -5,7 +5,8 @@ use mathlib.Core.List.{List}
 use lib.Dec.{eqb, ltb}
 use lib.ListN.{getD, replicate}
 use lib.Ieee.{Float, nan}
-use Rattle.binary64.specs.Operators.{_⊕_, _⊖_, _⊗_, _⊘_, f64, count}
+use Rattle.binary64.specs.Operators.{_⊕_, _⊖_, _⊗_, _⊘_, count}
+use Rattle.binary64.specs.Literals.{«0·0», «1e-30», «0·001», «0·3», «0·5»}
 use Rattle.elementary.specs.Exp.{one}
 use Rattle.min_max.specs.MinMax.{clampOf, maxOf}
 use Rattle.iterate.specs.Iterate.{firstBy}
@@ -20,19 +21,19 @@ abbrev pub at : List Float → ℕ → Float
 at c i = getD c i nan
 
 abbrev half : Float
-half = f64 0x3fe0_0000_0000_0000
+half = «0·5»
 
 -- c / max(c_max, 1e-3) - 0.5
 abbrev fromMiddle : ParticleParams → Float → Float
-fromMiddle v c = c ⊘ maxOf (v .«c_max») (f64 0x3f50_624d_d2f1_a9fc) ⊖ half
+fromMiddle v c = c ⊘ maxOf (v .«c_max») «0·001» ⊖ half
 
 -- d_ref * (1 + 0.3 * x * x)
 abbrev pub dSolid : ParticleParams → Float → Float
-dSolid v c = v .«d_ref» ⊗ (one ⊕ f64 0x3fd3_3333_3333_3333 ⊗ fromMiddle v c ⊗ fromMiddle v c)
+dSolid v c = v .«d_ref» ⊗ (one ⊕ «0·3» ⊗ fromMiddle v c ⊗ fromMiddle v c)
 
 -- the diffusivities at the first n places
 unfoldable pub dSolids : ParticleParams → List Float → ℕ → List Float
-dSolids v c n = firstBy n (λ k. dSolid v (at c k)) (replicate 512 (f64 0))
+dSolids v c n = firstBy n (λ k. dSolid v (at c k)) (replicate 512 «0·0»)
 
 module _ (v : ParticleParams) (c d : List Float) where
   -- r = i * dr, r_plus = r + 0.5 * dr, r_minus = max(r - 0.5 * dr, 0)
@@ -43,7 +44,7 @@ module _ (v : ParticleParams) (c d : List Float) where
   above i = radius i ⊕ half ⊗ v .dr
 
   abbrev below : ℕ → Float
-  below i = maxOf (radius i ⊖ half ⊗ v .dr) (f64 0)
+  below i = maxOf (radius i ⊖ half ⊗ v .dr) «0·0»
 
   -- r_plus^2 * 0.5 * (d + d_plus) * (c_plus - c) / dr
   abbrev fluxOut : ℕ → ℕ → Float
@@ -59,7 +60,7 @@ module _ (v : ParticleParams) (c d : List Float) where
 
   -- c - dt * d * (j / max(d, 1e-30)) / dr
   unfoldable pub surfaceWith : ℕ → Float
-  surfaceWith k = at c k ⊖ v .dt ⊗ at d k ⊗ (v .flux ⊘ maxOf (at d k) (f64 0x39b4_484b_feeb_c2a0)) ⊘ v .dr
+  surfaceWith k = at c k ⊖ v .dt ⊗ at d k ⊗ (v .flux ⊘ maxOf (at d k) «1e-30») ⊘ v .dr
 
   -- node 0 of the particle at `base` takes the new value of node 1; with two nodes that is the surface, which still has its old one
   unfoldable pub centreWith : ℕ → Float
@@ -70,7 +71,7 @@ module _ (v : ParticleParams) (c d : List Float) where
 
   -- held to 0 to the largest concentration
   abbrev pub clampedNode : ℕ → ℕ → Float
-  clampedNode base i = clampOf (nodeWith base i) (f64 0) (v .«c_max»)
+  clampedNode base i = clampOf (nodeWith base i) «0·0» (v .«c_max»)
 
   -- the particle at `base` put anew
   unfoldable pub particleWith : ℕ → List Float → List Float
@@ -82,7 +83,7 @@ module _ (v : ParticleParams) (c d : List Float) where
   particlesWith (suc k) = particleWith (k * v .n) (particlesWith k)
 
   unfoldable pub surfacesWith : ℕ → Float
-  surfacesWith zero = f64 0
+  surfacesWith zero = «0·0»
   surfacesWith (suc k) = surfacesWith k ⊕ at (particlesWith (suc k)) (k * v .n + (v .n - 1)) ⊘ v .«c_max»
 
 abbrev pub atLeastOne : ℕ → ℕ

@@ -10,8 +10,8 @@ use lib.Ieee.{Float, nan, neg, ofBits, add, sub, mul, div, ofInt, lt}
 use lib.Ieee.Scale.{finite}
 use Rattle.fraction.specs.Fraction.{Fraction, whole, nat, frac, pow2, turned, inv, negF, _+F_, _-F_, _*F_, _/F_, ∣_∣, _≤?_, minF, maxF, clampF, _≈F_, _≤F_, _within_}
 use Rattle.fraction.specs.Order.{lit≤F, lit≈F}
-use Rattle.binary64.specs.Operators.{f64}
 use Rattle.binary64.specs.Value.{val}
+use Rattle.binary64.specs.Literals.{«3·9e-14», «1·25e-6», «0·0002», «0·0004», «1·0», «24762·4», «25466·4», «31833·0»}
 use Rattle.iterate.specs.Iterate.{firstBy}
 use Rattle.diffusion.specs.SubStep.{rate, node, subStep}
 use Rattle.diffusion.specs.Exact.{Numbers, numbers, g, centre, inner, surface, moved, exactNode, exactStep}
@@ -54,27 +54,27 @@ below = lit≈F refl
 -- ---- graphite
 -- 1.25e-6, 3.9e-14, 31833, 1
 abbrev h : Float
-h = f64 0x3eb4_f8b5_88e3_68f1
+h = «1·25e-6»
 
 abbrev D : Float
-D = f64 0x3d25_f47e_09a9_f0ea
+D = «3·9e-14»
 
 abbrev M : Float
-M = f64 0x40df_1640_0000_0000
+M = «31833·0»
 
 abbrev second : Float
-second = f64 0x3ff0_0000_0000_0000
+second = «1·0»
 
 -- −4e-4 and −2e-4: 2·h·∣flux∣ is 1e-9 and 5e-10, D·M is 1.24e-9
 abbrev fast : Float
-fast = neg (f64 0x3f3a_36e2_eb1c_432d)
+fast = neg «0·0004»
 
 abbrev slow : Float
-slow = neg (f64 0x3f2a_36e2_eb1c_432d)
+slow = neg «0·0002»
 
 -- 25466.4 at each of eleven nodes
 abbrev c : Float
-c = f64 0x40d8_de99_9999_999a
+c = «25466·4»
 
 abbrev start : List Float
 start = replicate 11 c
@@ -141,7 +141,7 @@ pub graphite-near : (i : ℕ) → i < 11 → val (getD (after cell start dischar
 graphite-near i l = rw counted at (calls-near cell lawful start discharge tt all-in-range fast-conditions-hold i l)
 
 -- the one sub-step moves the surface from 25466.4 to 24762.4
-surface-moved : getD (run graphite (move fast ∷ []) start) 10 nan ≡ f64 0x40d8_2e99_9999_999a
+surface-moved : getD (run graphite (move fast ∷ []) start) 10 nan ≡ «24762·4»
 unfolding run subStep firstBy node rate ofBits neg add sub mul div ofInt lt
 surface-moved = refl
 

@@ -46,4 +46,3 @@ pub mod Copies
 pub mod Calls
 pub mod CallLaws
 pub mod Examples
-pub mod Literals

@@ -11,11 +11,12 @@ use Rattle.fraction.specs.Field.{≈F-refl, ≈F-sym, +F-cong, ≤F-of-≈F, �
 use Rattle.fraction.specs.Clamp.{clamp-apart, clamp-between}
 use Rattle.fraction.specs.Size.{size-pos}
 use Rattle.fraction.specs.Within.{within-resp}
-use Rattle.binary64.specs.Operators.{_⊕_, _⊗_, f64}
+use Rattle.binary64.specs.Operators.{_⊕_, _⊗_}
 use Rattle.binary64.specs.Error.{u, Close}
 use Rattle.binary64.specs.Near.{Near}
 use Rattle.binary64.specs.OrderLaws.{positive-finite}
 use Rattle.binary64.specs.Value.{val}
+use Rattle.binary64.specs.Literals.{«0·0»}
 use Rattle.diffusion.specs.SubStep.{SubStepParams, shellRate, ghostNode, rate, node, subStep}
 use Rattle.diffusion.specs.Exact.{Numbers, numbers, moved, exactNode, exactStep}
 use Rattle.diffusion.specs.ExactLaws.{moved-inner, moved-surface}
@@ -70,7 +71,7 @@ module _ (v : SubStepParams) (r : Ready v) (c : ℕ → Float) (nodes : (i : ℕ
 
   clamped : (i : ℕ) → i < v .n → Clamped (node v c i) (clampF (nat 0) M (val (c i ⊕ v .dt ⊗ rate v c i)))
   unfolding node
-  clamped i l = clamp-value (c i ⊕ v .dt ⊗ rate v c i) (f64 0) (v .c_max) (nat 0) (raw-close i l .fine) zero-fine (positive-finite (v .c_max) (size-pos (r .ranges .c_max))) zero-val M-low
+  clamped i l = clamp-value (c i ⊕ v .dt ⊗ rate v c i) «0·0» (v .c_max) (nat 0) (raw-close i l .fine) zero-fine (positive-finite (v .c_max) (size-pos (r .ranges .c_max))) zero-val M-low
 
   pub node-in-range : (i : ℕ) → i < v .n → NodeInRange M (node v c i)
   node-in-range i l =

@@ -10,9 +10,9 @@ use Rattle.fraction.specs.Fraction.{Fraction, whole, nat, _*F_, ∣_∣, _≈F_
 use Rattle.fraction.specs.Field.{≈F-sym, ≤F-of-≈F, ≤F-trans, le-of-lt}
 use Rattle.fraction.specs.Order.{lit≈F}
 use Rattle.fraction.specs.Size.{Size, size-pos}
-use Rattle.binary64.specs.Operators.{f64}
 use Rattle.binary64.specs.Order.{between-finite}
 use Rattle.binary64.specs.Value.{val, le-val}
+use Rattle.binary64.specs.Literals.{«0·0»}
 use Rattle.diffusion.specs.SubStep.{SubStepParams}
 use Rattle.diffusion.specs.Exact.{Numbers, numbers}
 
@@ -37,11 +37,11 @@ pub record Ready (v : SubStepParams) : Type 0 where
   pub conditions : StepConditions (numbers v)
 
 -- ---- 0, and the nodes
-pub zero-fine : T (finite (f64 0))
+pub zero-fine : T (finite «0·0»)
 unfolding ofBits
 zero-fine = tt
 
-pub zero-val : val (f64 0) ≈F nat 0
+pub zero-val : val «0·0» ≈F nat 0
 unfolding ofBits val whole
 zero-val = lit≈F refl
 
@@ -56,10 +56,10 @@ pub record ProfileInRange (n : ℕ) (M : Fraction) (c : List Float) : Type 0 whe
   pub nodes : (i : ℕ) → i < n → NodeInRange M (getD c i nan)
 
 -- a node that a program's comparisons found to be from 0 to M
-pub node-tested : (x M : Float) → T (finite M) → T (le (f64 0) x) → T (le x M) → NodeInRange (val M) x
+pub node-tested : (x M : Float) → T (finite M) → T (le «0·0» x) → T (le x M) → NodeInRange (val M) x
 node-tested x M p h k =
-    let f = between-finite (f64 0) x M zero-fine p h k in
-    record { fine = f; range = record { lower = ≤F-trans (≤F-of-≈F (≈F-sym zero-val)) (le-val (f64 0) x zero-fine f h); upper = le-val x M f p k } }
+    let f = between-finite «0·0» x M zero-fine p h k in
+    record { fine = f; range = record { lower = ≤F-trans (≤F-of-≈F (≈F-sym zero-val)) (le-val «0·0» x zero-fine f h); upper = le-val x M f p k } }
 
 -- ---- what the exact scheme's own laws need
 pub record Stable (e : Numbers) : Type 0 where

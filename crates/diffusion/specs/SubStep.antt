@@ -5,16 +5,17 @@ use mathlib.Core.List.{List}
 use lib.Dec.{ltb, eqb}
 use lib.ListN.{getD}
 use lib.Ieee.{Float, nan}
-use Rattle.binary64.specs.Operators.{_⊕_, _⊖_, _⊗_, _⊘_, f64, count}
+use Rattle.binary64.specs.Operators.{_⊕_, _⊖_, _⊗_, _⊘_, count}
+use Rattle.binary64.specs.Literals.{«0·0», «2·0», «6·0»}
 use Rattle.min_max.specs.MinMax.{clampOf}
 use Rattle.iterate.specs.Iterate.{firstBy}
 
 -- 2 and 6
 abbrev pub two : Float
-two = f64 0x4000_0000_0000_0000
+two = «2·0»
 
 abbrev pub six : Float
-six = f64 0x4018_0000_0000_0000
+six = «6·0»
 
 -- what a sub-step works with: how many nodes, the spacing, the diffusivity, the most that a node holds, the flux, the interval
 pub record SubStepParams : Type 0 where
@@ -50,7 +51,7 @@ module _ (v : SubStepParams) where
 
   -- a node anew: by its rate over the interval, then clamped
   unfoldable pub node : (ℕ → Float) → ℕ → Float
-  node c i = clampOf (c i ⊕ v .dt ⊗ rate c i) (f64 0) (v .c_max)
+  node c i = clampOf (c i ⊕ v .dt ⊗ rate c i) «0·0» (v .c_max)
 
   -- the profile anew: the first n places from the old profile, the others kept
   unfoldable pub subStep : List Float → List Float

@@ -5,7 +5,8 @@ use mathlib.Core.List.{List, [], _∷_}
 use lib.Dec.{eqb, leb}
 use lib.ListN.{length}
 use lib.Ieee.{Float, lt}
-use Rattle.binary64.specs.Operators.{_⊕_, f64}
+use Rattle.binary64.specs.Operators.{_⊕_}
+use Rattle.binary64.specs.Literals.{«0·0», «1·0», «1e6»}
 use Rattle.refusal.specs.Numbers as N
 use Rattle.refusal.specs.Ranges.{finite, loadFits, intervalFits, temperatureFits}
 use Rattle.runs.specs.Endings.{Ended, endedBy, endingOf, byRefusal}
@@ -35,7 +36,7 @@ overAfter w cutoff clock = cond cutoff 1 (cond (timeOver w clock) 2 0)
 -- ---- turns
 -- the time is tested before the first step too
 unfoldable pub started : RunSettings → SpmSolver → RunState
-started w s = record { solver = s; clock = f64 0; rows = 0; over = overAfter w false (f64 0); refusal = 0; state = noState }
+started w s = record { solver = s; clock = «0·0»; rows = 0; over = overAfter w false «0·0»; refusal = 0; state = noState }
 
 unfoldable pub followed : RunSettings → RunState → SpmStepAnswer → RunState
 followed w r t =
@@ -58,7 +59,7 @@ turned w r = followed w r (stepped (r .solver) (w .«current_a») (w .dt) (w .«
 unfoldable pub rowOf : SpmState → List Float
 rowOf s =
     s .voltage ∷ s .current ∷ s .«theta_neg» ∷ s .«theta_pos» ∷ s .«theta_neg_avg» ∷ s .«theta_pos_avg» ∷ s .«time_s»
-    ∷ cond (s .cutoff) (f64 0x3ff0_0000_0000_0000) (f64 0) ∷ []
+    ∷ cond (s .cutoff) «1·0» «0·0» ∷ []
 
 abbrev pub overOf : RunState → ℕ
 overOf r = r .over
@@ -91,7 +92,7 @@ runRefusal w s places =
     N.firstRefusal (N.refusalUnless (gridFits s) N.grid)
     (N.firstRefusal (N.refusalUnless (leb 8 places) N.badLength)
     (N.firstRefusal (N.refusalUnless (cellFits s) N.sheet)
-    (N.firstRefusal (N.refusalUnless (loadFits (w .«current_a») (f64 0x412e_8480_0000_0000)) N.load)
+    (N.firstRefusal (N.refusalUnless (loadFits (w .«current_a») «1e6») N.load)
     (N.firstRefusal (N.refusalUnless (intervalFits (w .dt) && finite (w .«max_time_s»)) N.interval)
     (N.refusalUnless (temperatureFits (w .«temp_k»)) N.temperature)))))
 

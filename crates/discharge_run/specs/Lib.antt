@@ -2,4 +2,3 @@
 -- what the run gives and leaves in the slice is given whole.
 pub mod Discharge
 pub mod Laws
-pub mod Literals

@@ -2,7 +2,8 @@
 use Prim.Native.Nat.{ℕ}
 use mathlib.Core.Bool.{_&&_}
 use lib.Ieee.{Float}
-use Rattle.binary64.specs.Operators.{_⊗_, _⊘_, f64}
+use Rattle.binary64.specs.Operators.{_⊗_, _⊘_}
+use Rattle.binary64.specs.Literals.{«1e-8», «0·001», «3·0», «3·141592653589793», «4·0»}
 use Rattle.refusal.specs.Numbers.{firstRefusal, refusalUnless, sheet, temperature}
 use Rattle.refusal.specs.Ranges.{inRange, finite, temperatureFits}
 use Rattle.refusal.specs.Answers.{Outcome, finiteOutcome}
@@ -33,5 +34,5 @@ slopeCall p theta = finiteOutcome (thetaRefusal p theta) (openCircuitSlope p the
 -- 4 / 3 * pi * r * r * r, r in r_particle's range
 unfoldable pub volumeCall : Float → Outcome
 volumeCall r =
-    finiteOutcome (refusalUnless (inRange r (f64 0x3e45_798e_e230_8c3a) (f64 0x3f50_624d_d2f1_a9fc)) sheet)
-    (f64 0x4010_0000_0000_0000 ⊘ f64 0x4008_0000_0000_0000 ⊗ f64 0x4009_21fb_5444_2d18 ⊗ r ⊗ r ⊗ r)
+    finiteOutcome (refusalUnless (inRange r «1e-8» «0·001») sheet)
+    («4·0» ⊘ «3·0» ⊗ «3·141592653589793» ⊗ r ⊗ r ⊗ r)

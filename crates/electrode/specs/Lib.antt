@@ -2,9 +2,7 @@
 --
 -- Sheet: the record's ranges, the three ready sheets, the diffusivity at a temperature, the interfacial area.
 -- Curves: the open-circuit potential of the chemistry, and its slope.
--- Literals: each bit pattern above is its decimal rounded once.
 -- Calls: what each public call says, refusals included.
 pub mod Sheet
 pub mod Curves
 pub mod Calls
-pub mod Literals

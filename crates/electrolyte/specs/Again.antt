@@ -8,9 +8,9 @@ use native.Mathlib.Omega.{arith}
 use lib.Dec.{T, eqb, eqb·suc-zero}
 use lib.Ieee.{Float, le, ofBits}
 use lib.Ieee.Fits.{and-l, and-r}
-use Rattle.binary64.specs.Operators.{f64}
 use Rattle.binary64.specs.Order.{between-finite}
 use Rattle.binary64.specs.RangeTests.{tested-within, within-ge}
+use Rattle.binary64.specs.Literals.{«0·0», «100000·0»}
 use Rattle.elementary.specs.Exp.{one}
 use Rattle.refusal.specs.Numbers.{firstRefusal, refusalUnless, sheet, notFinite}
 use Rattle.refusal.specs.Ranges.{finite}
@@ -27,7 +27,7 @@ use Rattle.electrolyte.specs.Accepted.{build-total, build-params, state-
 
 -- 1e5
 abbrev most : Float
-most = f64 0x40f8_6a00_0000_0000
+most = «100000·0»
 
 -- c_e_init, 1 to 1e5, is finite and above the floor
 init-in-range : (x : Float) → T (le one x) → T (le x most) → T (finite x) × T (le floor x)
@@ -44,7 +44,7 @@ init-tests h a b c d f g t =
 init-fits : (p : ElectrolyteParams) → T (paramsFit p) → T (finite (p .«c_e_init»)) × T (le floor (p .«c_e_init»))
 init-fits p h =
     let t = init-tests (transportFit p) (le one (p .«c_e_init»)) (le (p .«c_e_init») most)
-    (le (f64 0) (p .«e_a_de»)) (le (p .«e_a_de») most) (le (f64 0) (p .«e_a_kappa»)) (le (p .«e_a_kappa») most) h in
+    (le «0·0» (p .«e_a_de»)) (le (p .«e_a_de») most) (le «0·0» (p .«e_a_kappa»)) (le (p .«e_a_kappa») most) h in
     init-in-range (p .«c_e_init») (t .0) (t .1)
 
 -- ---- what a build hands out

@@ -4,7 +4,6 @@ use mathlib.Core.Bool.{Bool, cond, _&&_}
 use mathlib.Core.List.{List, [], _∷_}
 use lib.Dec.{eqb}
 use lib.Ieee.{Float}
-use Rattle.binary64.specs.Operators.{f64}
 use Rattle.refusal.specs.Numbers.{firstRefusal, refusalUnless, grid, sheet, load, interval, temperature, notFinite}
 use Rattle.refusal.specs.Ranges.{loadFits, intervalFits, temperatureFits}
 use Rattle.refusal.specs.Answers.{Outcome, finiteOutcome}
@@ -16,6 +15,7 @@ use Rattle.electrolyte_parameters.specs.Params.{paramsFit}
 use Rattle.electrolyte_profile.specs.Places.{profileFits, uniformProfile, allFinite}
 use Rattle.electrolyte_profile.specs.Step.{profileNew}
 use Rattle.electrolyte.specs.State.{total, countsFit, regionsFit, noState, withProfile, averageOf, stableInterval, stepParams}
+use Rattle.binary64.specs.Literals.{«1e9»}
 
 -- ---- the state
 -- a build: 1, then 2
@@ -57,7 +57,7 @@ dtStable e t = finiteOutcome (firstRefusal (stateRefusal e) (refusalUnless (temp
 -- ---- the step
 -- a source is at most 1e9 in size
 abbrev sourceFits : Float → Bool
-sourceFits j = loadFits j (f64 0x41cd_cd65_0000_0000)
+sourceFits j = loadFits j «1e9»
 
 -- 1 and 2, then 3, 4, 5
 unfoldable pub stepRefusal : ElectrolyteState → Float → Float → Float → Float → ℕ

@@ -4,7 +4,8 @@ use mathlib.Core.Bool.{Bool, _&&_}
 use mathlib.Core.List.{List}
 use lib.Dec.{leb}
 use lib.Ieee.{Float, le}
-use Rattle.binary64.specs.Operators.{_⊖_, _⊗_, _⊘_, f64, count}
+use Rattle.binary64.specs.Operators.{_⊖_, _⊗_, _⊘_, count}
+use Rattle.binary64.specs.Literals.{«0·0», «1e-7», «0·01», «0·5», «1·0»}
 use Rattle.elementary.specs.Exp.{one}
 use Rattle.min_max.specs.MinMax.{minOf}
 use Rattle.electrolyte_parameters.specs.declared.ElectrolyteParams.{ElectrolyteParams}
@@ -29,12 +30,12 @@ countsFit e =
 -- lengths 1e-7 to 1e-2, porosities 0.01 to 1
 abbrev pub regionsFit : ElectrolyteState → Bool
 regionsFit e =
-    le (f64 0x3e7a_d7f2_9abc_af48) (e .«l_neg») && le (e .«l_neg») (f64 0x3f84_7ae1_47ae_147b)
-    && le (f64 0x3e7a_d7f2_9abc_af48) (e .«l_sep») && le (e .«l_sep») (f64 0x3f84_7ae1_47ae_147b)
-    && le (f64 0x3e7a_d7f2_9abc_af48) (e .«l_pos») && le (e .«l_pos») (f64 0x3f84_7ae1_47ae_147b)
-    && le (f64 0x3f84_7ae1_47ae_147b) (e .«eps_neg») && le (e .«eps_neg») (f64 0x3ff0_0000_0000_0000)
-    && le (f64 0x3f84_7ae1_47ae_147b) (e .«eps_sep») && le (e .«eps_sep») (f64 0x3ff0_0000_0000_0000)
-    && le (f64 0x3f84_7ae1_47ae_147b) (e .«eps_pos») && le (e .«eps_pos») (f64 0x3ff0_0000_0000_0000)
+    le «1e-7» (e .«l_neg») && le (e .«l_neg») «0·01»
+    && le «1e-7» (e .«l_sep») && le (e .«l_sep») «0·01»
+    && le «1e-7» (e .«l_pos») && le (e .«l_pos») «0·01»
+    && le «0·01» (e .«eps_neg») && le (e .«eps_neg») «1·0»
+    && le «0·01» (e .«eps_sep») && le (e .«eps_sep») «1·0»
+    && le «0·01» (e .«eps_pos») && le (e .«eps_pos») «1·0»
 
 -- ---- states
 -- what a build is given, with no node filled yet
@@ -56,8 +57,8 @@ unfilled p lNeg lSep lPos epsNeg epsSep epsPos nNeg nSep nPos = record {
 -- what a refused build gives: every number +0, every count 0
 abbrev pub noState : ElectrolyteState
 noState =
-    unfilled (record { «d_e_ref» = f64 0; «kappa_ref» = f64 0; «t_plus» = f64 0; bruggeman = f64 0; «c_e_init» = f64 0; «e_a_de» = f64 0; «e_a_kappa» = f64 0 })
-    (f64 0) (f64 0) (f64 0) (f64 0) (f64 0) (f64 0) 0 0 0
+    unfilled (record { «d_e_ref» = «0·0»; «kappa_ref» = «0·0»; «t_plus» = «0·0»; bruggeman = «0·0»; «c_e_init» = «0·0»; «e_a_de» = «0·0»; «e_a_kappa» = «0·0» })
+    «0·0» «0·0» «0·0» «0·0» «0·0» «0·0» 0 0 0
 
 abbrev pub withProfile : ElectrolyteState → List Float → ElectrolyteState
 withProfile e c = record {
@@ -92,7 +93,7 @@ unfoldable pub stableInterval : ElectrolyteState → Float → Float
 stableInterval e t =
     let dx = leastOf (width (e .«l_neg») (e .«n_neg»)) (width (e .«l_sep») (e .«n_sep»)) (width (e .«l_pos») (e .«n_pos»)) in
     let eps = leastOf (e .«eps_neg») (e .«eps_sep») (e .«eps_pos») in
-    f64 0x3fe0_0000_0000_0000 ⊗ dx ⊗ dx ⊘ diffusivityEff (e .params) eps t
+    «0·5» ⊗ dx ⊗ dx ⊘ diffusivityEff (e .params) eps t
 
 -- ---- what a step works with
 -- a region of the porosity eps, the length l and n nodes, with the source src
@@ -106,7 +107,7 @@ source e j = (one ⊖ e .params .«t_plus») ⊗ j
 unfoldable pub stepParams : ElectrolyteState → Float → Float → Float → Float → ElectrolyteStepParams
 stepParams e jNeg jPos dt t = record {
   neg = regionOf (e .params) (e .«eps_neg») (e .«l_neg») (e .«n_neg») (source e jNeg) t;
-  sep = regionOf (e .params) (e .«eps_sep») (e .«l_sep») (e .«n_sep») (f64 0) t;
+  sep = regionOf (e .params) (e .«eps_sep») (e .«l_sep») (e .«n_sep») «0·0» t;
   pos = regionOf (e .params) (e .«eps_pos») (e .«l_pos») (e .«n_pos») (source e jPos) t;
   «past_neg» = e .«n_neg»;
   «past_sep» = e .«n_neg» + e .«n_sep»;

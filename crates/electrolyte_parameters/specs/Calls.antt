@@ -2,12 +2,12 @@
 use Prim.Native.Nat.{ℕ}
 use mathlib.Core.Bool.{Bool, _&&_}
 use lib.Ieee.{Float}
-use Rattle.binary64.specs.Operators.{f64}
 use Rattle.refusal.specs.Numbers.{firstRefusal, refusalUnless, sheet, temperature}
 use Rattle.refusal.specs.Ranges.{inRange, temperatureFits}
 use Rattle.refusal.specs.Answers.{Outcome, finiteOutcome}
 use Rattle.electrolyte_parameters.specs.declared.ElectrolyteParams.{ElectrolyteParams}
 use Rattle.electrolyte_parameters.specs.Params.{paramsFit, diffusivity, conductivity, diffusivityEff, conductivityEff}
+use Rattle.binary64.specs.Literals.{«0·01», «1·0»}
 
 -- 2, then 5
 unfoldable pub rateRefusal : Bool → Float → ℕ
@@ -15,7 +15,7 @@ rateRefusal fits t = firstRefusal (refusalUnless fits sheet) (refusalUnless (tem
 
 -- the parameters, and a porosity in 0.01 to 1
 abbrev porousFit : ElectrolyteParams → Float → Bool
-porousFit p eps = paramsFit p && inRange eps (f64 0x3f84_7ae1_47ae_147b) (f64 0x3ff0_0000_0000_0000)
+porousFit p eps = paramsFit p && inRange eps «0·01» «1·0»
 
 unfoldable pub dE : ElectrolyteParams → Float → Outcome
 dE p t = finiteOutcome (rateRefusal (paramsFit p) t) (diffusivity p t)

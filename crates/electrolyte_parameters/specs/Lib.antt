@@ -2,7 +2,5 @@
 --
 -- Params: the record's ranges, the ready one, the diffusivity and the conductivity at a temperature, bare and in a porous medium.
 -- Calls: what each rate answers, refusals included.
--- Literals: each bit pattern above is its decimal rounded once.
 pub mod Params
 pub mod Calls
-pub mod Literals

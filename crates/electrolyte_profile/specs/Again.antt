@@ -9,8 +9,8 @@ use lib.Dec.{T, leb, ltb}
 use lib.ListN.{length, getD, getD-replicate, List·getD-eq-default}
 use lib.Ieee.{Float, nan, inf, fin, le, lt, isNan, toBits, ofBits}
 use borrow.Author.Tests.{leb-true, leb-false, ltb-true, ltb-false}
-use Rattle.binary64.specs.Operators.{f64}
 use Rattle.binary64.specs.Order.{not→lt}
+use Rattle.binary64.specs.Literals.{«0·0»}
 use Rattle.min_max.specs.MinMax.{maxOf}
 use Rattle.refusal.specs.Ranges.{finite, plusZero}
 use Rattle.iterate.specs.Iterate.{first-below, first-above, all-at, all-of}
@@ -96,7 +96,7 @@ module _ (v : ElectrolyteStepParams) (c : List Float) (small : v .n ≤ 96) (h :
   profile-again = all-of (λ i. placeFits (getD (profileNew v c) i nan) (ltb i (v .n))) 96 (λ i l. place-again i l (ltb i (v .n)) refl)
 
 -- ---- a uniform profile
-unused-fits : T (placeFits (f64 0) false)
+unused-fits : T (placeFits «0·0» false)
 unfolding placeFits plusZero toBits ofBits
 unused-fits = tt
 
@@ -104,7 +104,7 @@ module _ (x : Float) (n : ℕ) (small : n ≤ 96) (p : T (finite x)) (q : T (le 
   place-uniform : (i : ℕ) → i < 96 → (b : Bool) → ltb i n ≡ b → T (placeFits (getD (uniformProfile x n) i nan) b)
   unfolding uniformProfile
   place-uniform i l true e = rw (first-below (λ k. x) zeros n i nan (ltb-true i n e) small) (used-fits x p q)
-  place-uniform i l false e = rw (first-above (λ k. x) zeros n i nan (ltb-false i n e), getD-replicate 96 i (f64 0) nan l) unused-fits
+  place-uniform i l false e = rw (first-above (λ k. x) zeros n i nan (ltb-false i n e), getD-replicate 96 i «0·0» nan l) unused-fits
 
   pub uniform-fits : T (profileFits (uniformProfile x n) n)
   unfolding profileFits

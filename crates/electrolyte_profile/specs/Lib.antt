@@ -2,9 +2,7 @@
 --
 -- Places: what a profile is checked for, a uniform one, the sum.
 -- Step: a node after a step, and the profile, all from the old one.
--- Literals: each bit pattern above is its decimal rounded once.
 -- Again: a profile that fits does so again after a step whose every place is finite.
 pub mod Places
 pub mod Step
-pub mod Literals
 pub mod Again

@@ -5,13 +5,14 @@ use mathlib.Core.List.{List}
 use lib.Dec.{ltb}
 use lib.ListN.{getD, replicate}
 use lib.Ieee.{Float, nan, le, neg}
-use Rattle.binary64.specs.Operators.{_⊕_, f64}
+use Rattle.binary64.specs.Operators.{_⊕_}
+use Rattle.binary64.specs.Literals.{«0·0», «1e-10»}
 use Rattle.refusal.specs.Ranges.{finite, plusZero}
 use Rattle.iterate.specs.Iterate.{firstBy, allBelow}
 
 -- the least that a node may hold, 1e-10
 abbrev pub floor : Float
-floor = f64 0x3ddb_7cdf_d9d7_bdbb
+floor = «1e-10»
 
 -- a used place is finite and at least 1e-10, an unused one +0
 unfoldable pub placeFits : Float → Bool → Bool
@@ -25,7 +26,7 @@ unfoldable pub allFinite : List Float → Bool
 allFinite c = allBelow 96 (λ i. finite (getD c i nan))
 
 abbrev pub zeros : List Float
-zeros = replicate 96 (f64 0)
+zeros = replicate 96 «0·0»
 
 -- x at the first n places, +0 at the others
 unfoldable pub uniformProfile : Float → ℕ → List Float
@@ -33,5 +34,5 @@ uniformProfile x n = firstBy n (λ i. x) zeros
 
 -- the first n places added up from the left. The sum starts at -0, as the Rust's does: any number added to that is itself.
 unfoldable pub sumOf : List Float → ℕ → Float
-sumOf c zero = neg (f64 0)
+sumOf c zero = neg «0·0»
 sumOf c (suc n) = sumOf c n ⊕ getD c n nan

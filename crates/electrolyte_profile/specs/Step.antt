@@ -5,7 +5,8 @@ use mathlib.Core.List.{List}
 use lib.Dec.{eqb, ltb}
 use lib.ListN.{getD}
 use lib.Ieee.{Float, nan}
-use Rattle.binary64.specs.Operators.{_⊕_, _⊖_, _⊗_, _⊘_, f64}
+use Rattle.binary64.specs.Operators.{_⊕_, _⊖_, _⊗_, _⊘_}
+use Rattle.binary64.specs.Literals.{«2·0»}
 use Rattle.min_max.specs.MinMax.{maxOf}
 use Rattle.iterate.specs.Iterate.{firstBy}
 use Rattle.electrolyte_profile.specs.declared.Region.{Region}
@@ -25,7 +26,7 @@ rightOf c i n = cond (eqb i (n - 1)) (getD c (n - 1) nan) (getD c (i + 1) nan)
 
 -- 2
 abbrev two : Float
-two = f64 0x4000_0000_0000_0000
+two = «2·0»
 
 -- max(1e-10): so a NaN becomes 1e-10 too
 abbrev floored : Float → Float

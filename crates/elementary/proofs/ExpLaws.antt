@@ -8,7 +8,8 @@ use lib.Dec.{T, eqb, eqb→eq, lit<}
 use lib.IntN.{ℤ, pos, negsuc}
 use lib.Ieee.{Float, nan, inf, fin, binary64, up, down, neg, lt, eq, add, mul, div, round, ofInt, ofBits, fits}
 use lib.Ieee.Fits.{and-l, up-pos}
-use Rattle.binary64.specs.Operators.{_⊕_, _⊗_, _⊘_, f64, count}
+use Rattle.binary64.specs.Operators.{_⊕_, _⊗_, _⊘_, count}
+use Rattle.binary64.specs.Literals.{«0·0»}
 use Rattle.elementary.specs.Exp.{one, series, squarings, powered, expOf, highest, lowest, scale}
 
 pub series-end : (k : ℕ) (y a : Float) → k ≡ 0 → series k y a ≡ a
@@ -30,14 +31,14 @@ squarings-step zero a h = absurd (lt-irrefl 0 h)
 squarings-step (suc n) a h = let e : suc n - 1 ≡ n = omega arith in ap (λ (j : ℕ). squarings j (a ⊗ a)) e
 
 -- ---- the three branches
-exp-is : (t : Float) (a b : Bool) → lt highest t ≡ a → lt t lowest ≡ b → expOf t ≡ cond a (inf false) (cond b (f64 0) (powered t))
+exp-is : (t : Float) (a b : Bool) → lt highest t ≡ a → lt t lowest ≡ b → expOf t ≡ cond a (inf false) (cond b «0·0» (powered t))
 unfolding expOf
-exp-is t a b h k = ap (λ (z : Bool). cond z (inf false) (cond (lt t lowest) (f64 0) (powered t))) h ∙ ap (λ (z : Bool). cond a (inf false) (cond z (f64 0) (powered t))) k
+exp-is t a b h k = ap (λ (z : Bool). cond z (inf false) (cond (lt t lowest) «0·0» (powered t))) h ∙ ap (λ (z : Bool). cond a (inf false) (cond z «0·0» (powered t))) k
 
 pub exp-high : (t : Float) → lt highest t ≡ true → expOf t ≡ inf false
 exp-high t h = exp-is t true (lt t lowest) h refl
 
-pub exp-low : (t : Float) → lt highest t ≡ false → lt t lowest ≡ true → expOf t ≡ f64 0
+pub exp-low : (t : Float) → lt highest t ≡ false → lt t lowest ≡ true → expOf t ≡ «0·0»
 exp-low t h k = exp-is t false true h k
 
 pub exp-mid : (t : Float) → lt highest t ≡ false → lt t lowest ≡ false → expOf t ≡ powered t
@@ -48,7 +49,7 @@ unfolding powered
 powered-is t = refl
 
 -- E(0) = 1: what an Arrhenius factor is at the reference temperature
-pub exp-0 : expOf (f64 0) ≡ one
+pub exp-0 : expOf «0·0» ≡ one
 unfolding expOf powered series squarings neg lt add mul div round ofInt ofBits
 exp-0 = refl
 
@@ -70,7 +71,7 @@ zero-exponent s (negsuc k) f = absurd (not-one (2 ^ suc k) (2 ^ k) (pow-succ' 2 
     not-one : (x y : ℕ) → x ≡ 2 * y → 1 * x ≡ 1 → ⊥
     not-one x y e h = omega arith
 
-pub exp-zero : (t : Float) → T (fits binary64 t) → eq t (f64 0) ≡ true → expOf t ≡ one
+pub exp-zero : (t : Float) → T (fits binary64 t) → eq t «0·0» ≡ true → expOf t ≡ one
 unfolding eq ofBits
 exp-zero nan f h = absurd (true≢false (sym h))
 exp-zero (inf s) f h = absurd (true≢false (sym h))

@@ -13,6 +13,7 @@ use Rattle.binary64.specs.Order.{lt→not}
 use Rattle.binary64.specs.Range.{exact, Most, Within, most-wider, least-wider}
 use Rattle.binary64.specs.RangeOps.{mul-most, div-most, div-count, add-over}
 use Rattle.binary64.specs.RangeTests.{tested-within, most-le, most-ge, within-ge}
+use Rattle.binary64.specs.Literals.{«708·0»}
 use Rattle.elementary.specs.Exp.{one, series, squarings, expOf, highest, lowest, scale}
 use Rattle.elementary.proofs.ExpLaws.{exp-mid, powered-is}
 use Rattle.elementary.proofs.Constants.{at-1, at-1024}
@@ -52,7 +53,7 @@ not-high {t} h = is-false (lt highest t) (not-T (lt highest t) (λ u. lt→not h
 
 not-low : {t : Float} {s : Bool} → Most t s 708 1 → lt t lowest ≡ false
 unfolding ofBits neg
-not-low {t} h = is-false (lt t lowest) (not-T (lt t lowest) (λ u. lt→not t lowest (h .fine) tt u (most-ge h (f64 0x4086_2000_0000_0000) tt tt)))
+not-low {t} h = is-false (lt t lowest) (not-T (lt t lowest) (λ u. lt→not t lowest (h .fine) tt u (most-ge h «708·0» tt tt)))
 
 -- ---- |t| is at most N / D, each term after the 1 at most P / Q, and R = Q - P: tests that antt computes
 pub record Exponents (N D P Q R : ℕ) (lo hi : Float) : Type 0 where

@@ -4,6 +4,7 @@ use mathlib.Core.Bool.{false}
 use Prim.Native.Nat.{ℕ, _^_}
 use lib.Ieee.{Float, binary64, neg, round, size, ofBits}
 use Rattle.binary64.specs.Operators.{f64}
+use Rattle.binary64.specs.Literals.{«298·15»}
 use Rattle.elementary.specs.Exp.{one, highest, lowest, scale}
 use Rattle.elementary.specs.Ln.{two, threeHalves, twentyThree, ln2}
 use Rattle.elementary.specs.Arrhenius.{gasConstant}
@@ -24,7 +25,7 @@ pub record Literals : Type 0 where
   pub ln2-is : ln2 ≡ decimal 69314718055994530941723212145818 32
   pub gasConstant-is : gasConstant ≡ decimal 8314 3
   -- of the laws and the program: 298.15, and 2 ^ 64, from which a count is too large
-  pub reference : f64 0x4072_a266_6666_6666 ≡ decimal 29815 2
+  pub reference : «298·15» ≡ decimal 29815 2
   pub count-limit : f64 0x43f0_0000_0000_0000 ≡ decimal 18446744073709551616 0
 
 pub literals : Literals

@@ -3,7 +3,8 @@ use mathlib.Core.Path.{_≡_, refl, sym, ap, _∙_}
 use mathlib.Core.Bool.{Bool, true, false, _||_, cond}
 use lib.IntN.{pos}
 use lib.Ieee.{Float, nan, inf, fin, lt, le, div, add, sub, mul, neg, round, ofInt, size, isNan, ofBits}
-use Rattle.binary64.specs.Operators.{_⊗_, f64}
+use Rattle.binary64.specs.Operators.{_⊗_}
+use Rattle.binary64.specs.Literals.{«0·0»}
 use Rattle.square_root.specs.Root.{sqrtOf, rounded, wholeRoot, rootBelow}
 use Rattle.elementary.specs.Exp.{one, series, squarings, powered, expOf}
 use Rattle.elementary.specs.Ln.{terms, lnParts, lnSplit, lnOf}
@@ -15,7 +16,7 @@ use Rattle.min_max.specs.Count.{ceilOf}
 pub record Specials : Type 0 where
   pub exp-nan : expOf nan ≡ nan
   pub exp-infinity : expOf (inf false) ≡ inf false
-  pub exp-minus-infinity : expOf (inf true) ≡ f64 0
+  pub exp-minus-infinity : expOf (inf true) ≡ «0·0»
   pub ln-nan : lnOf nan ≡ nan
   pub ln-zero : (s : Bool) → lnOf (fin s 0 (pos 0)) ≡ inf true
   pub ln-infinity : lnOf (inf false) ≡ inf false
@@ -27,12 +28,12 @@ pub record Specials : Type 0 where
   pub powf-nan-exponent : (x : Float) → powfOf x nan ≡ nan
   -- a NaN passes the clamp, and the zero of either sign one that starts at 0
   pub clamp-nan : (lo hi : Float) → clampOf nan lo hi ≡ nan
-  pub clamp-zero : (s : Bool) → clampOf (fin s 0 (pos 0)) (f64 0) one ≡ fin s 0 (pos 0)
+  pub clamp-zero : (s : Bool) → clampOf (fin s 0 (pos 0)) «0·0» one ≡ fin s 0 (pos 0)
   -- one NaN gives the other
   pub max-nan : (x : Float) → (maxOf nan x ≡ x) × (maxOf x nan ≡ x)
   pub min-nan : (x : Float) → (minOf nan x ≡ x) × (minOf x nan ≡ x)
-  pub signum-zero : (signumOf (f64 0) ≡ one) × (signumOf (neg (f64 0)) ≡ neg one)
-  pub abs-zero : (s : Bool) → absOf (fin s 0 (pos 0)) ≡ f64 0
+  pub signum-zero : (signumOf «0·0» ≡ one) × (signumOf (neg «0·0») ≡ neg one)
+  pub abs-zero : (s : Bool) → absOf (fin s 0 (pos 0)) ≡ «0·0»
   pub ceil-nan : ceilOf nan ≡ 0
 
 exp-at-nan : expOf nan ≡ nan
@@ -63,7 +64,7 @@ unfolding asinhOf lnOf sqrtOf add mul neg ofBits
 asinh-at-infinity true = refl
 asinh-at-infinity false = refl
 
-clamp-at-zero : (s : Bool) → clampOf (fin s 0 (pos 0)) (f64 0) one ≡ fin s 0 (pos 0)
+clamp-at-zero : (s : Bool) → clampOf (fin s 0 (pos 0)) «0·0» one ≡ fin s 0 (pos 0)
 unfolding lt ofBits
 clamp-at-zero true = refl
 clamp-at-zero false = refl

@@ -2,23 +2,24 @@
 use Prim.Native.Nat.{ℕ, zero, suc}
 use mathlib.Core.Bool.{false, cond}
 use lib.Ieee.{Float, inf, neg, lt}
-use Rattle.binary64.specs.Operators.{_⊕_, _⊗_, _⊘_, f64, count}
+use Rattle.binary64.specs.Operators.{_⊕_, _⊗_, _⊘_, count}
+use Rattle.binary64.specs.Literals.{«0·0», «1·0», «708·0», «709·0», «1024·0»}
 
 -- 1
 abbrev pub one : Float
-one = f64 0x3ff0_0000_0000_0000
+one = «1·0»
 
 -- 709
 abbrev pub highest : Float
-highest = f64 0x4086_2800_0000_0000
+highest = «709·0»
 
 -- -708
 abbrev pub lowest : Float
-lowest = neg (f64 0x4086_2000_0000_0000)
+lowest = neg «708·0»
 
 -- 1024
 abbrev pub scale : Float
-scale = f64 0x4090_0000_0000_0000
+scale = «1024·0»
 
 -- a = 1 + (a * y) / k, for k down to 1
 unfoldable pub series : ℕ → Float → Float → Float
@@ -36,4 +37,4 @@ powered t = squarings 10 (series 18 (t ⊘ scale) one)
 
 -- above 709 it is +infinity, below -708 it is +0. A NaN is neither, and stays one.
 unfoldable pub expOf : Float → Float
-expOf t = cond (lt highest t) (inf false) (cond (lt t lowest) (f64 0) (powered t))
+expOf t = cond (lt highest t) (inf false) (cond (lt t lowest) «0·0» (powered t))

@@ -3,17 +3,17 @@ use Prim.Native.Nat.{ℕ}
 use mathlib.Core.Path.{_≡_}
 use mathlib.Core.Bool.{Bool, true, _&&_}
 use lib.Ieee.{Float, le, eq, neg}
-use Rattle.binary64.specs.Operators.{f64}
 use Rattle.elementary.specs.Exp.{one, series}
 use Rattle.elementary.specs.declared.Bracket.{Bracket}
+use Rattle.binary64.specs.Literals.{«0·125», «0·75», «1·25»}
 
 -- 3/4
 abbrev pub startLow : Float
-startLow = f64 0x3fe8_0000_0000_0000
+startLow = «0·75»
 
 -- 5/4
 abbrev pub startHigh : Float
-startHigh = f64 0x3ff4_0000_0000_0000
+startHigh = «1·25»
 
 abbrev pub lastTerms : ℕ → Float → Bracket
 lastTerms k y = record { low = series k y startLow; high = series k y startHigh }
@@ -24,7 +24,7 @@ MeetAtSeries b y = eq (b .low) (b .high) ≡ true → b .low ≡ series 18 y one
 
 -- 1/8
 abbrev pub eighth : Float
-eighth = f64 0x3fc0_0000_0000_0000
+eighth = «0·125»
 
 -- at most 1/8 in size
 abbrev pub withinEighth : Float → Bool

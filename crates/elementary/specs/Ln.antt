@@ -4,19 +4,20 @@ use mathlib.Core.Bool.{true, false, cond}
 use lib.IntN.{ℤ, pos, negsuc}
 use lib.Ieee.{Float, nan, inf, fin, binary64, size, minus, le, ofInt}
 use Rattle.binary64.specs.Operators.{_⊕_, _⊖_, _⊗_, _⊘_, f64, count}
+use Rattle.binary64.specs.Literals.{«1·5», «2·0», «23·0»}
 use Rattle.elementary.specs.Exp.{one}
 
 -- 2
 abbrev pub two : Float
-two = f64 0x4000_0000_0000_0000
+two = «2·0»
 
 -- 1.5
 abbrev pub threeHalves : Float
-threeHalves = f64 0x3ff8_0000_0000_0000
+threeHalves = «1·5»
 
 -- 23
 abbrev pub twentyThree : Float
-twentyThree = f64 0x4037_0000_0000_0000
+twentyThree = «23·0»
 
 -- c, the logarithm of 2
 abbrev pub ln2 : Float

@@ -5,7 +5,6 @@ use mathlib.Core.List.{List, [], _∷_}
 use lib.Dec.{eqb, leb}
 use lib.ListN.{length, replicate}
 use lib.Ieee.{Float, le}
-use Rattle.binary64.specs.Operators.{f64}
 use Rattle.elementary.specs.Exp.{one}
 use Rattle.refusal.specs.Numbers as Numbers
 use Rattle.refusal.specs.Numbers.{firstRefusal, refusalUnless}
@@ -21,11 +20,12 @@ use Rattle.dfn.specs.declared.DfnStepAnswer.{DfnStepAnswer}
 use Rattle.galvanostatic_run.specs.declared.RunSettings.{RunSettings}
 use Rattle.galvanostatic_run.specs.declared.RunState.{RunState}
 use Rattle.galvanostatic_run.specs.declared.DfnRun.{DfnRun}
+use Rattle.binary64.specs.Literals.{«0·0»}
 
 -- ---- a row
 -- 1 or +0
 unfoldable pub flagOf : Bool → Float
-flagOf b = cond b one (f64 0)
+flagOf b = cond b one «0·0»
 
 -- the last place is newton_iter, always 1
 unfoldable pub rowOf : DfnStep → List Float
@@ -49,7 +49,7 @@ turned w s = followed w s (stepped (s .cell) (w .current) (w .dt))
 
 -- ---- k turns
 unfoldable pub started : DfnSolver → RunState
-started d = record { cell = d; row = replicate 8 (f64 0); rows = 0; over = 0; refusal = 0 }
+started d = record { cell = d; row = replicate 8 «0·0»; rows = 0; over = 0; refusal = 0 }
 
 abbrev pub overOf : RunState → ℕ
 overOf s = s .over

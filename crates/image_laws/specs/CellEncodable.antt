@@ -10,7 +10,8 @@ use lib.Ieee.{Float, nan, binary64, fits, lt}
 use lib.Ieee.Bits.{ofBits-fits}
 use lib.Ieee.Fits.{add-fits, cond-fits}
 use Rattle.matrix_rows.specs.Loops.{either}
-use Rattle.binary64.specs.Operators.{_⊕_, _⊗_, _⊘_, f64, count}
+use Rattle.binary64.specs.Operators.{_⊕_, _⊗_, _⊘_, count}
+use Rattle.binary64.specs.Literals.{«0·0»}
 use Rattle.refusal.specs.Numbers.{notFinite}
 use Rattle.iterate.specs.Iterate.{times, first-length}
 use Rattle.electrode.specs.Sheet.{sheetFits, diffusivityAt}
@@ -85,8 +86,8 @@ node-encodable : (v : SubStepParams) → T (fits binary64 (v .c_max)) → (c : �
 unfolding node
 node-encodable v f c i =
     let x = c i ⊕ v .dt ⊗ rate v c i in
-    let y = cond (lt x (f64 0)) (f64 0) x in
-    cond-fits binary64 (lt (v .c_max) y) (v .c_max) y f (cond-fits binary64 (lt x (f64 0)) (f64 0) x (ofBits-fits binary64 0) (add-fits binary64 (c i) (v .dt ⊗ rate v c i)))
+    let y = cond (lt x «0·0») «0·0» x in
+    cond-fits binary64 (lt (v .c_max) y) (v .c_max) y f (cond-fits binary64 (lt x «0·0») «0·0» x (ofBits-fits binary64 0) (add-fits binary64 (c i) (v .dt ⊗ rate v c i)))
 
 step-row : (v : SubStepParams) → T (fits binary64 (v .c_max)) → (c : List Float) → EncodableRow c → EncodableRow (subStep v c)
 unfolding subStep

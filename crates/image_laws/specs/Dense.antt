@@ -7,6 +7,7 @@ use lib.ListN.{length, set, replicate, length-set, length-replicate}
 use lib.Ieee.{Float, binary64, fits}
 use lib.Ieee.Fits.{sub-fits, div-fits}
 use Rattle.binary64.specs.Operators.{_⊘_, f64}
+use Rattle.binary64.specs.Literals.{«0·0»}
 use Rattle.min_max.specs.MinMax.{absOf}
 use Rattle.refusal.specs.Numbers.{firstRefusal}
 use Rattle.iterate.specs.Iterate.{first-length}
@@ -59,8 +60,8 @@ column-solved a col x h =
 loaded-side : (a b : List Float) (n : ℕ) → EncodableRow b → Side (loaded a b n)
 unfolding loaded
 loaded-side a b n h = record {
-  count = first-length (at b) (replicate 32 (f64 0)) n ∙ length-replicate 32 (f64 0);
-  places = first-encodable n (at b) (replicate 32 (f64 0)) (λ i. h .place i) (copies-encodable 32 (f64 0) (literal 0));
+  count = first-length (at b) (replicate 32 «0·0») n ∙ length-replicate 32 «0·0»;
+  places = first-encodable n (at b) (replicate 32 «0·0») (λ i. h .place i) (copies-encodable 32 «0·0» (literal 0));
 }
 
 solution-encodable : (a b : List Float) (n : ℕ) → EncodableRow b → EncodableColumn (solution a b n .value)
@@ -71,8 +72,8 @@ solution-encodable a b n h =
 pub solved-encodable : (a b : List Float) (n : ℕ) → EncodableRow b → EncodableColumn (solved a b n .x)
 unfolding solved answer
 solved-encodable a b n h =
-    either EncodableColumn (eqb (firstRefusal (inputRefusal a b n) (solutionRefusal a b n)) 0) (solution a b n .value) (replicate 32 (f64 0)) (solution-encodable a b n h)
-    (record { count = length-replicate 32 (f64 0); places = copies-encodable 32 (f64 0) (literal 0) })
+    either EncodableColumn (eqb (firstRefusal (inputRefusal a b n) (solutionRefusal a b n)) 0) (solution a b n .value) (replicate 32 «0·0») (solution-encodable a b n h)
+    (record { count = length-replicate 32 «0·0»; places = copies-encodable 32 «0·0» (literal 0) })
 
 -- a row of doubles from C
 pub doubles-encodable : (bits : List ℕ) → EncodableRow (map f64 bits)

@@ -10,7 +10,6 @@ use lib.Ieee.{Float, binary64, fits, neg}
 use lib.Ieee.Bits.{ofBits-fits}
 use lib.Ieee.Fits.{add-fits, sub-fits, div-fits, cond-fits}
 use Rattle.matrix_rows.specs.Loops.{either}
-use Rattle.binary64.specs.Operators.{f64}
 use Rattle.refusal.specs.Numbers.{notFinite}
 use Rattle.iterate.specs.Iterate.{first-length}
 use Rattle.array_update.specs.ArrayUpdate.{places-length}
@@ -32,6 +31,7 @@ use Rattle.dfn_images.specs.Images.{cellAt, reportNumbers}
 use Rattle.dfn_calls.specs.Steps.{electrolyteAfter}
 use Rattle.image_laws.specs.Encodable.{EncodableRow, []ᵉ, _∷ᵉ_, first-encodable, placesBy-encodable, clamp-fits, max-fits, abs-fits, literal, float-encodable, places-encodable, places-count}
 use Rattle.image_laws.specs.DfnImages.{EncodableParams, EncodableGrid, EncodableDfn}
+use Rattle.binary64.specs.Literals.{«0·0», «5·0»}
 
 -- ---- a Doyle-Fuller-Newman cell that passes the checks
 numbers-of : (x : List Float) (n : ℕ) (a : List Float) (m : ℕ) (c : List Float) → EncodableRow x → EncodableRow (paramsNumbers (paramsOf x n a m c))
@@ -110,7 +110,7 @@ module _ (v : ParticleParams) (c d : List Float) (f : T (fits binary64 (v .«c_m
   particles-encodable zero = h
   particles-encodable (suc m) =
       placesBy-encodable (m * v .n) (v .n) (DS.clampedNode v c d (m * v .n)) (DS.particlesWith v c d m)
-      (λ i. clamp-fits (DS.nodeWith v c d (m * v .n) i) (f64 0) (v .«c_max») (solid-node (m * v .n) i) (ofBits-fits binary64 0) f) (particles-encodable m)
+      (λ i. clamp-fits (DS.nodeWith v c d (m * v .n) i) «0·0» (v .«c_max») (solid-node (m * v .n) i) (ofBits-fits binary64 0) f) (particles-encodable m)
 
   particles-long : (m : ℕ) → length (DS.particlesWith v c d m) ≡ length c
   unfolding DS.particlesWith DS.particleWith
@@ -119,7 +119,7 @@ module _ (v : ParticleParams) (c d : List Float) (f : T (fits binary64 (v .«c_m
 
 voltage-fits : (p : DfnParams) (a b mid i : Float) → T (fits binary64 (voltageOf p a b mid i))
 unfolding voltageOf
-voltage-fits p a b mid i = clamp-fits _ (f64 0) (f64 0x4014_0000_0000_0000) (add-fits binary64 _ _) (ofBits-fits binary64 _) (ofBits-fits binary64 _)
+voltage-fits p a b mid i = clamp-fits _ «0·0» «5·0» (add-fits binary64 _ _) (ofBits-fits binary64 _) (ofBits-fits binary64 _)
 
 neg-most : (p : DfnParams) → EncodableRow (paramsNumbers p) → T (fits binary64 (p .«c_s_neg_max»))
 unfolding paramsNumbers

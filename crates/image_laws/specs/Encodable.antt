@@ -9,6 +9,7 @@ use lib.Ieee.{Float, nan, inf, fin, isNan, lt, binary64, fits, ofBits}
 use lib.Ieee.Bits.{ofBits-fits}
 use lib.Ieee.Fits.{nan-fits, cond-fits, and-l, and-r}
 use Rattle.binary64.specs.Operators.{f64}
+use Rattle.binary64.specs.Literals.{«0·0»}
 use Rattle.min_max.specs.MinMax.{absOf, clampOf, maxOf}
 use Rattle.iterate.specs.Iterate.{firstBy, first-length}
 use Rattle.array_update.specs.ArrayUpdate.{placesBy}
@@ -63,11 +64,11 @@ placesBy-encodable base zero g c f h = h
 placesBy-encodable base (suc k) g c f h = set-encodable (placesBy base k g c) (base + k) (g k) (f k) (placesBy-encodable base k g c f h)
 
 -- the first n places x, the others +0
-pub filled-encodable : (size n : ℕ) (x : Float) → T (fits binary64 x) → EncodableRow (firstBy n (λ i. x) (replicate size (f64 0)))
-filled-encodable size n x f = first-encodable n (λ i. x) (replicate size (f64 0)) (λ i. f) (copies-encodable size (f64 0) (ofBits-fits binary64 0))
+pub filled-encodable : (size n : ℕ) (x : Float) → T (fits binary64 x) → EncodableRow (firstBy n (λ i. x) (replicate size «0·0»))
+filled-encodable size n x f = first-encodable n (λ i. x) (replicate size «0·0») (λ i. f) (copies-encodable size «0·0» (ofBits-fits binary64 0))
 
-pub filled-length : (size n : ℕ) (x : Float) → length (firstBy n (λ i. x) (replicate size (f64 0))) ≡ size
-filled-length size n x = first-length (λ i. x) (replicate size (f64 0)) n ∙ length-replicate size (f64 0)
+pub filled-length : (size n : ℕ) (x : Float) → length (firstBy n (λ i. x) (replicate size «0·0»)) ≡ size
+filled-length size n x = first-length (λ i. x) (replicate size «0·0») n ∙ length-replicate size «0·0»
 
 -- ---- numbers that do not round
 pub clamp-fits : (x lo hi : Float) → T (fits binary64 x) → T (fits binary64 lo) → T (fits binary64 hi) → T (fits binary64 (clampOf x lo hi))

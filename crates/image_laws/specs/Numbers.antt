@@ -7,7 +7,6 @@ use lib.Dec.{T, eqb, leb, eqb·suc-zero}
 use lib.ListN.{length}
 use lib.Ieee.{Float, lt, binary64, fits}
 use lib.Ieee.Fits.{add-fits, sub-fits, mul-fits, div-fits, cond-fits, ofInt-fits}
-use Rattle.binary64.specs.Operators.{f64}
 use Rattle.refusal.specs.Answers.{Outcome, outcome}
 use Rattle.matrix_rows.specs.Loops.{either}
 use Rattle.curves.specs.Curves.{graphiteCurve, lfpCurve, nmcCurve, chemistryCurve, chemistrySlope}
@@ -32,6 +31,7 @@ use Rattle.cell_images.specs.Images.{cellAt}
 use Rattle.electrolyte_images.specs.Images.{electrolyteParamsAt, electrolyteAt}
 use Rattle.image_numbers.specs.Numbers.{sheetNumber, particleNumber, cellNumber, rateNumber, nodesOutcome, electrolyteNumber, numberOutcome}
 use Rattle.image_laws.specs.Encodable.{EncodableRow, []ᵉ, _∷ᵉ_, clamp-fits, literal, places-encodable}
+use Rattle.binary64.specs.Literals.{«0·0», «1e-30»}
 
 -- what an answer has: numbers of binary64, and one of them where nothing refuses
 pub record Answered (a : Outcome) : Type 0 where
@@ -60,7 +60,7 @@ curve-fits : (chemistry : ℕ) (theta : Float) → T (fits binary64 (chemistryCu
 unfolding chemistryCurve
 curve-fits chemistry theta =
     let F : Float → Type 0 = λ x. T (fits binary64 x) in
-    either F (eqb chemistry 1) _ _ (graphite-fits _) (either F (eqb chemistry 2) _ _ (lfp-fits _) (either F (eqb chemistry 3) _ (f64 0) (nmc-fits _) (literal 0)))
+    either F (eqb chemistry 1) _ _ (graphite-fits _) (either F (eqb chemistry 2) _ _ (lfp-fits _) (either F (eqb chemistry 3) _ «0·0» (nmc-fits _) (literal 0)))
 
 -- ---- each record's numbers
 sheet-answered : (call : ℕ) (p : ElectrodeParams) (x : Float) → Answered (sheetNumber call p x)
@@ -73,7 +73,7 @@ sheet-answered call p x =
 
 average-fits : (p : ParticleDiffusion) → EncodableRow (p .«c_s») → T (fits binary64 (average p))
 unfolding average
-average-fits p h = cond-fits binary64 (lt (shares (p .«n_nodes») (spacing p) (p .«n_nodes»)) (f64 0x39b4_484b_feeb_c2a0)) _ _ (h .place 0) (div-fits binary64 _ _)
+average-fits p h = cond-fits binary64 (lt (shares (p .«n_nodes») (spacing p) (p .«n_nodes»)) «1e-30») _ _ (h .place 0) (div-fits binary64 _ _)
 
 particle-answered : (call : ℕ) (p : ParticleDiffusion) (x : Float) → EncodableRow (p .«c_s») → Answered (particleNumber call p x)
 unfolding particleNumber P.dtStable P.thetaSurface P.thetaAvg P.cAvg P.ocpSurface stableStep surfaceTheta averageTheta surfacePotential openCircuit

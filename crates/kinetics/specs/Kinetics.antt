@@ -2,7 +2,8 @@
 use Prim.Native.Nat.{ℕ}
 use mathlib.Core.Bool.{Bool, cond, _&&_}
 use lib.Ieee.{Float, le, lt, neg}
-use Rattle.binary64.specs.Operators.{_⊕_, _⊖_, _⊗_, _⊘_, f64}
+use Rattle.binary64.specs.Operators.{_⊕_, _⊖_, _⊗_, _⊘_}
+use Rattle.binary64.specs.Literals.{«0·0», «1e-30», «0·01», «0·99», «1·0», «2·0», «8·0», «9·0», «10·0», «1000·0», «90000·0», «100000·0»}
 use Rattle.square_root.specs.Root.{sqrtOf}
 use Rattle.min_max.specs.MinMax.{clampOf, signumOf}
 use Rattle.elementary.specs.Asinh.{asinhOf}
@@ -16,14 +17,14 @@ use Rattle.kinetics.specs.declared.SpmConfig.{SpmConfig}
 abbrev pub configFits : SpmConfig → Bool
 configFits s =
     -- -10 to 10, in either order
-    le (neg (f64 0x4024_0000_0000_0000)) (s .«v_min») && le (s .«v_min») (f64 0x4024_0000_0000_0000)
-    && le (neg (f64 0x4024_0000_0000_0000)) (s .«v_max») && le (s .«v_max») (f64 0x4024_0000_0000_0000)
+    le (neg «10·0») (s .«v_min») && le (s .«v_min») «10·0»
+    && le (neg «10·0») (s .«v_max») && le (s .«v_max») «10·0»
     -- 9e4 to 1e5
-    && le (f64 0x40f5_f900_0000_0000) (s .faraday) && le (s .faraday) (f64 0x40f8_6a00_0000_0000)
+    && le «90000·0» (s .faraday) && le (s .faraday) «100000·0»
     -- 8 to 9
-    && le (f64 0x4020_0000_0000_0000) (s .«r_gas») && le (s .«r_gas») (f64 0x4022_0000_0000_0000)
+    && le «8·0» (s .«r_gas») && le (s .«r_gas») «9·0»
     -- 0 to 1
-    && le (f64 0) (s .«r_electrolyte_ohm_m2») && le (s .«r_electrolyte_ohm_m2») (f64 0x3ff0_0000_0000_0000)
+    && le «0·0» (s .«r_electrolyte_ohm_m2») && le (s .«r_electrolyte_ohm_m2») «1·0»
 
 -- a_s * L * F
 unfoldable pub surfaceCurrent : ElectrodeParams → Float → Float
@@ -32,14 +33,14 @@ surfaceCurrent p faraday = specificArea p ⊗ p .thickness ⊗ faraday
 -- k_bv * sqrt(c_ss * (c_s_max - c_ss) * 1000), the surface's stoichiometry clamped to 0.01 to 0.99
 unfoldable pub exchange : ParticleDiffusion → Float
 exchange p =
-    let c_ss = clampOf (surfaceTheta p) (f64 0x3f84_7ae1_47ae_147b) (f64 0x3fef_ae14_7ae1_47ae) ⊗ p .params .«c_s_max» in
-    p .params .«k_bv» ⊗ sqrtOf (c_ss ⊗ (p .params .«c_s_max» ⊖ c_ss) ⊗ f64 0x408f_4000_0000_0000)
+    let c_ss = clampOf (surfaceTheta p) «0·01» «0·99» ⊗ p .params .«c_s_max» in
+    p .params .«k_bv» ⊗ sqrtOf (c_ss ⊗ (p .params .«c_s_max» ⊖ c_ss) ⊗ «1000·0»)
 
 -- (2 R T / F) asinh(j / (2 i0)); 0 where i0 is below 1e-30
 unfoldable pub overpotential : SpmConfig → Float → ParticleDiffusion → Float → Float
 overpotential s j p t =
-    cond (lt (exchange p) (f64 0x39b4_484b_feeb_c2a0)) (f64 0)
-    (f64 0x4000_0000_0000_0000 ⊗ s .«r_gas» ⊗ t ⊘ s .faraday ⊗ asinhOf (j ⊘ (f64 0x4000_0000_0000_0000 ⊗ exchange p)))
+    cond (lt (exchange p) «1e-30») «0·0»
+    («2·0» ⊗ s .«r_gas» ⊗ t ⊘ s .faraday ⊗ asinhOf (j ⊘ («2·0» ⊗ exchange p)))
 
 -- (u_pos + eta_pos) - (u_neg + eta_neg) - v_ohm * signum(I)
 abbrev pub terminalVoltage : Float → Float → Float → Float → Float → Float → Float

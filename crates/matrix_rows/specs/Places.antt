@@ -4,9 +4,9 @@ use mathlib.Core.Bool.{Bool}
 use mathlib.Core.List.{List}
 use lib.ListN.{length, getD, replicate}
 use lib.Ieee.{Float, nan}
-use Rattle.binary64.specs.Operators.{f64}
 use Rattle.refusal.specs.Ranges.{finite}
 use Rattle.iterate.specs.Iterate.{allBelow}
+use Rattle.binary64.specs.Literals.{«0·0»}
 
 -- place i
 abbrev pub at : List Float → ℕ → Float
@@ -21,7 +21,7 @@ entry a row col = at a (place row col)
 
 -- +0 at k places
 abbrev pub zeros : ℕ → List Float
-zeros k = replicate k (f64 0)
+zeros k = replicate k «0·0»
 
 -- the first k places are finite; every place is
 unfoldable pub firstFinite : ℕ → List Float → Bool

@@ -17,6 +17,7 @@ use Rattle.square_root.proofs.Monotone.{positive-num}
 use Rattle.binary64.specs.Operators.{f64}
 use Rattle.binary64.specs.Order.{le→below, not→lt}
 use Rattle.binary64.specs.Representable.{own-round}
+use Rattle.binary64.specs.Literals.{«0·0»}
 use Rattle.min_max.specs.Count.{ceilDiv, ceilOf}
 use Rattle.min_max.proofs.Format.{representable}
 
@@ -46,7 +47,7 @@ ceil-next a d p h =
     sym (div-eq-of-lt-le d (omega (arith, add-mul (a / d) 1 d)) (omega (arith, add-mul (a / d) 1 d, add-mul (a / d + 1) 1 d)))
 
 -- ---- what is not above zero, and what is too large
-pub ceil-zero : (q : Float) → lt (f64 0) q ≡ false → 0 ≡ ceilOf q
+pub ceil-zero : (q : Float) → lt «0·0» q ≡ false → 0 ≡ ceilOf q
 unfolding lt ofBits ceilOf
 ceil-zero nan h = refl
 ceil-zero (inf true) h = refl
@@ -75,7 +76,7 @@ ceil-top (fin false m e) h =
     omega arith
 
 -- ---- the numbers between
-pub in-range : (q : Float) → lt (f64 0) q ≡ true → le (f64 0x43f0_0000_0000_0000) q ≡ false → T (lt (fin true 1 (pos 0)) q) × T (lt q (fin false 1 (pos 64)))
+pub in-range : (q : Float) → lt «0·0» q ≡ true → le (f64 0x43f0_0000_0000_0000) q ≡ false → T (lt (fin true 1 (pos 0)) q) × T (lt q (fin false 1 (pos 64)))
 unfolding lt le ofBits
 in-range nan h k = absurd (false≢true h)
 in-range (inf true) h k = absurd (false≢true h)
@@ -139,7 +140,7 @@ part-counted m j l =
       same = λ h. let e = ceil-at a d (pow-pos (suc j)) (ltb-false (a / d * d) a (sym t ∙ h)) in omega arith;
     })
 
-pub counted : (q : Float) → T (fits binary64 q) → lt (f64 0) q ≡ true → le (f64 0x43f0_0000_0000_0000) q ≡ false → CountedBy q (toUnsigned 64 q)
+pub counted : (q : Float) → T (fits binary64 q) → lt «0·0» q ≡ true → le (f64 0x43f0_0000_0000_0000) q ≡ false → CountedBy q (toUnsigned 64 q)
 unfolding lt le ofBits
 counted nan f h k = absurd (false≢true h)
 counted (inf true) f h k = absurd (false≢true h)

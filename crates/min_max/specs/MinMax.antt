@@ -1,7 +1,8 @@
 -- Absolute value, sign, clamp, max and min: no operation here rounds. Definitions only.
 use mathlib.Core.Bool.{false, _||_, cond}
 use lib.Ieee.{Float, nan, inf, fin, neg, lt, isNan}
-use Rattle.binary64.specs.Operators.{negative, f64}
+use Rattle.binary64.specs.Operators.{negative}
+use Rattle.binary64.specs.Literals.{«1·0»}
 
 abbrev pub absOf : Float → Float
 absOf nan = nan
@@ -10,7 +11,7 @@ absOf (fin s m e) = fin false m e
 
 -- 1 with the sign of x: of +0 it is 1, of -0 it is -1
 abbrev pub signumOf : Float → Float
-signumOf x = cond (isNan x) nan (cond (negative x) (neg (f64 0x3ff0_0000_0000_0000)) (f64 0x3ff0_0000_0000_0000))
+signumOf x = cond (isNan x) nan (cond (negative x) (neg «1·0») «1·0»)
 
 -- below low, low; then above high, high. -0 and NaN pass.
 abbrev pub clampOf : Float → Float → Float → Float

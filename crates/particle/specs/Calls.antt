@@ -6,7 +6,8 @@ use mathlib.Core.List.{List}
 use lib.Dec.{eqb}
 use lib.ListN.{replicate}
 use lib.Ieee.{Float}
-use Rattle.binary64.specs.Operators.{_⊗_, f64}
+use Rattle.binary64.specs.Operators.{_⊗_}
+use Rattle.binary64.specs.Literals.{«0·0», «1e13»}
 use Rattle.refusal.specs.Numbers.{firstRefusal, refusalUnless, grid, sheet, load, interval, temperature, notFinite, neither-refused}
 use Rattle.refusal.specs.Ranges.{loadFits, intervalFits, temperatureFits}
 use Rattle.refusal.specs.Answers.{Outcome, finiteOutcome}
@@ -35,19 +36,19 @@ fresh p n = record { params = p; «n_nodes» = n; «c_s» = filled (p .«theta_i
 abbrev pub noSheet : ElectrodeParams
 noSheet = record {
   «electrode_type» = 0;
-  «r_particle» = f64 0;
-  «d_s_ref» = f64 0;
-  «c_s_max» = f64 0;
-  «theta_init» = f64 0;
-  thickness = f64 0;
-  «epsilon_s» = f64 0;
-  area = f64 0;
-  «e_a_ds» = f64 0;
-  «k_bv» = f64 0;
+  «r_particle» = «0·0»;
+  «d_s_ref» = «0·0»;
+  «c_s_max» = «0·0»;
+  «theta_init» = «0·0»;
+  thickness = «0·0»;
+  «epsilon_s» = «0·0»;
+  area = «0·0»;
+  «e_a_ds» = «0·0»;
+  «k_bv» = «0·0»;
 }
 
 unfoldable pub noParticle : ParticleDiffusion
-noParticle = record { params = noSheet; «n_nodes» = 0; «c_s» = replicate 64 (f64 0) }
+noParticle = record { params = noSheet; «n_nodes» = 0; «c_s» = replicate 64 «0·0» }
 
 unfoldable pub made : ElectrodeParams → ℕ → ParticleAnswer
 made p n = cond (eqb (newRefusal p n) 0) (particleAnswer 0 (fresh p n)) (particleAnswer (newRefusal p n) noParticle)
@@ -56,7 +57,7 @@ made p n = cond (eqb (newRefusal p n) 0) (particleAnswer 0 (fresh p n)) (particl
 unfoldable pub stepRefusal : ParticleDiffusion → Float → Float → Float → ℕ
 stepRefusal p j dt t =
     firstRefusal (particleRefusal p)
-    (firstRefusal (refusalUnless (loadFits j (f64 0x42a2_309c_e540_0000)) load)
+    (firstRefusal (refusalUnless (loadFits j «1e13») load)
     (firstRefusal (refusalUnless (intervalFits dt) interval) (refusalUnless (temperatureFits t) temperature)))
 
 pub step-particle : (p : ParticleDiffusion) (j dt t : Float) → stepRefusal p j dt t ≡ 0 → particleRefusal p ≡ 0

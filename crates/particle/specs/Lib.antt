@@ -6,4 +6,3 @@
 pub mod Checks
 pub mod Particle
 pub mod Calls
-pub mod Literals

@@ -5,7 +5,8 @@ use mathlib.Core.Bool.{cond}
 use mathlib.Core.List.{List}
 use lib.ListN.{getD}
 use lib.Ieee.{Float, nan, lt}
-use Rattle.binary64.specs.Operators.{_⊗_, _⊘_, f64, count}
+use Rattle.binary64.specs.Operators.{_⊗_, _⊘_, count}
+use Rattle.binary64.specs.Literals.{«1e-30», «0·5», «3·0»}
 use Rattle.profile.specs.Weights.{shares, content}
 use Rattle.profile.specs.Sums.{sumsAfter, sums-are}
 use Rattle.profile.specs.declared.Sums.{Sums}
@@ -45,7 +46,7 @@ surfacePotential p = openCircuit (p .params) (surfaceTheta p)
 
 -- 0.5 * dr * dr / d_s
 unfoldable pub stableStep : ParticleDiffusion → Float → Float
-stableStep p ds = f64 0x3fe0_0000_0000_0000 ⊗ spacing p ⊗ spacing p ⊘ ds
+stableStep p ds = «0·5» ⊗ spacing p ⊗ spacing p ⊘ ds
 
 -- r is that interval, whatever the profile
 abbrev pub StableStepOf : ElectrodeParams → ℕ → Float → Float → Type 0
@@ -56,7 +57,7 @@ StableStepOf e n ds r = (c : List Float) → r ≡ stableStep (particleOf e n c)
 abbrev averaged : ParticleDiffusion → Float → Float → Float
 averaged p s c =
     let r = p .params .«r_particle» in
-    cond (lt s (f64 0x39b4_484b_feeb_c2a0)) (placeOf p 0) (f64 0x4008_0000_0000_0000 ⊗ c ⊘ (r ⊗ r ⊗ r) ⊗ spacing p ⊘ f64 0x4008_0000_0000_0000)
+    cond (lt s «1e-30») (placeOf p 0) («3·0» ⊗ c ⊘ (r ⊗ r ⊗ r) ⊗ spacing p ⊘ «3·0»)
 
 unfoldable pub average : ParticleDiffusion → Float
 average p = averaged p (shares (p .«n_nodes») (spacing p) (p .«n_nodes»)) (content (p .«n_nodes») (spacing p) (placeOf p) (p .«n_nodes»))

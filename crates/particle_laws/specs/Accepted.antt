@@ -4,7 +4,6 @@ use mathlib.Core.Path.{_≡_, refl, _∙_}
 use mathlib.Core.Bool.{cond}
 use mathlib.Core.List.{List, [], _∷_}
 use lib.Dec.{eqb}
-use Rattle.binary64.specs.Operators.{f64}
 use Rattle.refusal.specs.Numbers.{firstRefusal, refusalUnless, load, interval, temperature}
 use Rattle.refusal.specs.Ranges.{loadFits, intervalFits, temperatureFits}
 use Rattle.diffusion.specs.Calls.{accepted}
@@ -13,11 +12,12 @@ use Rattle.particle.specs.Checks.{particleRefusal}
 use Rattle.particle.specs.Calls.{stepRefusal}
 use Rattle.particle_laws.specs.Closure.{step-number, step-stays}
 use Rattle.particle_laws.specs.Demand.{Call, answer, steps, taken}
+use Rattle.binary64.specs.Literals.{«1e13»}
 
 -- the number that a call meets by itself: its flux, interval and temperature
 unfoldable pub callRefusal : Call → ℕ
 callRefusal q =
-    firstRefusal (refusalUnless (loadFits (q .flux) (f64 0x42a2_309c_e540_0000)) load)
+    firstRefusal (refusalUnless (loadFits (q .flux) «1e13») load)
     (firstRefusal (refusalUnless (intervalFits (q .dt)) interval) (refusalUnless (temperatureFits (q .temp)) temperature))
 
 pub answer-number : (p : ParticleDiffusion) (q : Call) → particleRefusal p ≡ 0 → answer p q .refusal ≡ callRefusal q

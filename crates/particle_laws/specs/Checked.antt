@@ -12,10 +12,10 @@ use lib.ListN.{length, List·getD-eq-default}
 use Rattle.fraction.specs.Fraction.{whole}
 use Rattle.fraction.specs.Field.{≤F-trans}
 use Rattle.fraction.specs.Within.{within-self, within-weaken}
-use Rattle.binary64.specs.Operators.{f64}
 use Rattle.binary64.specs.Range.{Within, Sized}
 use Rattle.binary64.specs.Bounds.{bounded-most, within-scaled}
 use Rattle.binary64.specs.Value.{val}
+use Rattle.binary64.specs.Literals.{«0·0»}
 use Rattle.refusal.specs.Numbers.{refusalUnless, firstRefusal}
 use Rattle.refusal.specs.Ranges.{inRange, plusZero}
 use Rattle.iterate.specs.Iterate.{all-at, all-of}
@@ -28,7 +28,7 @@ use Rattle.particle.specs.Particle.{placeOf}
 use Rattle.particle_laws.specs.Ranges.{sheet-ranges, sheet-passed, profile-passed}
 
 -- ---- one place
-used-is : (x : Float) (i n : ℕ) (M : Float) → i < n → placeFits x (ltb i n) M ≡ inRange x (f64 0) M
+used-is : (x : Float) (i n : ℕ) (M : Float) → i < n → placeFits x (ltb i n) M ≡ inRange x «0·0» M
 unfolding placeFits
 used-is x i n M l = rw (lt-ltb i n l)
 
@@ -56,7 +56,7 @@ module _ (p : ParticleDiffusion) (h : particleRefusal p ≡ 0) where
   place-passed i l = all-at (λ k. placeFits (placeOf p k) (ltb k (p .«n_nodes»)) M) 64 i l (profile-passed p h)
 
   -- a used place is from 0 to M by the tests of binary64; an unused one is +0 by its bits
-  pub used-passed : (i : ℕ) → i < p .«n_nodes» → T (inRange (placeOf p i) (f64 0) M)
+  pub used-passed : (i : ℕ) → i < p .«n_nodes» → T (inRange (placeOf p i) «0·0» M)
   used-passed i l = subst (λ (b : Bool). T b) (used-is (placeOf p i) i (p .«n_nodes») M l) (place-passed i (le-trans l (nodes-of p h .1)))
 
   pub unused-passed : (i : ℕ) → p .«n_nodes» ≤ i → i < 64 → T (plusZero (placeOf p i))
@@ -73,7 +73,7 @@ module _ (p : ParticleDiffusion) (h : particleRefusal p ≡ 0) where
     long = le-trans (nodes-of p h .1) all-places;
     nodes = λ i l.
         let t = used-passed i l in
-        node-tested (placeOf p i) M (sheet-ranges (p .params) (sheet-passed p h) .most .0 .fine) (and-l (le (f64 0) (placeOf p i)) (le (placeOf p i) M) t) (and-r (le (f64 0) (placeOf p i)) (le (placeOf p i) M) t);
+        node-tested (placeOf p i) M (sheet-ranges (p .params) (sheet-passed p h) .most .0 .fine) (and-l (le «0·0» (placeOf p i)) (le (placeOf p i) M) t) (and-r (le «0·0» (placeOf p i)) (le (placeOf p i) M) t);
   }
 
   pub place-sized : (i : ℕ) → i < p .«n_nodes» → Sized (placeOf p i) (2 ^ 17) 1
@@ -81,7 +81,7 @@ module _ (p : ParticleDiffusion) (h : particleRefusal p ≡ 0) where
 
 -- ---- and back
 pub particle-passes : (p : ParticleDiffusion) → T (nodesFit (p .«n_nodes»)) → T (sheetFits (p .params))
-    → ((i : ℕ) → i < p .«n_nodes» → T (inRange (placeOf p i) (f64 0) (p .params .«c_s_max»)))
+    → ((i : ℕ) → i < p .«n_nodes» → T (inRange (placeOf p i) «0·0» (p .params .«c_s_max»)))
     → ((i : ℕ) → p .«n_nodes» ≤ i → i < 64 → T (plusZero (placeOf p i))) → particleRefusal p ≡ 0
 unfolding particleRefusal firstRefusal refusalUnless profileFits
 particle-passes p n s u w =

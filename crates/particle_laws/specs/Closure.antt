@@ -18,12 +18,13 @@ use Rattle.fraction.specs.Field.{≈F-sym, ≤F-of-≈F, ≤F-trans, le-of-lt}
 use Rattle.fraction.specs.Order.{lit≈F}
 use Rattle.fraction.specs.Size.{size-pos}
 use Rattle.fraction.specs.Certificate.{quote, le-by, up, _⊠_}
-use Rattle.binary64.specs.Operators.{_⊗_, f64}
+use Rattle.binary64.specs.Operators.{_⊗_}
 use Rattle.binary64.specs.Order.{between-finite}
 use Rattle.binary64.specs.Bounds.{within-scaled}
 use Rattle.binary64.specs.OrderLaws.{rounds-le}
 use Rattle.binary64.specs.Rounds.{representable, mul-rounds}
 use Rattle.binary64.specs.Value.{val, le-val}
+use Rattle.binary64.specs.Literals.{«0·0»}
 use Rattle.elementary.specs.Exp.{one}
 use Rattle.refusal.specs.Numbers.{grid, sheet, neither-refused, passed}
 use Rattle.refusal.specs.Ranges.{inRange, plusZero}
@@ -163,27 +164,27 @@ one-val : val one ≈F nat 1
 unfolding ofBits val whole
 one-val = lit≈F refl
 
-zero-fits : T (fits binary64 (f64 0))
+zero-fits : T (fits binary64 «0·0»)
 unfolding ofBits fits
 zero-fits = tt
 
-zero-bits : T (plusZero (f64 0))
+zero-bits : T (plusZero «0·0»)
 unfolding plusZero toBits ofBits
 zero-bits = tt
 
 -- theta_init * c_s_max is from 0 to c_s_max; c_s_max is a number of binary64, as each f64 of a program is
-start-in : (s : ElectrodeParams) → T (sheetFits s) → T (fits binary64 (s .«c_s_max»)) → T (inRange (s .«theta_init» ⊗ s .«c_s_max») (f64 0) (s .«c_s_max»))
+start-in : (s : ElectrodeParams) → T (sheetFits s) → T (fits binary64 (s .«c_s_max»)) → T (inRange (s .«theta_init» ⊗ s .«c_s_max») «0·0» (s .«c_s_max»))
 start-in s h f =
     let r = sheet-ranges s h in
     let x = s .«theta_init» in
     let M = s .«c_s_max» in
-    let p = between-finite (f64 0) x one zero-fine one-fine (r .initial-low) (r .initial-high) in
+    let p = between-finite «0·0» x one zero-fine one-fine (r .initial-low) (r .initial-high) in
     let q = r .most .0 .fine in
-    let a = ≤F-trans (≤F-of-≈F (≈F-sym zero-val)) (le-val (f64 0) x zero-fine p (r .initial-low)) in
+    let a = ≤F-trans (≤F-of-≈F (≈F-sym zero-val)) (le-val «0·0» x zero-fine p (r .initial-low)) in
     let b = ≤F-trans (le-val x one p one-fine (r .initial-high)) (≤F-of-≈F one-val) in
     let m = le-of-lt (size-pos (within-scaled (r .most) 0 17 tt tt .size)) in
-    and-i (le (f64 0) (x ⊗ M)) (le (x ⊗ M) M)
-    (rounds-le (representable (f64 0) zero-fine zero-fits) (mul-rounds x M p q) (≤F-trans (≤F-of-≈F zero-val) (le-by (val x ∷ val M ∷ []) 0 (a ⊠ m) (search quote depth 24) tt)))
+    and-i (le «0·0» (x ⊗ M)) (le (x ⊗ M) M)
+    (rounds-le (representable «0·0» zero-fine zero-fits) (mul-rounds x M p q) (≤F-trans (≤F-of-≈F zero-val) (le-by (val x ∷ val M ∷ []) 0 (a ⊠ m) (search quote depth 24) tt)))
     (rounds-le (mul-rounds x M p q) (representable M q f) (le-by (val x ∷ val M ∷ []) 0 (up b ⊠ m) (search quote depth 24) tt))
 
 fresh-passes : (s : ElectrodeParams) (n : ℕ) → T (fits binary64 (s .«c_s_max»)) → newRefusal s n ≡ 0 → particleRefusal (fresh s n) ≡ 0
@@ -191,10 +192,10 @@ unfolding newRefusal fresh filled
 fresh-passes s n f e =
     let g = neither-refused _ _ e in
     let h = passed (sheetFits s) sheet (zero-lt-suc 1) (g .1) in
-    let zeros : List Float = replicate 64 (f64 0) in
+    let zeros : List Float = replicate 64 «0·0» in
     particle-passes (fresh s n) (passed (nodesFit n) grid (zero-lt-suc 0) (g .0)) h
     (λ i l. rw (first-below (λ k. s .«theta_init» ⊗ s .«c_s_max») zeros n i nan l (nodes-valid n (g .0) .1)) (start-in s h f))
-    (λ i l m. rw (first-above (λ k. s .«theta_init» ⊗ s .«c_s_max») zeros n i nan l, getD-replicate 64 i (f64 0) nan m) zero-bits)
+    (λ i l m. rw (first-above (λ k. s .«theta_init» ⊗ s .«c_s_max») zeros n i nan l, getD-replicate 64 i «0·0» nan m) zero-bits)
 
 -- A BUILD THAT IS ACCEPTED passes the checks
 pub build-passes : (s : ElectrodeParams) (n : ℕ) → T (fits binary64 (s .«c_s_max»)) → made s n .refusal ≡ 0 → particleRefusal (made s n .particle) ≡ 0

@@ -20,6 +20,7 @@ use Rattle.binary64.specs.RangeOps.{mul-between, mul-most, div-most}
 use Rattle.binary64.specs.Rounds.{add-rounds}
 use Rattle.binary64.specs.Bounds.{Bounded, bounded-pow, bounded-most, most-bounded}
 use Rattle.binary64.specs.Value.{ratio-le}
+use Rattle.binary64.specs.Literals.{«0·0», «1e-30», «0·5», «1·0», «2·0», «3·0», «4·0»}
 use Rattle.elementary.specs.Exp.{one}
 use Rattle.refusal.specs.Numbers.{firstRefusal, refusalUnless, temperature, neither-refused, passed}
 use Rattle.refusal.specs.Ranges.{temperatureFits}
@@ -44,10 +45,10 @@ weight-range : (n i : ℕ) → Within (weight n i) 4 1 1 1
 unfolding weight innerWeight ofBits
 weight-range n i = go (eqb i 0 || eqb i (n - 1)) (eqb (i % 2) 0)
   where
-    go : (a b : Bool) → Within (cond a (f64 0x3ff0_0000_0000_0000) (f64 (cond b 0x4000_0000_0000_0000 0x4010_0000_0000_0000))) 4 1 1 1
+    go : (a b : Bool) → Within (cond a «1·0» (f64 (cond b 0x4000_0000_0000_0000 0x4010_0000_0000_0000))) 4 1 1 1
     go true b = literal one 4 1 1 1 tt tt tt tt tt
-    go false true = literal (f64 0x4000_0000_0000_0000) 4 1 1 1 tt tt tt tt tt
-    go false false = literal (f64 0x4010_0000_0000_0000) 4 1 1 1 tt tt tt tt tt
+    go false true = literal «2·0» 4 1 1 1 tt tt tt tt tt
+    go false false = literal «4·0» 4 1 1 1 tt tt tt tt tt
 
 -- ---- sums: one power of 2 more for each term
 bounded-add : {x y : Float} (f : ℕ) → Bounded x (pow2 f) → Bounded y (pow2 f) → f + 1 ≤ 1023 → Bounded (x ⊕ y) (pow2 (f + 1))
@@ -71,7 +72,7 @@ module _ (p : ParticleDiffusion) (h : particleRefusal p ≡ 0) where
 
   content-bounded : (k : ℕ) → k ≤ p .«n_nodes» → Bounded (content (p .«n_nodes») (spacing p) (placeOf p) k) (pow2 (11 + k))
   unfolding content ofBits
-  content-bounded zero l = most-pow 11 (literal (f64 0) (2 ^ 11) 1 0 1 tt tt tt tt tt .0)
+  content-bounded zero l = most-pow 11 (literal «0·0» (2 ^ 11) 1 0 1 tt tt tt tt tt .0)
   content-bounded (suc k) l =
       let n = nodes-of p h .1 in
       let b = content-bounded k (omega arith) in
@@ -88,8 +89,8 @@ module _ (p : ParticleDiffusion) (h : particleRefusal p ≡ 0) where
       let c : Sized (content (p .«n_nodes») (spacing p) (placeOf p) (p .«n_nodes»)) (2 ^ 75) 1 = pow-sized 75 (record { fine = b .fine; size = within-weaken (b .size) (pow2-mono (11 + p .«n_nodes») 75 (omega arith)) }) in
       let r = sheet-ranges (p .params) (sheet-passed p h) .radius in
       let cube = mul-between (mul-between r r 1 (2 ^ 18) 1 (2 ^ 54) tt tt tt tt) r 1 (2 ^ 27) 1 (2 ^ 81) tt tt tt tt in
-      let three = literal (f64 0x4008_0000_0000_0000) 3 1 3 1 tt tt tt tt tt in
-      either (lt (shares (p .«n_nodes») (spacing p) (p .«n_nodes»)) (f64 0x39b4_484b_feeb_c2a0))
+      let three = literal «3·0» 3 1 3 1 tt tt tt tt tt in
+      either (lt (shares (p .«n_nodes») (spacing p) (p .«n_nodes»)) «1e-30»)
       (most-wider (place-sized p h 0 (le-trans (lit≤ tt) (n .0))) (2 ^ 149) 1 tt tt)
       (sized (div-most (mul-most (div-most (mul-most (three .0) c (2 ^ 77) 1 tt tt) cube (2 ^ 158) 1 tt tt tt) (spacing-range p h .0) (2 ^ 148) 1 tt tt) three (2 ^ 149) 1 tt tt tt))
 
@@ -106,7 +107,7 @@ module _ (p : ParticleDiffusion) (h : particleRefusal p ≡ 0) where
   pub stable-step-fine : (t : Float) → T (temperatureFits t) → T (finite (stableStep p (diffusivityAt (p .params) t)))
   unfolding stableStep ofBits
   stable-step-fine t k =
-      let half = literal (f64 0x3fe0_0000_0000_0000) 1 2 1 2 tt tt tt tt tt in
+      let half = literal «0·5» 1 2 1 2 tt tt tt tt tt in
       let d = spacing-range p h .0 in
       div-most (mul-most (mul-most (half .0) d 1 (2 ^ 11) tt tt) d 1 (2 ^ 21) tt tt) (diffusivity-range (p .params) t (sheet-passed p h) k) (2 ^ 76) 1 tt tt tt .fine
 

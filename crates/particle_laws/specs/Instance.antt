@@ -6,8 +6,9 @@ use lib.ListN.{length, getD}
 use lib.Ieee.{Float, nan, neg, le, lt, add, sub, mul, div, ofInt, fits, ofBits}
 use Rattle.fraction.specs.Fraction.{whole, nat, pow2, negF, _-F_, _*F_, _/F_, ∣_∣, _within_}
 use Rattle.fraction.specs.Order.{lit≤F}
-use Rattle.binary64.specs.Operators.{_⊖_, _⊗_, _⊘_, f64}
+use Rattle.binary64.specs.Operators.{_⊖_, _⊗_, _⊘_}
 use Rattle.binary64.specs.Value.{val}
+use Rattle.binary64.specs.Literals.{«0·0», «3·9e-14», «1·25e-6», «0·0001», «8·314», «298·15», «25290·4», «35000·0»}
 use Rattle.elementary.specs.Exp.{one, expOf}
 use Rattle.elementary.proofs.ExpLaws.{exp-0}
 use Rattle.refusal.specs.Numbers.{firstRefusal, refusalUnless}
@@ -35,41 +36,41 @@ start-passes = build-passes graphiteAnode 11 tt refl
 
 -- 298.15 K
 abbrev room : Float
-room = f64 0x4072_a266_6666_6666
+room = «298·15»
 
 -- -1e-4 mol/(m^2 s) for a second: 6·D·t is 2.3e-13, h² 1.6e-12; 2·h·∣flux∣ is 2.5e-10, D·M 1.2e-9
 abbrev pub draw : Call
-draw = record { flux = neg (f64 0x3f1a_36e2_eb1c_432d); dt = one; temp = room }
+draw = record { flux = neg «0·0001»; dt = one; temp = room }
 
 -- refused: a flux that is no number, and an interval of 0
 abbrev pub no-flux : Call
 no-flux = record { flux = nan; dt = one; temp = room }
 
 abbrev pub no-time : Call
-no-time = record { flux = neg (f64 0x3f1a_36e2_eb1c_432d); dt = f64 0; temp = room }
+no-time = record { flux = neg «0·0001»; dt = «0·0»; temp = room }
 
 abbrev pub discharge : List Call
 discharge = draw ∷ no-flux ∷ draw ∷ no-time ∷ draw ∷ []
 
 -- ---- the binary64 numbers
 -- 1.25e-6
-spacing-is : spacing start ≡ f64 0x3eb4_f8b5_88e3_68f1
+spacing-is : spacing start ≡ «1·25e-6»
 unfolding spacing made newRefusal fresh firstRefusal refusalUnless graphiteAnode le div ofInt ofBits
 spacing-is = refl
 
 -- at the reference temperature the exponent is 0, and E(0) = 1
-exponent-is : f64 0x40e1_1700_0000_0000 ⊘ f64 0x4020_a0c4_9ba5_e354 ⊗ (one ⊘ room ⊖ one ⊘ room) ≡ f64 0
+exponent-is : «35000·0» ⊘ «8·314» ⊗ (one ⊘ room ⊖ one ⊘ room) ≡ «0·0»
 unfolding sub mul div ofBits
 exponent-is = refl
 
-times-one : f64 0x3d25_f47e_09a9_f0ea ⊗ one ≡ f64 0x3d25_f47e_09a9_f0ea
+times-one : «3·9e-14» ⊗ one ≡ «3·9e-14»
 unfolding mul ofBits
 times-one = refl
 
 -- 3.9e-14
-diffusivity-is : diffusivityAt graphiteAnode room ≡ f64 0x3d25_f47e_09a9_f0ea
+diffusivity-is : diffusivityAt graphiteAnode room ≡ «3·9e-14»
 unfolding diffusivityAt graphiteAnode
-diffusivity-is = ap (λ (x : Float). f64 0x3d25_f47e_09a9_f0ea ⊗ expOf x) exponent-is ∙ ap (λ (x : Float). f64 0x3d25_f47e_09a9_f0ea ⊗ x) exp-0 ∙ times-one
+diffusivity-is = ap (λ (x : Float). «3·9e-14» ⊗ expOf x) exponent-is ∙ ap (λ (x : Float). «3·9e-14» ⊗ x) exp-0 ∙ times-one
 
 pub sheet-is : start .params ≡ graphiteAnode
 unfolding made newRefusal fresh firstRefusal refusalUnless graphiteAnode le ofBits
@@ -80,7 +81,7 @@ unfolding made newRefusal fresh firstRefusal refusalUnless graphiteAnode le ofBi
 nodes-are = refl
 
 -- ---- the premises
-closed-conditions : StepConditions (record { n = 11; h = val (f64 0x3eb4_f8b5_88e3_68f1); D = val (f64 0x3d25_f47e_09a9_f0ea); M = val (graphiteAnode .«c_s_max»); flux = val (draw .flux); t = val (draw .dt) })
+closed-conditions : StepConditions (record { n = 11; h = val «1·25e-6»; D = val «3·9e-14»; M = val (graphiteAnode .«c_s_max»); flux = val (draw .flux); t = val (draw .dt) })
 unfolding graphiteAnode val neg negF ofBits whole _*F_ ∣_∣
 closed-conditions = record { stable = lit≤F tt; fluxBound = lit≤F tt }
 
@@ -113,9 +114,9 @@ draw-fits = refl
 draw-passes : stepRefusal start (draw .flux) (draw .dt) (draw .temp) ≡ 0
 draw-passes = sym (step-number start (draw .flux) (draw .dt) (draw .temp)) ∙ answer-number start draw start-passes ∙ draw-fits
 
-closed-surface : getD (subStep (record { n = 11; dr = f64 0x3eb4_f8b5_88e3_68f1; d_s = f64 0x3d25_f47e_09a9_f0ea; c_max = graphiteAnode .«c_s_max»; j_n = draw .flux; dt = draw .dt }) (start .«c_s»)) 10 nan ≡ f64 0x40d8_b299_9999_999a
+closed-surface : getD (subStep (record { n = 11; dr = «1·25e-6»; d_s = «3·9e-14»; c_max = graphiteAnode .«c_s_max»; j_n = draw .flux; dt = draw .dt }) (start .«c_s»)) 10 nan ≡ «25290·4»
 unfolding made newRefusal fresh firstRefusal refusalUnless graphiteAnode filled firstBy subStep node rate le lt neg add sub mul div ofInt ofBits
 closed-surface = refl
 
-surface-drawn : placeOf (answer start draw .particle) 10 ≡ f64 0x40d8_b299_9999_999a
+surface-drawn : placeOf (answer start draw .particle) 10 ≡ «25290·4»
 surface-drawn = rw (step-moved start (draw .flux) (draw .dt) (draw .temp) draw-passes, sheet-is, diffusivity-is, spacing-is, nodes-are) closed-surface

@@ -11,12 +11,13 @@ use lib.Ieee.Fits.{and-i}
 use lib.Ieee.Scale.{finite}
 use Rattle.fraction.specs.Field.{≤F-trans, ≤F-of-≈F, le-of-lt}
 use Rattle.fraction.specs.Size.{size-pos}
-use Rattle.binary64.specs.Operators.{_⊕_, _⊗_, f64, count}
+use Rattle.binary64.specs.Operators.{_⊕_, _⊗_, count}
 use Rattle.binary64.specs.Range.{Within, Sized, sized, most-wider}
 use Rattle.binary64.specs.RangeTests.{literal, count-within}
 use Rattle.binary64.specs.RangeOps.{mul-between, mul-most, div-most, add-most, sub-most}
 use Rattle.binary64.specs.Bounds.{within-scaled}
 use Rattle.binary64.specs.Value.{val, val-le}
+use Rattle.binary64.specs.Literals.{«0·0»}
 use Rattle.min_max.proofs.ChoiceLaws.{clamp-in}
 use Rattle.refusal.specs.Ranges.{inRange}
 use Rattle.diffusion.specs.SubStep.{SubStepParams, two, six, centreRate, shellRate, ghostNode, rate, node}
@@ -83,11 +84,11 @@ module _ (v : SubStepParams) (r : Ranged v) (c : ℕ → Float) (nodes : (i : �
           positive i h = omega arith
 
   -- EVERY NODE: finite before the clamp, so from 0 to c_max after it, by the tests of binary64
-  pub node-in : (i : ℕ) → i < v .n → T (inRange (node v c i) (f64 0) (v .c_max))
+  pub node-in : (i : ℕ) → i < v .n → T (inRange (node v c i) «0·0» (v .c_max))
   unfolding node
   node-in i l =
       let y = add-most (place-sized i l) (mul-most (r .dt) (rate-sized i l) (2 ^ 297) 1 tt tt) (2 ^ 298) 1 tt tt in
       let s = within-scaled (r .c_max) 0 17 tt tt in
-      let o = val-le (f64 0) (v .c_max) zero-fine (s .fine) (≤F-trans (≤F-of-≈F zero-val) (le-of-lt (size-pos (s .size)))) in
-      let k = clamp-in (c i ⊕ v .dt ⊗ rate v c i) (f64 0) (v .c_max) (number (c i ⊕ v .dt ⊗ rate v c i) (y .fine)) (number (f64 0) zero-fine) (number (v .c_max) (s .fine)) o in
-      and-i (le (f64 0) (node v c i)) (le (node v c i) (v .c_max)) (k .low) (k .high)
+      let o = val-le «0·0» (v .c_max) zero-fine (s .fine) (≤F-trans (≤F-of-≈F zero-val) (le-of-lt (size-pos (s .size)))) in
+      let k = clamp-in (c i ⊕ v .dt ⊗ rate v c i) «0·0» (v .c_max) (number (c i ⊕ v .dt ⊗ rate v c i) (y .fine)) (number «0·0» zero-fine) (number (v .c_max) (s .fine)) o in
+      and-i (le «0·0» (node v c i)) (le (node v c i) (v .c_max)) (k .low) (k .high)

@@ -12,12 +12,12 @@ use lib.Ieee.Fits.{and-l, and-r}
 use lib.Ieee.Positive.{num, den, positive}
 use Rattle.fraction.specs.Fraction.{nat, _≤F_}
 use Rattle.fraction.specs.Field.{≈F-sym, ≤F-of-≈F, ≤F-trans, le-of-lt}
-use Rattle.binary64.specs.Operators.{f64}
 use Rattle.binary64.specs.Range.{Within, Sized, most-wider, least-wider}
 use Rattle.binary64.specs.RangeTests.{tested-within, tested-sized, count-within}
 use Rattle.binary64.specs.RangeOps.{mul-between, div-between}
 use Rattle.binary64.specs.Bounds.{within-scaled}
 use Rattle.binary64.specs.Value.{val, lt-val}
+use Rattle.binary64.specs.Literals.{«0·0», «1e-20», «1e-16», «1e-8», «1e-7», «1e-6», «0·001», «0·01», «1·0», «200·0», «400·0», «10000·0», «86400·0», «100000·0», «131072·0», «1e13»}
 use Rattle.elementary.specs.Exp.{one}
 use Rattle.elementary.proofs.ArrheniusRange.{arrhenius-298}
 use Rattle.min_max.proofs.ChoiceLaws.{lt-le}
@@ -69,15 +69,15 @@ rest (Each.more p ps) = ps
 -- `sheetFits` by its rows
 abbrev rows : ElectrodeParams → List Row
 rows s =
-    row (f64 0x3e45_798e_e230_8c3a) (s .«r_particle») (f64 0x3f50_624d_d2f1_a9fc)
-    ∷ row (f64 0x3bc7_9ca1_0c92_4223) (s .«d_s_ref») (f64 0x3e45_798e_e230_8c3a)
-    ∷ row (f64 0x3ff0_0000_0000_0000) (s .«c_s_max») (f64 0x4100_0000_0000_0000)
-    ∷ row (f64 0) (s .«theta_init») (f64 0x3ff0_0000_0000_0000)
-    ∷ row (f64 0x3e7a_d7f2_9abc_af48) (s .thickness) (f64 0x3f84_7ae1_47ae_147b)
-    ∷ row (f64 0x3f84_7ae1_47ae_147b) (s .«epsilon_s») (f64 0x3ff0_0000_0000_0000)
-    ∷ row (f64 0x3eb0_c6f7_a0b5_ed8d) (s .area) (f64 0x40c3_8800_0000_0000)
-    ∷ row (f64 0) (s .«e_a_ds») (f64 0x40f8_6a00_0000_0000)
-    ∷ row (f64 0x3c9c_d2b2_97d8_89bc) (s .«k_bv») (f64 0x3ff0_0000_0000_0000)
+    row «1e-8» (s .«r_particle») «0·001»
+    ∷ row «1e-20» (s .«d_s_ref») «1e-8»
+    ∷ row «1·0» (s .«c_s_max») «131072·0»
+    ∷ row «0·0» (s .«theta_init») «1·0»
+    ∷ row «1e-7» (s .thickness) «0·01»
+    ∷ row «0·01» (s .«epsilon_s») «1·0»
+    ∷ row «1e-6» (s .area) «10000·0»
+    ∷ row «0·0» (s .«e_a_ds») «100000·0»
+    ∷ row «1e-16» (s .«k_bv») «1·0»
     ∷ []
 
 -- each number of a sheet that fits, between powers of 2
@@ -85,7 +85,7 @@ pub record SheetRanges (s : ElectrodeParams) : Type 0 where
   pub radius : Within (s .«r_particle») 1 (2 ^ 9) 1 (2 ^ 27)
   pub reference : Within (s .«d_s_ref») 1 (2 ^ 26) 1 (2 ^ 67)
   pub most : Within (s .«c_s_max») (2 ^ 17) 1 1 1
-  pub initial-low : T (le (f64 0) (s .«theta_init»))
+  pub initial-low : T (le «0·0» (s .«theta_init»))
   pub initial-high : T (le (s .«theta_init») one)
   pub thick : Within (s .thickness) 1 (2 ^ 6) 1 (2 ^ 24)
   pub solid : Within (s .«epsilon_s») 1 1 1 (2 ^ 7)
@@ -125,14 +125,14 @@ sheet-ranges s t =
       thick = wider (within (first e) tt tt) 1 (2 ^ 6) 1 (2 ^ 24) tt tt tt tt;
       solid = wider (within (first f) tt tt) 1 1 1 (2 ^ 7) tt tt tt tt;
       plate = wider (within (first g) tt tt) (2 ^ 14) 1 1 (2 ^ 20) tt tt tt tt;
-      activation = most-wider (tested-sized (f64 0) (s .«e_a_ds») (f64 0x40f8_6a00_0000_0000) tt tt tt (first h .above) (first h .below)) 100000 1 tt tt;
+      activation = most-wider (tested-sized «0·0» (s .«e_a_ds») «100000·0» tt tt tt (first h .above) (first h .below)) 100000 1 tt tt;
       reaction = wider (within (first i) tt tt) 1 1 1 (2 ^ 54) tt tt tt tt;
     }
 
 -- ---- the diffusivity, from 200 to 400 K
 temperature-range : (t : Float) → T (temperatureFits t) → Within t 400 1 200 1
 unfolding ofBits
-temperature-range t h = wider (tested-within (f64 0x4069_0000_0000_0000) t (f64 0x4079_0000_0000_0000) tt tt (and-l (le (f64 0x4069_0000_0000_0000) t) (le t (f64 0x4079_0000_0000_0000)) h) (and-r (le (f64 0x4069_0000_0000_0000) t) (le t (f64 0x4079_0000_0000_0000)) h)) 400 1 200 1 tt tt tt tt
+temperature-range t h = wider (tested-within «200·0» t «400·0» tt tt (and-l (le «200·0» t) (le t «400·0») h) (and-r (le «200·0» t) (le t «400·0») h)) 400 1 200 1 tt tt tt tt
 
 -- from 2 ^ -97 to 2 ^ 4
 pub diffusivity-range : (s : ElectrodeParams) (t : Float) → T (sheetFits s) → T (temperatureFits t) → Within (diffusivityAt s t) (2 ^ 4) 1 1 (2 ^ 97)
@@ -189,19 +189,19 @@ module _ (p : ParticleDiffusion) (h : particleRefusal p ≡ 0) where
   particle-ranged d j t l = record { n-low = nodes-of p h .0; n-high = nodes-of p h .1; dr = spacing-range; d_s = d; c_max = sheet-ranges (p .params) sheet-passed .most; j_n = j; dt = t; dt-low = l }
 
 -- ---- the calls' own numbers
-pub load-range : (j : Float) → T (loadFits j (f64 0x42a2_309c_e540_0000)) → Sized j (2 ^ 100) 1
+pub load-range : (j : Float) → T (loadFits j «1e13») → Sized j (2 ^ 100) 1
 unfolding ofBits neg
 load-range j t =
-    let hi = f64 0x42a2_309c_e540_0000 in
+    let hi = «1e13» in
     most-wider (tested-sized (neg hi) j hi tt tt tt (and-l (le (neg hi) j) (le j hi) t) (and-r (le (neg hi) j) (le j hi) t)) (2 ^ 100) 1 tt tt
 
 pub interval-range : (dt : Float) → T (intervalFits dt) → Sized dt (2 ^ 17) 1 × (nat 0 ≤F val dt)
 unfolding ofBits
 interval-range dt t =
-    let hi = f64 0x40f5_1800_0000_0000 in
-    let a = and-l (lt (f64 0) dt) (le dt hi) t in
-    let s = tested-sized (f64 0) dt hi tt tt tt (lt-le (f64 0) dt (is-true (lt (f64 0) dt) a)) (and-r (lt (f64 0) dt) (le dt hi) t) in
-    (most-wider s (2 ^ 17) 1 tt tt, ≤F-trans (≤F-of-≈F (≈F-sym zero-val)) (le-of-lt (lt-val (f64 0) dt tt (s .fine) a)))
+    let hi = «86400·0» in
+    let a = and-l (lt «0·0» dt) (le dt hi) t in
+    let s = tested-sized «0·0» dt hi tt tt tt (lt-le «0·0» dt (is-true (lt «0·0» dt) a)) (and-r (lt «0·0» dt) (le dt hi) t) in
+    (most-wider s (2 ^ 17) 1 tt tt, ≤F-trans (≤F-of-≈F (≈F-sym zero-val)) (le-of-lt (lt-val «0·0» dt tt (s .fine) a)))
 
 -- so is a step that nothing refuses before it is made
 pub step-ranged : (p : ParticleDiffusion) (j dt t : Float) → stepRefusal p j dt t ≡ 0 → Ranged (subStepParamsOf p (diffusivityAt (p .params) t) j dt)
@@ -212,4 +212,4 @@ step-ranged p j dt t h =
     let c = neither-refused _ _ (b .1) in
     let i = interval-range dt (passed (intervalFits dt) interval (zero-lt-suc 3) (c .0)) in
     particle-ranged p (a .0) (diffusivity-range (p .params) t (sheet-passed p (a .0)) (passed (temperatureFits t) temperature (zero-lt-suc 4) (c .1)))
-    (load-range j (passed (loadFits j (f64 0x42a2_309c_e540_0000)) load (zero-lt-suc 2) (b .0))) (i .0) (i .1)
+    (load-range j (passed (loadFits j «1e13») load (zero-lt-suc 2) (b .0))) (i .0) (i .1)

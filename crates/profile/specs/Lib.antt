@@ -6,4 +6,3 @@
 pub mod Places
 pub mod Weights
 pub mod Sums
-pub mod Literals

@@ -4,7 +4,8 @@ use mathlib.Core.Path.{_≡_, refl, ap}
 use mathlib.Core.List.{List}
 use lib.ListN.{getD}
 use lib.Ieee.{Float, nan}
-use Rattle.binary64.specs.Operators.{_⊕_, _⊗_, f64}
+use Rattle.binary64.specs.Operators.{_⊕_, _⊗_}
+use Rattle.binary64.specs.Literals.{«0·0»}
 use Rattle.profile.specs.Weights.{weight, shareBy, shares, content}
 use Rattle.profile.specs.declared.Sums.{Sums}
 
@@ -19,7 +20,7 @@ abbrev pub addedTo : Sums → ℕ → Float → ℕ → Float → Sums
 addedTo s n dr i c = addedBy s (weight n i) dr i c
 
 unfoldable pub sumsAfter : List Float → ℕ → Float → ℕ → Sums
-sumsAfter c n dr zero = bothSums (f64 0) (f64 0)
+sumsAfter c n dr zero = bothSums «0·0» «0·0»
 sumsAfter c n dr (suc k) = addedTo (sumsAfter c n dr k) n dr k (getD c k nan)
 
 pub sums-are : (c : List Float) (n : ℕ) (dr : Float) (k : ℕ) → sumsAfter c n dr k ≡ bothSums (shares n dr k) (content n dr (λ i. getD c i nan) k)

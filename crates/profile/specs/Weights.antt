@@ -7,6 +7,7 @@ use lib.Dec.{eqb}
 use lib.ListN.{getD}
 use lib.Ieee.{Float, nan}
 use Rattle.binary64.specs.Operators.{_⊕_, _⊗_, f64, count}
+use Rattle.binary64.specs.Literals.{«0·0», «1·0»}
 
 -- the weight of an inner place: 2 at an even one, 4 at an odd one
 unfoldable pub innerWeight : ℕ → Float
@@ -18,7 +19,7 @@ AreInnerWeights l = (i : ℕ) → i < 64 → getD l i nan ≡ innerWeight i
 
 -- 1 at both ends
 unfoldable pub weight : ℕ → ℕ → Float
-weight n i = cond (eqb i 0 || eqb i (n - 1)) (f64 0x3ff0_0000_0000_0000) (innerWeight i)
+weight n i = cond (eqb i 0 || eqb i (n - 1)) «1·0» (innerWeight i)
 
 -- w * r * r, r = i * dr
 abbrev pub shareBy : Float → Float → ℕ → Float
@@ -29,9 +30,9 @@ share n dr i = shareBy (weight n i) dr i
 
 -- the sums after k places: of the shares, and of the shares with the concentrations
 unfoldable pub shares : ℕ → Float → ℕ → Float
-shares n dr zero = f64 0
+shares n dr zero = «0·0»
 shares n dr (suc k) = shares n dr k ⊕ share n dr k
 
 unfoldable pub content : ℕ → Float → (ℕ → Float) → ℕ → Float
-content n dr c zero = f64 0
+content n dr c zero = «0·0»
 content n dr c (suc k) = content n dr c k ⊕ share n dr k ⊗ c k

@@ -11,4 +11,3 @@
 pub mod Numbers
 pub mod Ranges
 pub mod Answers
-pub mod Literals

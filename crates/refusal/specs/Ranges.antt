@@ -4,7 +4,7 @@ use mathlib.Core.Bool.{Bool, _&&_}
 use lib.Dec.{leb, eqb}
 use lib.Ieee.{Float, binary64, le, lt, neg, toBits}
 use lib.Ieee.Scale as Scale
-use Rattle.binary64.specs.Operators.{f64}
+use Rattle.binary64.specs.Literals.{«0·0», «200·0», «400·0», «86400·0»}
 
 -- low <= x <= high: a closed range, so -0 is in one that starts at 0
 abbrev pub inRange : Float → Float → Float → Bool
@@ -27,12 +27,12 @@ loadFits x most = inRange x (neg most) most
 
 -- above 0, at most 86,400 s
 abbrev pub intervalFits : Float → Bool
-intervalFits dt = lt (f64 0) dt && le dt (f64 0x40f5_1800_0000_0000)
+intervalFits dt = lt «0·0» dt && le dt «86400·0»
 
 -- 200 to 400 K
 abbrev pub temperatureFits : Float → Bool
-temperatureFits t = inRange t (f64 0x4069_0000_0000_0000) (f64 0x4079_0000_0000_0000)
+temperatureFits t = inRange t «200·0» «400·0»
 
 -- finite and not below 0
 abbrev pub clockFits : Float → Bool
-clockFits t = finite t && le (f64 0) t
+clockFits t = finite t && le «0·0» t

@@ -7,7 +7,8 @@ use native.Mathlib.Nat.{zero-lt-suc}
 use lib.Dec.{T, eqb, leb, leb→le, eqb→eq}
 use lib.Ieee.{Float}
 use lib.Ieee.Fits.{and-l, and-r}
-use Rattle.binary64.specs.Operators.{_⊖_, _⊘_, f64}
+use Rattle.binary64.specs.Operators.{_⊖_, _⊘_}
+use Rattle.binary64.specs.Literals.{«0·0», «0·2», «0·8», «1·0»}
 use Rattle.min_max.specs.MinMax.{clampOf}
 use Rattle.refusal.specs.Numbers.{firstRefusal, refusalUnless, grid, sheet, neither-refused, passed}
 use Rattle.refusal.specs.Ranges.{clockFits}
@@ -47,14 +48,14 @@ buildRefusal g a c =
 
 -- both particles fresh, the clock at +0
 unfoldable pub freshSolver : SpmConfig → ElectrodeParams → ElectrodeParams → SpmSolver
-freshSolver g a c = record { config = g; anode = fresh a (g .«n_nodes»); cathode = fresh c (g .«n_nodes»); «time_s» = f64 0 }
+freshSolver g a c = record { config = g; anode = fresh a (g .«n_nodes»); cathode = fresh c (g .«n_nodes»); «time_s» = «0·0» }
 
 abbrev noConfig : SpmConfig
-noConfig = record { «n_nodes» = 0; «v_min» = f64 0; «v_max» = f64 0; faraday = f64 0; «r_gas» = f64 0; «r_electrolyte_ohm_m2» = f64 0 }
+noConfig = record { «n_nodes» = 0; «v_min» = «0·0»; «v_max» = «0·0»; faraday = «0·0»; «r_gas» = «0·0»; «r_electrolyte_ohm_m2» = «0·0» }
 
 -- beside a refused build
 unfoldable pub noSolver : SpmSolver
-noSolver = record { config = noConfig; anode = noParticle; cathode = noParticle; «time_s» = f64 0 }
+noSolver = record { config = noConfig; anode = noParticle; cathode = noParticle; «time_s» = «0·0» }
 
 unfoldable pub built : SpmConfig → ElectrodeParams → ElectrodeParams → SpmBuildAnswer
 built g a c = cond (eqb (buildRefusal g a c) 0) (solverAnswer 0 (freshSolver g a c)) (solverAnswer (buildRefusal g a c) noSolver)
@@ -70,7 +71,7 @@ openCircuitVoltage s = surfacePotential (s .cathode) ⊖ surfacePotential (s .an
 
 -- (theta - 0.20) / (0.80 - 0.20), clamped to 0 to 1, by the anode's average
 unfoldable pub stateOfCharge : SpmSolver → Float
-stateOfCharge s = clampOf ((averageTheta (s .anode) ⊖ f64 0x3fc9_9999_9999_999a) ⊘ (f64 0x3fe9_9999_9999_999a ⊖ f64 0x3fc9_9999_9999_999a)) (f64 0) (f64 0x3ff0_0000_0000_0000)
+stateOfCharge s = clampOf ((averageTheta (s .anode) ⊖ «0·2») ⊘ («0·8» ⊖ «0·2»)) «0·0» «1·0»
 
 unfoldable pub ocvCall : SpmSolver → Outcome
 ocvCall s = finiteOutcome (cellRefusal s) (openCircuitVoltage s)

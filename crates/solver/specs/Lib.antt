@@ -6,4 +6,3 @@
 pub mod Cell
 pub mod Step
 pub mod Parts
-pub mod Literals

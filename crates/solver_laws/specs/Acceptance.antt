@@ -23,6 +23,7 @@ use Rattle.binary64.specs.Bounds.{within-scaled}
 use Rattle.binary64.specs.OrderLaws.{rounds-le}
 use Rattle.binary64.specs.Rounds.{representable, mul-rounds, sub-rounds}
 use Rattle.binary64.specs.Value.{val, le-val}
+use Rattle.binary64.specs.Literals.{«0·0», «1e-30», «0·00390625», «0·01», «0·015625», «0·125», «0·99», «2·0», «200·0», «400·0», «1000·0», «262144·0», «8·388608e6»}
 use Rattle.square_root.specs.Root.{sqrtOf, rounded, wholeRoot, rootBelow}
 use Rattle.square_root.proofs.Range.{sqrt-within}
 use Rattle.min_max.specs.MinMax.{clampOf, signumOf}
@@ -51,14 +52,14 @@ use Rattle.solver_laws.specs.Closure.{next, electrode-next, accepted-whe
 -- ---- the exchange of a particle that passes: from 2 ^ -57 to 2 ^ 23
 -- 0.01 and 0.99
 abbrev low : Float
-low = f64 0x3f84_7ae1_47ae_147b
+low = «0·01»
 
 abbrev high : Float
-high = f64 0x3fef_ae14_7ae1_47ae
+high = «0·99»
 
 -- 2 ^ -8
 abbrev least : Float
-least = f64 0x3f70_0000_0000_0000
+least = «0·00390625»
 
 high-most : nat 128 *F val high ≤F nat 127
 unfolding ofBits val whole _*F_
@@ -88,16 +89,16 @@ unfolding ofBits le
 ends = record { low-fine = tt; high-fine = tt; order = tt; one-fine = tt; least-fine = tt }
 
 -- 2 ^ -6 and 2 ^ 46
-root-ends : (sqrtOf (f64 0x3f90_0000_0000_0000) ≡ f64 0x3fc0_0000_0000_0000) × (sqrtOf (f64 0x42d0_0000_0000_0000) ≡ f64 0x4160_0000_0000_0000)
+root-ends : (sqrtOf «0·015625» ≡ «0·125») × (sqrtOf (f64 0x42d0_0000_0000_0000) ≡ «8·388608e6»)
 unfolding sqrtOf rounded wholeRoot rootBelow round size ofBits
 root-ends = (refl, refl)
 
 root-within : (z : Float) → T (fits binary64 z) → Within z (2 ^ 46) 1 1 (2 ^ 6) → Within (sqrtOf z) (2 ^ 23) 1 1 (2 ^ 3)
 unfolding ofBits
 root-within z f w =
-    let bottom = f64 0x3f90_0000_0000_0000 in
+    let bottom = «0·015625» in
     let top = f64 0x42d0_0000_0000_0000 in
-    sqrt-within bottom top (f64 0x3fc0_0000_0000_0000) (f64 0x4160_0000_0000_0000) (ofBits-fits binary64 0x3f90_0000_0000_0000) (ofBits-fits binary64 0x42d0_0000_0000_0000)
+    sqrt-within bottom top «0·125» «8·388608e6» (ofBits-fits binary64 0x3f90_0000_0000_0000) (ofBits-fits binary64 0x42d0_0000_0000_0000)
     tt tt tt tt (root-ends .0) (root-ends .1) z f (within-ge w bottom tt tt tt) (most-le (w .0) top tt tt)
 
 module _ (p : ParticleDiffusion) (h : particleRefusal p ≡ 0) where
@@ -144,15 +145,15 @@ module _ (p : ParticleDiffusion) (h : particleRefusal p ≡ 0) where
   gap-range : Within (M ⊖ c) (2 ^ 18) 1 1 (2 ^ 8)
   unfolding ofBits
   gap-range =
-      let most = f64 0x4110_0000_0000_0000 in
+      let most = «262144·0» in
       wider (tested-within least (M ⊖ c) most tt tt gap-least (most-le (sub-most (most-range .0) (surface-range .0) (2 ^ 18) 1 tt tt) most tt tt)) (2 ^ 18) 1 1 (2 ^ 8) tt tt tt tt
 
   exchange-range : Within (exchange p) (2 ^ 23) 1 1 (2 ^ 57)
   unfolding exchange ofBits
   exchange-range =
-      let thousand = literal (f64 0x408f_4000_0000_0000) (2 ^ 10) 1 (2 ^ 9) 1 tt tt tt tt tt in
+      let thousand = literal «1000·0» (2 ^ 10) 1 (2 ^ 9) 1 tt tt tt tt tt in
       let z = mul-between (mul-between surface-range gap-range (2 ^ 35) 1 1 (2 ^ 15) tt tt tt tt) thousand (2 ^ 46) 1 1 (2 ^ 6) tt tt tt tt in
-      let root = root-within (c ⊗ (M ⊖ c) ⊗ f64 0x408f_4000_0000_0000) (mul-fits binary64 (c ⊗ (M ⊖ c)) (f64 0x408f_4000_0000_0000)) z in
+      let root = root-within (c ⊗ (M ⊖ c) ⊗ «1000·0») (mul-fits binary64 (c ⊗ (M ⊖ c)) «1000·0») z in
       mul-between (sheet-ranges (p .params) (sheet-passed p h) .reaction) root (2 ^ 23) 1 1 (2 ^ 57) tt tt tt tt
 
   potential-sized : Sized (surfacePotential p) (2 ^ 150) 1
@@ -164,13 +165,13 @@ module _ (p : ParticleDiffusion) (h : particleRefusal p ≡ 0) where
   unfolding overpotential ofBits
   overpotential-sized g j t k m f =
       let r = config-ranges g k in
-      let two = literal (f64 0x4000_0000_0000_0000) 2 1 2 1 tt tt tt tt tt in
-      let cool = f64 0x4069_0000_0000_0000 in
-      let hot = f64 0x4079_0000_0000_0000 in
+      let two = literal «2·0» 2 1 2 1 tt tt tt tt tt in
+      let cool = «200·0» in
+      let hot = «400·0» in
       let warm = tested-sized cool t hot tt tt tt (and-l (le cool t) (le t hot) f) (and-r (le cool t) (le t hot) f) in
       let ratio = most-wider (sized (div-most m (mul-between two exchange-range (2 ^ 24) 1 1 (2 ^ 56) tt tt tt tt) (2 ^ 156) 1 tt tt tt)) (2 ^ 499) 1 tt tt in
       let scale = div-most (mul-most (mul-most (two .0) (r .gas .0) 18 1 tt tt) warm (2 ^ 13) 1 tt tt) (r .faraday) 1 1 tt tt tt in
-      either (lt (exchange p) (f64 0x39b4_484b_feeb_c2a0)) (literal (f64 0) (2 ^ 10) 1 0 1 tt tt tt tt tt .0) (sized (mul-most scale (asinh-finite ratio) (2 ^ 10) 1 tt tt))
+      either (lt (exchange p) «1e-30») (literal «0·0» (2 ^ 10) 1 0 1 tt tt tt tt tt .0) (sized (mul-most scale (asinh-finite ratio) (2 ^ 10) 1 tt tt))
 
 -- ---- the voltage
 signum-sized : (i : Float) → T (finite i) → Sized (signumOf i) 1 1

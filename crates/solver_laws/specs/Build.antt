@@ -9,7 +9,6 @@ use lib.Dec.{T, eqb, leb, eqb·suc-zero}
 use lib.Ieee.{binary64, fits, le, ofBits}
 use lib.Ieee.Bits.{is-true}
 use lib.Ieee.Fits.{and-i, and-l, and-r}
-use Rattle.binary64.specs.Operators.{f64}
 use Rattle.refusal.specs.Numbers.{firstRefusal, refusalUnless, grid, sheet, neither-refused, passed}
 use Rattle.refusal.specs.Ranges.{clockFits}
 use Rattle.electrode.specs.declared.ElectrodeParams.{ElectrodeParams}
@@ -23,12 +22,13 @@ use Rattle.kinetics.specs.Kinetics.{configFits}
 use Rattle.solver.specs.declared.SpmSolver.{SpmSolver}
 use Rattle.solver.specs.declared.SpmBuildAnswer.{SpmBuildAnswer}
 use Rattle.solver.specs.Cell.{gridFits, cellFits, cellRefusal, solverAnswer, buildRefusal, freshSolver, noSolver, built}
+use Rattle.binary64.specs.Literals.{«0·0»}
 
 pub cell-passes : (s : SpmSolver) → T (gridFits s) → T (cellFits s) → cellRefusal s ≡ 0
 unfolding cellRefusal firstRefusal refusalUnless
 cell-passes s g c = rw (is-true (gridFits s) g, is-true (cellFits s) c)
 
-zero-clock : T (clockFits (f64 0))
+zero-clock : T (clockFits «0·0»)
 unfolding le ofBits
 zero-clock = tt
 
@@ -60,7 +60,7 @@ module _ (g : SpmConfig) (a c : ElectrodeParams) where
       let x = fresh a (g .«n_nodes») in
       let y = fresh c (g .«n_nodes») in
       cell-passes (freshSolver g a c) (fresh-grid k)
-      (and-i (configFits g && fieldsFit x && fieldsFit y) (clockFits (f64 0))
+      (and-i (configFits g && fieldsFit x && fieldsFit y) (clockFits «0·0»)
       (and-i (configFits g && fieldsFit x) (fieldsFit y)
       (and-i (configFits g) (fieldsFit x) (and-l (configFits g) (sheetFits a) u) (fields-of x (fresh-passes a (g .«n_nodes») m k (and-r (configFits g) (sheetFits a) u))))
       (fields-of y (fresh-passes c (g .«n_nodes») n k (and-r (configFits g && sheetFits a) (sheetFits c) t)))) zero-clock)

@@ -17,6 +17,7 @@ use Rattle.binary64.specs.Order.{between-finite}
 use Rattle.binary64.specs.OrderLaws.{add-le}
 use Rattle.binary64.specs.Range.{Sized}
 use Rattle.binary64.specs.RangeTests.{most-le}
+use Rattle.binary64.specs.Literals.{«0·0», «86400·0»}
 use Rattle.min_max.proofs.ChoiceLaws.{lt-le}
 use Rattle.refusal.specs.Numbers.{firstRefusal, neither-refused}
 use Rattle.solver.specs.declared.SpmSolver.{SpmSolver}
@@ -85,17 +86,17 @@ abbrev top : Float
 top = f64 0x7fef_ffff_ffff_ffff
 
 abbrev day : Float
-day = f64 0x40f5_1800_0000_0000
+day = «86400·0»
 
 below-top : (x : Float) → T (finite x) → T (fits binary64 x) → T (le x top)
 unfolding ofBits
 below-top x f t = most-le (all-most x f t) top tt tt
 
 record Sums : Type 0 where
-  zero-fine : T (finite (f64 0))
+  zero-fine : T (finite «0·0»)
   day-fine : T (finite day)
   top-fine : T (finite top)
-  low-fine : T (finite (f64 0 ⊕ f64 0))
+  low-fine : T (finite («0·0» ⊕ «0·0»))
   high-fine : T (finite (top ⊕ day))
 
 sums : Sums
@@ -129,13 +130,13 @@ module _ (s : SpmSolver) (i dt t : Float) (f : T (fits binary64 (s .«time_s»))
   clock-stays h =
       let c = s .«time_s» in
       let k = clock-passed s (cell-passed s i dt t h) in
-      let a = and-l (finite c) (le (f64 0) c) k in
+      let a = and-l (finite c) (le «0·0» c) k in
       let d = interval-size s i dt t h .0 .fine in
       let l = interval-fits s i dt t h in
-      between-finite (f64 0 ⊕ f64 0) (c ⊕ dt) (top ⊕ day) (sums .low-fine) (sums .high-fine)
-      (add-le (f64 0) c (f64 0) dt (sums .zero-fine) a (sums .zero-fine) d (and-r (finite c) (le (f64 0) c) k)
-      (lt-le (f64 0) dt (is-true (lt (f64 0) dt) (and-l (lt (f64 0) dt) (le dt day) l))))
-      (add-le c top dt day a (sums .top-fine) d (sums .day-fine) (below-top c a f) (and-r (lt (f64 0) dt) (le dt day) l))
+      between-finite («0·0» ⊕ «0·0») (c ⊕ dt) (top ⊕ day) (sums .low-fine) (sums .high-fine)
+      (add-le «0·0» c «0·0» dt (sums .zero-fine) a (sums .zero-fine) d (and-r (finite c) (le «0·0» c) k)
+      (lt-le «0·0» dt (is-true (lt «0·0» dt) (and-l (lt «0·0» dt) (le dt day) l))))
+      (add-le c top dt day a (sums .top-fine) d (sums .day-fine) (below-top c a f) (and-r (lt «0·0» dt) (le dt day) l))
 
   -- THE NUMBER OF A STEP is settled by its input and its plan: 8 never comes. The clock is a number of binary64, as each f64 of a program is.
   pub step-number : stepped s i dt t .refusal ≡ firstRefusal (inputRefusal s i dt t) (planRefusal (planOf s i dt t))

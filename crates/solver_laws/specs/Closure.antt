@@ -11,10 +11,11 @@ use lib.Ieee.Fits.{and-l, and-r, and-i}
 use lib.ListN.{getD}
 use Rattle.fraction.specs.Field.{≈F-sym, ≤F-of-≈F, ≤F-trans}
 use Rattle.fraction.specs.Certificate.{quote, le-by, _⊞_}
-use Rattle.binary64.specs.Operators.{_⊕_, _⊘_, f64, count}
+use Rattle.binary64.specs.Operators.{_⊕_, _⊘_, count}
 use Rattle.binary64.specs.OrderLaws.{rounds-nonneg}
 use Rattle.binary64.specs.Rounds.{add-rounds}
 use Rattle.binary64.specs.Value.{val, le-val, val-le}
+use Rattle.binary64.specs.Literals.{«0·0»}
 use Rattle.refusal.specs.Numbers.{firstRefusal, refusalUnless, notFinite}
 use Rattle.refusal.specs.Ranges.{finite, clockFits}
 use Rattle.iterate.specs.Iterate.{times}
@@ -86,11 +87,11 @@ module _ (s : SpmSolver) (i dt t : Float) where
   clock-next : inputRefusal s i dt t ≡ 0 → T (finite (s .«time_s» ⊕ dt)) → T (clockFits (s .«time_s» ⊕ dt))
   clock-next h f =
       let k = clock-passed s (cell-passed s i dt t h) in
-      let a = and-l (finite (s .«time_s»)) (le (f64 0) (s .«time_s»)) k in
-      let b = ≤F-trans (≤F-of-≈F (≈F-sym zero-val)) (le-val (f64 0) (s .«time_s») zero-fine a (and-r (finite (s .«time_s»)) (le (f64 0) (s .«time_s»)) k)) in
+      let a = and-l (finite (s .«time_s»)) (le «0·0» (s .«time_s»)) k in
+      let b = ≤F-trans (≤F-of-≈F (≈F-sym zero-val)) (le-val «0·0» (s .«time_s») zero-fine a (and-r (finite (s .«time_s»)) (le «0·0» (s .«time_s»)) k)) in
       let d = interval-size s i dt t h in
       let n = rounds-nonneg (add-rounds (s .«time_s») dt a (d .0 .fine)) f (le-by (val (s .«time_s») ∷ val dt ∷ []) 0 (b ⊞ d .1) (search quote depth 24) tt) in
-      and-i (finite (s .«time_s» ⊕ dt)) (le (f64 0) (s .«time_s» ⊕ dt)) f (val-le (f64 0) (s .«time_s» ⊕ dt) zero-fine f (≤F-trans (≤F-of-≈F zero-val) n))
+      and-i (finite (s .«time_s» ⊕ dt)) (le «0·0» (s .«time_s» ⊕ dt)) f (val-le «0·0» (s .«time_s» ⊕ dt) zero-fine f (≤F-trans (≤F-of-≈F zero-val) n))
 
   clock-finite : T (finiteStep next report) → T (finite (s .«time_s» ⊕ dt))
   unfolding reported advanced

@@ -12,7 +12,7 @@ use lib.Ieee.Fits.{and-l, and-r, and-i, down-pos}
 use lib.Ieee.Positive.{num, den}
 use Rattle.fraction.specs.Fraction.{nat, _≤F_, _<F_}
 use Rattle.fraction.specs.Size.{size-pos}
-use Rattle.binary64.specs.Operators.{_⊘_, f64, count, negative}
+use Rattle.binary64.specs.Operators.{_⊘_, count, negative}
 use Rattle.binary64.specs.Range.{Within, Most, Sized, sized, most-wider, neg-most}
 use Rattle.binary64.specs.RangeTests.{literal, tested-within, tested-sized}
 use Rattle.binary64.specs.RangeOps.{mul-between, div-between, div-most, div-count}
@@ -20,6 +20,7 @@ use Rattle.binary64.specs.Bounds.{within-scaled}
 use Rattle.binary64.specs.Order.{neg-le}
 use Rattle.binary64.specs.OrderLaws.{div-le}
 use Rattle.binary64.specs.Value.{val, val-is, ratio-nn, le-val}
+use Rattle.binary64.specs.Literals.{«0·0», «1·0», «3·0», «8·0», «9·0», «10·0», «4096·0», «86400·0», «90000·0», «100000·0», «1e6»}
 use Rattle.min_max.specs.Count.{ceilOf}
 use Rattle.min_max.proofs.CountLaws.{ceil-least}
 use Rattle.refusal.specs.Numbers.{firstRefusal, refusalUnless, grid, load, interval, temperature, subSteps, neither-refused, passed}
@@ -110,16 +111,16 @@ pub record ConfigRanges (g : SpmConfig) : Type 0 where
 pub config-ranges : (g : SpmConfig) → T (configFits g) → ConfigRanges g
 unfolding ofBits
 config-ranges g t =
-    let v1 = le (neg (f64 0x4024_0000_0000_0000)) (g .«v_min») in
-    let v2 = le (g .«v_min») (f64 0x4024_0000_0000_0000) in
-    let v3 = le (neg (f64 0x4024_0000_0000_0000)) (g .«v_max») in
-    let v4 = le (g .«v_max») (f64 0x4024_0000_0000_0000) in
-    let f1 = le (f64 0x40f5_f900_0000_0000) (g .faraday) in
-    let f2 = le (g .faraday) (f64 0x40f8_6a00_0000_0000) in
-    let r1 = le (f64 0x4020_0000_0000_0000) (g .«r_gas») in
-    let r2 = le (g .«r_gas») (f64 0x4022_0000_0000_0000) in
-    let o1 = le (f64 0) (g .«r_electrolyte_ohm_m2») in
-    let o2 = le (g .«r_electrolyte_ohm_m2») (f64 0x3ff0_0000_0000_0000) in
+    let v1 = le (neg «10·0») (g .«v_min») in
+    let v2 = le (g .«v_min») «10·0» in
+    let v3 = le (neg «10·0») (g .«v_max») in
+    let v4 = le (g .«v_max») «10·0» in
+    let f1 = le «90000·0» (g .faraday) in
+    let f2 = le (g .faraday) «100000·0» in
+    let r1 = le «8·0» (g .«r_gas») in
+    let r2 = le (g .«r_gas») «9·0» in
+    let o1 = le «0·0» (g .«r_electrolyte_ohm_m2») in
+    let o2 = le (g .«r_electrolyte_ohm_m2») «1·0» in
     let v = v1 && v2 && v3 && v4 in
     let f = v && f1 && f2 in
     let t9 = and-l (f && r1 && r2 && o1) o2 t in
@@ -127,15 +128,15 @@ config-ranges g t =
     let t7 = and-l (f && r1) r2 t8 in
     let t6 = and-l f r1 t7 in
     record {
-      faraday = wider (tested-within (f64 0x40f5_f900_0000_0000) (g .faraday) (f64 0x40f8_6a00_0000_0000) tt tt (and-r v f1 (and-l (v && f1) f2 t6)) (and-r (v && f1) f2 t6)) (2 ^ 17) 1 (2 ^ 16) 1 tt tt tt tt;
-      gas = wider (tested-within (f64 0x4020_0000_0000_0000) (g .«r_gas») (f64 0x4022_0000_0000_0000) tt tt (and-r f r1 t7) (and-r (f && r1) r2 t8)) 9 1 8 1 tt tt tt tt;
-      resistance = most-wider (tested-sized (f64 0) (g .«r_electrolyte_ohm_m2») (f64 0x3ff0_0000_0000_0000) tt tt tt (and-r (f && r1 && r2) o1 t9) (and-r (f && r1 && r2 && o1) o2 t)) 1 1 tt tt;
+      faraday = wider (tested-within «90000·0» (g .faraday) «100000·0» tt tt (and-r v f1 (and-l (v && f1) f2 t6)) (and-r (v && f1) f2 t6)) (2 ^ 17) 1 (2 ^ 16) 1 tt tt tt tt;
+      gas = wider (tested-within «8·0» (g .«r_gas») «9·0» tt tt (and-r f r1 t7) (and-r (f && r1) r2 t8)) 9 1 8 1 tt tt tt tt;
+      resistance = most-wider (tested-sized «0·0» (g .«r_electrolyte_ohm_m2») «1·0» tt tt tt (and-r (f && r1 && r2) o1 t9) (and-r (f && r1 && r2 && o1) o2 t)) 1 1 tt tt;
     }
 
 -- ---- a_s * L * F
-three : Within (f64 0x4008_0000_0000_0000) 3 1 3 1
+three : Within «3·0» 3 1 3 1
 unfolding ofBits
-three = literal (f64 0x4008_0000_0000_0000) 3 1 3 1 tt tt tt tt tt
+three = literal «3·0» 3 1 3 1 tt tt tt tt tt
 
 -- from 2 ^ -7 to 2 ^ 42
 pub surface-range : (p : ElectrodeParams) (g : SpmConfig) → T (sheetFits p) → T (configFits g) → Within (surfaceCurrent p (g .faraday)) (2 ^ 42) 1 1 (2 ^ 7)
@@ -184,13 +185,13 @@ module _ (s : SpmSolver) (h : cellRefusal s ≡ 0) where
         (neg-le (currentDensity s i) (currentDensity s i') density-le) (surface-above (s .anode .params) (s .config) (sheet-at s h Electrode.anode) (config-passed s h)))
 
 -- ---- what a step that nothing refuses before it is made works with
-pub current-range : (i : Float) → T (loadFits i (f64 0x412e_8480_0000_0000)) → Sized i (2 ^ 20) 1
+pub current-range : (i : Float) → T (loadFits i «1e6») → Sized i (2 ^ 20) 1
 unfolding ofBits neg
 current-range i t =
-    let hi = f64 0x412e_8480_0000_0000 in
+    let hi = «1e6» in
     most-wider (tested-sized (neg hi) i hi tt tt tt (and-l (le (neg hi) i) (le i hi) t) (and-r (le (neg hi) i) (le i hi) t)) (2 ^ 20) 1 tt tt
 
-not-below : (dt : Float) → T (lt (f64 0) dt) → negative dt ≡ false
+not-below : (dt : Float) → T (lt «0·0» dt) → negative dt ≡ false
 unfolding lt ofBits
 not-below nan h = absurd h
 not-below (inf true) h = absurd h
@@ -209,7 +210,7 @@ is-false false h = refl
 whole-part : (x d : ℕ) → x * 1 ≤ 4096 * d → x ≤ 4096 * d
 whole-part x d h = omega arith
 
-count-below : (q : Float) → T (not (lt (f64 0x40b0_0000_0000_0000) q)) → ceilOf q ≤ 4096
+count-below : (q : Float) → T (not (lt «4096·0» q)) → ceilOf q ≤ 4096
 unfolding lt ofBits ceilOf
 count-below nan h = lit≤ tt
 count-below (inf true) h = lit≤ tt
@@ -221,7 +222,7 @@ count-below (fin false m e) h =
 
 pub count-most : (p : Plan) → planRefusal p ≡ 0 → subStepsOf p ≤ 4096
 unfolding planRefusal
-count-most p h = count-below (p .q) (passed (not (lt (f64 0x40b0_0000_0000_0000) (p .q))) subSteps (zero-lt-suc 6) (neither-refused _ _ h .1))
+count-most p h = count-below (p .q) (passed (not (lt «4096·0» (p .q))) subSteps (zero-lt-suc 6) (neither-refused _ _ h .1))
 
 module _ (s : SpmSolver) (i dt t : Float) (h : inputRefusal s i dt t ≡ 0) where
   pub cell-passed : cellRefusal s ≡ 0
@@ -230,7 +231,7 @@ module _ (s : SpmSolver) (i dt t : Float) (h : inputRefusal s i dt t ≡ 0) wher
 
   pub current-fits : Sized i (2 ^ 20) 1
   unfolding inputRefusal
-  current-fits = current-range i (passed (loadFits i (f64 0x412e_8480_0000_0000)) load (zero-lt-suc 2) (neither-refused _ _ (neither-refused _ _ h .1) .0))
+  current-fits = current-range i (passed (loadFits i «1e6») load (zero-lt-suc 2) (neither-refused _ _ (neither-refused _ _ h .1) .0))
 
   pub interval-fits : T (intervalFits dt)
   unfolding inputRefusal
@@ -246,7 +247,7 @@ module _ (s : SpmSolver) (i dt t : Float) (h : inputRefusal s i dt t ≡ 0) wher
 
   part-range : (k : ℕ) → suc k ≤ 4096 → Most (dt ⊘ count (suc k)) false (2 ^ 17) 1
   part-range k l =
-      let m : Most dt false (2 ^ 17) 1 = rw (not-below dt (and-l (lt (f64 0) dt) (le dt (f64 0x40f5_1800_0000_0000)) interval-fits)) at (interval-size .0) in
+      let m : Most dt false (2 ^ 17) 1 = rw (not-below dt (and-l (lt «0·0» dt) (le dt «86400·0») interval-fits)) at (interval-size .0) in
       div-count m (suc k) 1 (2 ^ 17) 1 (omega arith) (le-trans l (lit≤ tt)) tt tt tt
 
   diffusivity-in : (e : Electrode) → Within (diffusivityIn e (planOf s i dt t)) (2 ^ 4) 1 1 (2 ^ 97)

@@ -18,6 +18,7 @@ use Rattle.fraction.specs.Certificate.{quote, le-by, up, num, _⊞_, _⊠_}
 use Rattle.binary64.specs.Operators.{_⊕_, _⊖_, _⊗_, _⊘_, f64, count}
 use Rattle.binary64.specs.Range.{Sized}
 use Rattle.binary64.specs.Value.{val}
+use Rattle.binary64.specs.Literals.{«0·0», «1e-14», «3·9e-14», «0·0002», «2·0», «2·5», «3·0», «4·0», «4·2», «8·314», «298·15», «3600·0», «20000·0», «35000·0», «86400·0», «96485·0», «1e6»}
 use Rattle.elementary.specs.Exp.{one, expOf}
 use Rattle.elementary.proofs.ExpLaws.{exp-0}
 use Rattle.min_max.specs.Count.{ceilOf}
@@ -48,11 +49,11 @@ use Rattle.solver_laws.specs.Ranking.{Paired, Twins, Ranked, same-number
 abbrev pub config : SpmConfig
 config = record {
   «n_nodes» = 11;
-  «v_min» = f64 0x4004_0000_0000_0000;  -- 2.5
-  «v_max» = f64 0x4010_cccc_cccc_cccd;  -- 4.2
-  faraday = f64 0x40f7_8e50_0000_0000;  -- 96,485
-  «r_gas» = f64 0x4020_a0c4_9ba5_e354;  -- 8.314
-  «r_electrolyte_ohm_m2» = f64 0x3f2a_36e2_eb1c_432d;  -- 2e-4
+  «v_min» = «2·5»;
+  «v_max» = «4·2»;
+  faraday = «96485·0»;
+  «r_gas» = «8·314»;
+  «r_electrolyte_ohm_m2» = «0·0002»;
 }
 
 abbrev pub cellAt : Float → SpmSolver
@@ -60,28 +61,28 @@ cellAt clock = record { config = config; anode = fresh graphiteAnode 11; cathode
 
 -- what `graphite_lfp` answers
 abbrev pub start : SpmSolver
-start = cellAt (f64 0)
+start = cellAt «0·0»
 
 -- the same at 3,600 s
 abbrev pub later : SpmSolver
-later = cellAt (f64 0x40ac_2000_0000_0000)
+later = cellAt «3600·0»
 
 -- ---- the calls, all at 298.15 K
 abbrev room : Float
-room = f64 0x4072_a266_6666_6666
+room = «298·15»
 
 -- 2 s, and a day
 abbrev pub two : Float
-two = f64 0x4000_0000_0000_0000
+two = «2·0»
 
 abbrev day : Float
-day = f64 0x40f5_1800_0000_0000
+day = «86400·0»
 
 abbrev pub three : Float
-three = f64 0x4008_0000_0000_0000
+three = «3·0»
 
 abbrev pub four : Float
-four = f64 0x4010_0000_0000_0000
+four = «4·0»
 
 abbrev pub draw : Float → Float → Call
 draw i dt = record { current = i; dt = dt; temp = room }
@@ -120,7 +121,7 @@ later-clock = tt
 pub later-passes : cellRefusal later ≡ 0
 later-passes =
     let a = configFits config && fieldsFit (fresh graphiteAnode 11) && fieldsFit (fresh lfpCathode 11) in
-    cell-passes later (grid-passed start start-passes) (and-i a (clockFits (later .«time_s»)) (and-l a (clockFits (f64 0)) (cell-valid start start-passes)) later-clock)
+    cell-passes later (grid-passed start start-passes) (and-i a (clockFits (later .«time_s»)) (and-l a (clockFits «0·0») (cell-valid start start-passes)) later-clock)
 
 same-particle : (e : Electrode) → particleAt e later ≡ particleAt e start
 same-particle Electrode.anode = refl
@@ -135,15 +136,15 @@ twins = record { config = refl; sheet = λ e. later-made .make .sheet e; nodes =
 
 -- ---- the diffusivities: at the reference temperature the exponent is 0, and E(0) = 1
 abbrev dNeg : Float
-dNeg = f64 0x3d25_f47e_09a9_f0ea
+dNeg = «3·9e-14»
 
 abbrev dPos : Float
-dPos = f64 0x3d06_849b_86a1_2b9b
+dPos = «1e-14»
 
 abbrev exponent : Float → Float
-exponent activation = activation ⊘ f64 0x4020_a0c4_9ba5_e354 ⊗ (one ⊘ room ⊖ one ⊘ room)
+exponent activation = activation ⊘ «8·314» ⊗ (one ⊘ room ⊖ one ⊘ room)
 
-exponents : (exponent (f64 0x40e1_1700_0000_0000) ≡ f64 0) × (exponent (f64 0x40d3_8800_0000_0000) ≡ f64 0)
+exponents : (exponent «35000·0» ≡ «0·0») × (exponent «20000·0» ≡ «0·0»)
 unfolding sub mul div ofBits
 exponents = (refl, refl)
 
@@ -273,15 +274,15 @@ unfolding le ofBits
 room-fits = tt
 
 module _ (r : SpmSolver) (v : Inv start r) where
-  draw-input : (i dt : Float) → T (loadFits i (f64 0x412e_8480_0000_0000)) → T (intervalFits dt) → inputRefusal r i dt room ≡ 0
+  draw-input : (i dt : Float) → T (loadFits i «1e6») → T (intervalFits dt) → inputRefusal r i dt room ≡ 0
   unfolding inputRefusal firstRefusal refusalUnless
-  draw-input i dt h k = rw (v .passes, is-true (loadFits i (f64 0x412e_8480_0000_0000)) h, is-true (intervalFits dt) k, is-true (temperatureFits room) room-fits)
+  draw-input i dt h k = rw (v .passes, is-true (loadFits i «1e6») h, is-true (intervalFits dt) k, is-true (temperatureFits room) room-fits)
 
   draw-plan : (i dt q : Float) → quotient start dt dNeg dPos ≡ q → planFor r (draw i dt) ≡ planBy i dt q
   draw-plan i dt q e = same-plan start r (draw i dt) (v .make) ∙ plan-is i dt q e
 
   -- A DRAW is accepted, whatever the profiles, and reports its sub-steps
-  module _ (i dt : Float) (k : ℕ) (c : Split dt k) (h : T (loadFits i (f64 0x412e_8480_0000_0000))) (f : T (finite (r .«time_s» ⊕ dt))) where
+  module _ (i dt : Float) (k : ℕ) (c : Split dt k) (h : T (loadFits i «1e6»)) (f : T (finite (r .«time_s» ⊕ dt))) where
     draw-accepted : answer r (draw i dt) .refusal ≡ 0
     draw-accepted = step-accepted r i dt room (draw-input i dt h (c .fits)) (rw (draw-plan i dt (c .q) (c .quotient-is)) (c .passes i)) f
 
@@ -297,11 +298,11 @@ module _ (r : SpmSolver) (v : Inv start r) where
   unfolding stepped
   no-current-refused = rw no-current-input
 
-  too-long-refused : T (loadFits three (f64 0x412e_8480_0000_0000)) → answer r too-long .refusal ≡ 7
+  too-long-refused : T (loadFits three «1e6») → answer r too-long .refusal ≡ 7
   unfolding stepped planned
   too-long-refused h = rw (draw-input three day h (day-split .1 .1), draw-plan three day dayQuotient (day-split .0), day-split .1 .0 three)
 
-currents-fit : T (loadFits three (f64 0x412e_8480_0000_0000)) × T (loadFits four (f64 0x412e_8480_0000_0000))
+currents-fit : T (loadFits three «1e6») × T (loadFits four «1e6»)
 unfolding le neg ofBits
 currents-fit = (tt, tt)
 
@@ -342,7 +343,7 @@ record Drawn (i : Float) (r : SpmSolver) (qs : List Call) : Type 0 where
   count : K r qs ≡ 3
 
 -- with refused calls anywhere
-module _ (i : Float) (h : T (loadFits i (f64 0x412e_8480_0000_0000))) (r : SpmSolver) (v : Inv start r) (f : T (finite (r .«time_s» ⊕ two))) (g : T (finite (r .«time_s» ⊕ two ⊕ one)))
+module _ (i : Float) (h : T (loadFits i «1e6»)) (r : SpmSolver) (v : Inv start r) (f : T (finite (r .«time_s» ⊕ two))) (g : T (finite (r .«time_s» ⊕ two ⊕ one)))
     {before between after : List Call} (a : Each Refuses before) (b : Each Refuses between) (c : Each Refuses after) where
   abbrev last : List Call
   last = after ++ []

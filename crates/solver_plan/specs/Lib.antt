@@ -2,7 +2,5 @@
 --
 -- Arguments: 3 to 5.
 -- Plans: diffusivities, fluxes, the interval in units of the longest sub-step; 6 and 7; the count of sub-steps.
--- Literals: each bit pattern above is its decimal rounded once.
 pub mod Arguments
 pub mod Plans
-pub mod Literals

@@ -4,7 +4,8 @@ use mathlib.Core.Path.{_≡_}
 use mathlib.Core.Bool.{not, _&&_}
 use mathlib.Core.List.{List}
 use lib.Ieee.{Float, lt, neg}
-use Rattle.binary64.specs.Operators.{_⊗_, _⊘_, f64}
+use Rattle.binary64.specs.Operators.{_⊗_, _⊘_}
+use Rattle.binary64.specs.Literals.{«1e-20», «1e-8», «0·45», «4096·0»}
 use Rattle.min_max.specs.MinMax.{minOf}
 use Rattle.min_max.specs.Count.{ceilOf}
 use Rattle.refusal.specs.Numbers.{firstRefusal, refusalUnless, diffusivity, subSteps}
@@ -18,7 +19,7 @@ use Rattle.solver_plan.specs.declared.Plan.{Plan}
 
 -- an electrode's longest sub-step: dt_stable * 0.45
 abbrev pub longest : ParticleDiffusion → Float → Float
-longest p d = stableStep p d ⊗ f64 0x3fdc_cccc_cccc_cccd
+longest p d = stableStep p d ⊗ «0·45»
 
 -- dt / dt_use, dt_use the least of dt and the electrodes' longest sub-steps
 abbrev pub quotientWith : ParticleDiffusion → ParticleDiffusion → Float → Float → Float → Float
@@ -45,8 +46,8 @@ PlanOf a n c m faraday j dt t r = (p q : List Float) → r ≡ planWith (particl
 unfoldable pub planRefusal : Plan → ℕ
 planRefusal p =
     firstRefusal
-    (refusalUnless (inRange (p .«d_neg») (f64 0x3bc7_9ca1_0c92_4223) (f64 0x3e45_798e_e230_8c3a) && inRange (p .«d_pos») (f64 0x3bc7_9ca1_0c92_4223) (f64 0x3e45_798e_e230_8c3a)) diffusivity)
-    (refusalUnless (not (lt (f64 0x40b0_0000_0000_0000) (p .q))) subSteps)
+    (refusalUnless (inRange (p .«d_neg») «1e-20» «1e-8» && inRange (p .«d_pos») «1e-20» «1e-8») diffusivity)
+    (refusalUnless (not (lt «4096·0» (p .q))) subSteps)
 
 -- the least whole number not below q
 abbrev pub subStepsOf : Plan → ℕ

@@ -1,7 +1,8 @@
 -- The report of a step, from what both particles show at their walls. Definitions only.
 use mathlib.Core.Bool.{Bool, false, _&&_, _||_}
 use lib.Ieee.{Float, lt, neg}
-use Rattle.binary64.specs.Operators.{_⊗_, f64}
+use Rattle.binary64.specs.Operators.{_⊗_}
+use Rattle.binary64.specs.Literals.{«0·0»}
 use Rattle.refusal.specs.Ranges.{finite}
 use Rattle.particle.specs.declared.ParticleDiffusion.{ParticleDiffusion}
 use Rattle.particle.specs.Particle.{surfaceTheta, surfacePotential, averageTheta}
@@ -46,12 +47,12 @@ finiteWith profiles r =
 -- beside a refusal
 unfoldable pub noState : SpmState
 noState = record {
-  voltage = f64 0;
-  current = f64 0;
-  «theta_neg» = f64 0;
-  «theta_pos» = f64 0;
-  «theta_neg_avg» = f64 0;
-  «theta_pos_avg» = f64 0;
-  «time_s» = f64 0;
+  voltage = «0·0»;
+  current = «0·0»;
+  «theta_neg» = «0·0»;
+  «theta_pos» = «0·0»;
+  «theta_neg_avg» = «0·0»;
+  «theta_pos_avg» = «0·0»;
+  «time_s» = «0·0»;
   cutoff = false;
 }

@@ -8,7 +8,8 @@ use native.Mathlib.Nat.{le-trans}
 use lib.Dec.{ltb, eqb·suc-zero}
 use lib.ListN.{getD, replicate}
 use lib.Ieee.{Float, nan}
-use Rattle.binary64.specs.Operators.{_⊕_, _⊗_, _⊘_, f64, count}
+use Rattle.binary64.specs.Operators.{_⊕_, _⊗_, _⊘_, count}
+use Rattle.binary64.specs.Literals.{«0·0»}
 use Rattle.iterate.specs.Iterate.{firstBy, first-below, first-cong}
 use Rattle.diffusion.specs.SubStep as S
 use Rattle.sub_step.specs.declared.SubStepCoefficients.{SubStepCoefficients}
@@ -23,7 +24,7 @@ tableOf d = inverseRadii (d .n) (d .dr)
 module _ (d : S.SubStepParams) (few : d .n ≤ 64) where
   table-at : (i : ℕ) → i < d .n → getD (tableOf d) i nan ≡ S.two ⊘ (count i ⊗ d .dr)
   unfolding inverseRadii
-  table-at i h = first-below (inverseRadius (d .dr)) (replicate 64 (f64 0)) (d .n) i nan h few
+  table-at i h = first-below (inverseRadius (d .dr)) (replicate 64 «0·0») (d .n) i nan h few
 
   abbrev outer : (ℕ → Float) → ℕ → Bool → Float
   outer c i b = cond b (c (i + 1)) (S.ghostNode d (c (i - 1)))

@@ -8,7 +8,8 @@ use mathlib.Core.List.{List}
 use lib.Dec.{ltb, eqb}
 use lib.ListN.{getD, set, replicate}
 use lib.Ieee.{Float, nan}
-use Rattle.binary64.specs.Operators.{_⊕_, _⊖_, _⊗_, _⊘_, f64, count}
+use Rattle.binary64.specs.Operators.{_⊕_, _⊖_, _⊗_, _⊘_, count}
+use Rattle.binary64.specs.Literals.{«0·0»}
 use Rattle.min_max.specs.MinMax.{clampOf}
 use Rattle.iterate.specs.Iterate.{firstBy, first-suc}
 use Rattle.diffusion.specs.SubStep.{two, six}
@@ -32,7 +33,7 @@ abbrev pub inverseRadius : Float → ℕ → Float
 inverseRadius dr i = two ⊘ (count i ⊗ dr)
 
 unfoldable pub inverseRadii : ℕ → Float → List Float
-inverseRadii n dr = firstBy n (inverseRadius dr) (replicate 64 (f64 0))
+inverseRadii n dr = firstBy n (inverseRadius dr) (replicate 64 «0·0»)
 
 abbrev pub placesOf : List Float → ℕ → Float
 placesOf c i = getD c i nan
@@ -46,7 +47,7 @@ module _ (v : SubStepCoefficients) where
       v .«d_s» ⊗ ((after ⊖ two ⊗ here ⊕ before) ⊘ v .«dr_2» ⊕ w ⊗ ((after ⊖ before) ⊘ v .«two_dr»))
 
   abbrev pub movedBy : Float → Float → Float
-  movedBy here rate = clampOf (here ⊕ v .dt ⊗ rate) (f64 0) (v .«c_max»)
+  movedBy here rate = clampOf (here ⊕ v .dt ⊗ rate) «0·0» (v .«c_max»)
 
   -- the three kinds of nodes anew, with 2 / r from the table w
   abbrev pub centreNode : (ℕ → Float) → Float

@@ -4,15 +4,15 @@ use Prim.Native.Nat.{_≤_, _-_}
 use mathlib.Core.Path.{_≡_, refl}
 use native.Mathlib.Omega.{arith}
 use native.Mathlib.Numerals.{add-one}
-use Rattle.binary64.specs.Operators.{f64}
 use Rattle.iterate.specs.Iterate.{firstBy}
 use Rattle.dfn_electrolyte.specs.Electrolyte.{at, dEff, dEffs}
 use borrow.Author.Needs.{needs}
 use Rattle.dfn_electrolyte.proofs.diffusivities.Statement.{statement}
 use Rattle.dfn_electrolyte.proofs.diffusivities.Tie as tie
+use Rattle.binary64.specs.Literals.{«0·0»}
 
 abbrev Inv-loop : tie.InvT-loop
-Inv-loop s c n d₀ i₀ d i = (i ≤ n) × (d ≡ firstBy i (λ k. dEff s (at c k)) (replicate 33 (f64 0)))
+Inv-loop s c n d₀ i₀ d i = (i ≤ n) × (d ≡ firstBy i (λ k. dEff s (at c k)) (replicate 33 «0·0»))
 
 abbrev μ-loop : tie.MeasureT-loop
 μ-loop s c n d₀ i₀ d i = n - i

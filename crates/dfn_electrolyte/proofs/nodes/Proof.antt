@@ -4,16 +4,16 @@ use Prim.Native.Nat.{_≤_, _-_}
 use mathlib.Core.Path.{_≡_, refl}
 use native.Mathlib.Omega.{arith}
 use native.Mathlib.Numerals.{add-one}
-use Rattle.binary64.specs.Operators.{f64}
 use Rattle.min_max.specs.MinMax.{clampOf}
 use Rattle.iterate.specs.Iterate.{firstBy}
 use Rattle.dfn_electrolyte.specs.Electrolyte.{nodeWith, nodesWith}
 use borrow.Author.Needs.{needs}
 use Rattle.dfn_electrolyte.proofs.nodes.Statement.{statement}
 use Rattle.dfn_electrolyte.proofs.nodes.Tie as tie
+use Rattle.binary64.specs.Literals.{«100·0», «3000·0»}
 
 abbrev Inv-loop : tie.InvT-loop
-Inv-loop neg pos c d n out₀ i₀ out i = (i ≤ neg .n + 1 + pos .n) × (out ≡ firstBy i (λ k. clampOf (nodeWith neg pos c d k) (f64 0x4059_0000_0000_0000) (f64 0x40a7_7000_0000_0000)) c)
+Inv-loop neg pos c d n out₀ i₀ out i = (i ≤ neg .n + 1 + pos .n) × (out ≡ firstBy i (λ k. clampOf (nodeWith neg pos c d k) «100·0» «3000·0») c)
 
 abbrev μ-loop : tie.MeasureT-loop
 μ-loop neg pos c d n out₀ i₀ out i = neg .n + 1 + pos .n - i

@@ -4,15 +4,15 @@ use Prim.Native.Nat.{_≤_, _-_}
 use mathlib.Core.Path.{_≡_, refl}
 use native.Mathlib.Omega.{arith}
 use native.Mathlib.Numerals.{add-one}
-use Rattle.binary64.specs.Operators.{f64}
 use Rattle.iterate.specs.Iterate.{allBelow}
 use Rattle.dfn_places.specs.Places.{at, placeFits, electrolyteFits}
 use borrow.Author.Needs.{needs}
 use Rattle.dfn_places.proofs.electrolyte_fits.Statement.{statement}
 use Rattle.dfn_places.proofs.electrolyte_fits.Tie as tie
+use Rattle.binary64.specs.Literals.{«1·0», «100000·0»}
 
 abbrev Inv-loop : tie.InvT-loop
-Inv-loop c n ok₀ i₀ ok i = (i ≤ 33) × (ok ≡ allBelow i (λ k. placeFits (at c k) (ltb k n) (f64 0x3ff0_0000_0000_0000) (f64 0x40f8_6a00_0000_0000)))
+Inv-loop c n ok₀ i₀ ok i = (i ≤ 33) × (ok ≡ allBelow i (λ k. placeFits (at c k) (ltb k n) «1·0» «100000·0»))
 
 abbrev μ-loop : tie.MeasureT-loop
 μ-loop c n ok₀ i₀ ok i = 33 - i

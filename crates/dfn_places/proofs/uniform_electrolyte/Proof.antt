@@ -4,14 +4,14 @@ use Prim.Native.Nat.{_≤_, _-_}
 use mathlib.Core.Path.{_≡_, refl}
 use native.Mathlib.Omega.{arith}
 use native.Mathlib.Numerals.{add-one}
-use Rattle.binary64.specs.Operators.{f64}
 use Rattle.iterate.specs.Iterate.{firstBy}
 use borrow.Author.Needs.{needs}
 use Rattle.dfn_places.proofs.uniform_electrolyte.Statement.{statement}
 use Rattle.dfn_places.proofs.uniform_electrolyte.Tie as tie
+use Rattle.binary64.specs.Literals.{«0·0»}
 
 abbrev Inv-loop : tie.InvT-loop
-Inv-loop x n c₀ i₀ c i = (i ≤ n) × (c ≡ firstBy i (λ k. x) (replicate 33 (f64 0)))
+Inv-loop x n c₀ i₀ c i = (i ≤ n) × (c ≡ firstBy i (λ k. x) (replicate 33 «0·0»))
 
 abbrev μ-loop : tie.MeasureT-loop
 μ-loop x n c₀ i₀ c i = n - i

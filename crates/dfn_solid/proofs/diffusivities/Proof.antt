@@ -4,15 +4,15 @@ use Prim.Native.Nat.{_≤_, _-_}
 use mathlib.Core.Path.{_≡_, refl}
 use native.Mathlib.Omega.{arith}
 use native.Mathlib.Numerals.{add-one}
-use Rattle.binary64.specs.Operators.{f64}
 use Rattle.iterate.specs.Iterate.{firstBy}
 use Rattle.dfn_solid.specs.Solid.{at, dSolid, dSolids}
 use borrow.Author.Needs.{needs}
 use Rattle.dfn_solid.proofs.diffusivities.Statement.{statement}
 use Rattle.dfn_solid.proofs.diffusivities.Tie as tie
+use Rattle.binary64.specs.Literals.{«0·0»}
 
 abbrev Inv-loop : tie.InvT-loop
-Inv-loop v c n d₀ k₀ d k = (k ≤ n) × (d ≡ firstBy k (λ j. dSolid v (at c j)) (replicate 512 (f64 0)))
+Inv-loop v c n d₀ k₀ d k = (k ≤ n) × (d ≡ firstBy k (λ j. dSolid v (at c j)) (replicate 512 «0·0»))
 
 abbrev μ-loop : tie.MeasureT-loop
 μ-loop v c n d₀ k₀ d k = n - k

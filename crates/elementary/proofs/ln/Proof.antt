@@ -9,6 +9,7 @@ use lib.IntN.{pos}
 use lib.Ieee.{Float, nan, binary64, minus, fits, nanBits, ofBits, toBits}
 use lib.Ieee.Bits.{ofBits-toBits, toBits-lt, ofBits-fits}
 use Rattle.binary64.specs.Operators.{_⊘_, f64}
+use Rattle.binary64.specs.Literals.{«0·0»}
 use Rattle.square_root.specs.Parts.{unitsOf, Normal}
 use Rattle.square_root.proofs.Patterns.{positive-value, positive-units, at-top, at-negative, no-nan-bits, not-nan, zero-by-zero}
 use Rattle.elementary.specs.Ln.{two, lnParts, lnSplit, lnOf}
@@ -29,7 +30,7 @@ bits c = toBits binary64 (c .args .x)
 back : (c : tie.Start) → f64 (bits c) ≡ c .args .x
 back c = ofBits-toBits binary64 (c .args .x) (representable c)
 
-zeros : (f64 0xfff0_0000_0000_0000 ≡ lnOf (f64 0)) × (f64 0xfff0_0000_0000_0000 ≡ lnOf (f64 (2 ^ 63)))
+zeros : (f64 0xfff0_0000_0000_0000 ≡ lnOf «0·0») × (f64 0xfff0_0000_0000_0000 ≡ lnOf (f64 (2 ^ 63)))
 unfolding ofBits
 zeros = (sym (zero-ln false (pos 0)), sym (zero-ln true (pos 0)))
 

@@ -4,15 +4,15 @@ use mathlib.Core.Path.{_≡_, refl}
 use native.Mathlib.Omega.{arith}
 use native.Mathlib.Numerals.{add-one}
 use lib.ListN.{replicate}
-use Rattle.binary64.specs.Operators.{f64}
 use Rattle.iterate.specs.Iterate.{firstBy}
 use Rattle.profile.specs.Places.{filled}
 use borrow.Author.Needs.{needs}
 use Rattle.profile.proofs.uniform.Statement.{statement}
 use Rattle.profile.proofs.uniform.Tie as tie
+use Rattle.binary64.specs.Literals.{«0·0»}
 
 abbrev Inv-loop : tie.InvT-loop
-Inv-loop x n c-s₀ i₀ c-s i = (i ≤ n) × (c-s ≡ firstBy i (λ k. x) (replicate 64 (f64 0)))
+Inv-loop x n c-s₀ i₀ c-s i = (i ≤ n) × (c-s ≡ firstBy i (λ k. x) (replicate 64 «0·0»))
 
 abbrev μ-loop : tie.MeasureT-loop
 μ-loop x n c-s₀ i₀ c-s i = n - i

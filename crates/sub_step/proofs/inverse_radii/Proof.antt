@@ -4,15 +4,15 @@ use mathlib.Core.Path.{_≡_, refl}
 use native.Mathlib.Omega.{arith}
 use native.Mathlib.Numerals.{add-one}
 use lib.ListN.{replicate}
-use Rattle.binary64.specs.Operators.{f64}
 use Rattle.iterate.specs.Iterate.{firstBy}
 use Rattle.sub_step.specs.SubSteps.{inverseRadius, inverseRadii}
 use borrow.Author.Needs.{needs}
 use Rattle.sub_step.proofs.inverse_radii.Statement.{statement}
 use Rattle.sub_step.proofs.inverse_radii.Tie as tie
+use Rattle.binary64.specs.Literals.{«0·0»}
 
 abbrev Inv-loop : tie.InvT-loop
-Inv-loop n dr w₀ i₀ w i = (i ≤ n) × (w ≡ firstBy i (inverseRadius dr) (replicate 64 (f64 0)))
+Inv-loop n dr w₀ i₀ w i = (i ≤ n) × (w ≡ firstBy i (inverseRadius dr) (replicate 64 «0·0»))
 
 abbrev μ-loop : tie.MeasureT-loop
 μ-loop n dr w₀ i₀ w i = n - i

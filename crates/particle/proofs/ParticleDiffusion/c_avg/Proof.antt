@@ -1,6 +1,5 @@
 -- `particle::ParticleDiffusion::c_avg` meets its contract. Assumes nothing.
 use mathlib.Core.Path.{sym, _∙_}
-use Rattle.binary64.specs.Operators.{f64}
 use Rattle.refusal.specs.Answers.{refused-outcome}
 use Rattle.particle.specs.Checks.{nodes-of}
 use Rattle.particle.specs.Particle.{average}
@@ -8,6 +7,7 @@ use Rattle.particle.specs.Calls.{cAvg}
 use borrow.Author.Needs.{needs}
 use Rattle.particle.proofs.ParticleDiffusion.c_avg.Statement.{statement}
 use Rattle.particle.proofs.ParticleDiffusion.c_avg.Tie as tie
+use Rattle.binary64.specs.Literals.{«0·0»}
 
 refusal-requires : tie.Need-refusal-requires
 refusal-requires c κs = search needs
@@ -17,7 +17,7 @@ answered-requires c κs = search needs
 
 returns : tie.Need-returns
 unfolding cAvg
-returns c = rw (← c .before .before .refusal .ensures, c .answered .ensures) (refused-outcome _ (f64 0) (average (c .before .before .before .args .t1)) (c .before .if1 .taken))
+returns c = rw (← c .before .before .refusal .ensures, c .answered .ensures) (refused-outcome _ «0·0» (average (c .before .before .before .args .t1)) (c .before .if1 .taken))
 
 average-requires : tie.Need-average-requires
 average-requires c κs = nodes-of (c .before .before .before .before .before .args .t1) (sym (c .before .before .before .before .refusal .ensures) ∙ c .before .before .before .if1 .left)

@@ -2,7 +2,6 @@
 use mathlib.Core.Path.{_≡_, sym, _∙_}
 use Rattle.refusal.specs.Numbers.{firstRefusal, refusalUnless, neither-refused, temperature}
 use Rattle.refusal.specs.Ranges.{temperatureFits}
-use Rattle.binary64.specs.Operators.{f64}
 use Rattle.refusal.specs.Answers.{refused-outcome}
 use Rattle.electrode.specs.Sheet.{diffusivityAt}
 use Rattle.particle.specs.Checks.{particleRefusal, nodes-of}
@@ -11,6 +10,7 @@ use Rattle.particle.specs.Calls.{dtStable}
 use borrow.Author.Needs.{needs}
 use Rattle.particle.proofs.ParticleDiffusion.dt_stable.Statement.{statement}
 use Rattle.particle.proofs.ParticleDiffusion.dt_stable.Tie as tie
+use Rattle.binary64.specs.Literals.{«0·0»}
 
 temperature-fits-requires : tie.Need-temperature-fits-requires
 temperature-fits-requires c κs = search needs
@@ -31,7 +31,7 @@ returns : tie.Need-returns
 unfolding dtStable
 returns c = let a = c .before .before .before .before .before .before .args in
     let e : c .before .before .first-refusal .result ≡ firstRefusal (particleRefusal (a .self)) (refusalUnless (temperatureFits (a .temp-k)) temperature) = rw (c .before .before .first-refusal .ensures, c .before .before .before .refusal .ensures, c .before .before .before .before .refusal-unless .ensures, c .before .before .before .before .before .temperature-fits .ensures) in
-    rw (← e, c .answered .ensures) (refused-outcome _ (f64 0) (stableStep (a .self) (diffusivityAt (a .self .params) (a .temp-k))) (c .before .if1 .taken))
+    rw (← e, c .answered .ensures) (refused-outcome _ «0·0» (stableStep (a .self) (diffusivityAt (a .self .params) (a .temp-k))) (c .before .if1 .taken))
 
 diffusivity-at-requires : tie.Need-diffusivity-at-requires
 diffusivity-at-requires c κs = search needs

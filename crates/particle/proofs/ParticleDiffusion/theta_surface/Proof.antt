@@ -1,6 +1,5 @@
 -- `particle::ParticleDiffusion::theta_surface` meets its contract. Assumes nothing.
 use mathlib.Core.Path.{sym, _∙_}
-use Rattle.binary64.specs.Operators.{f64}
 use Rattle.refusal.specs.Answers.{refused-outcome}
 use Rattle.particle.specs.Checks.{nodes-of}
 use Rattle.particle.specs.Particle.{surfaceTheta}
@@ -8,6 +7,7 @@ use Rattle.particle.specs.Calls.{thetaSurface}
 use borrow.Author.Needs.{needs}
 use Rattle.particle.proofs.ParticleDiffusion.theta_surface.Statement.{statement}
 use Rattle.particle.proofs.ParticleDiffusion.theta_surface.Tie as tie
+use Rattle.binary64.specs.Literals.{«0·0»}
 
 refusal-requires : tie.Need-refusal-requires
 refusal-requires c κs = search needs
@@ -17,7 +17,7 @@ answered-requires c κs = search needs
 
 returns : tie.Need-returns
 unfolding thetaSurface
-returns c = rw (← c .before .before .refusal .ensures, c .answered .ensures) (refused-outcome _ (f64 0) (surfaceTheta (c .before .before .before .args .t1)) (c .before .if1 .taken))
+returns c = rw (← c .before .before .refusal .ensures, c .answered .ensures) (refused-outcome _ «0·0» (surfaceTheta (c .before .before .before .args .t1)) (c .before .if1 .taken))
 
 surface-theta-requires : tie.Need-surface-theta-requires
 surface-theta-requires c κs = nodes-of (c .before .before .before .before .before .args .t1) (sym (c .before .before .before .before .refusal .ensures) ∙ c .before .before .before .if1 .left)

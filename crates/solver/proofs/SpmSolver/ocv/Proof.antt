@@ -1,11 +1,11 @@
 -- `solver::SpmSolver::ocv` meets its contract. Assumes nothing.
 use mathlib.Core.Path.{sym, _∙_}
-use Rattle.binary64.specs.Operators.{f64}
 use Rattle.refusal.specs.Answers.{refused-outcome}
 use Rattle.solver.specs.Cell.{openCircuitVoltage, ocvCall, anode-nodes, cathode-nodes}
 use borrow.Author.Needs.{needs}
 use Rattle.solver.proofs.SpmSolver.ocv.Statement.{statement}
 use Rattle.solver.proofs.SpmSolver.ocv.Tie as tie
+use Rattle.binary64.specs.Literals.{«0·0»}
 
 refusal-requires : tie.Need-refusal-requires
 refusal-requires c κs = search needs
@@ -15,7 +15,7 @@ answered-requires c κs = search needs
 
 returns : tie.Need-returns
 unfolding ocvCall
-returns c = rw (← c .before .before .refusal .ensures, c .answered .ensures) (refused-outcome _ (f64 0) (openCircuitVoltage (c .before .before .before .args .t1)) (c .before .if1 .taken))
+returns c = rw (← c .before .before .refusal .ensures, c .answered .ensures) (refused-outcome _ «0·0» (openCircuitVoltage (c .before .before .before .args .t1)) (c .before .if1 .taken))
 
 surface-potential-requires : tie.Need-surface-potential-requires
 surface-potential-requires c κs = anode-nodes (c .before .before .before .before .before .args .t1) (sym (c .before .before .before .before .refusal .ensures) ∙ c .before .before .before .if1 .left)
