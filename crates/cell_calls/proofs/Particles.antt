@@ -19,7 +19,7 @@ use Rattle.cell_calls.specs.Steps.{putStepped, cellReturn, cellAfter}
 abbrev stepPut : List ℕ → SpmStepAnswer → List ℕ
 stepPut a t = putReport (putCell a (t .solver)) (t .state) (t .«sub_steps»)
 
--- the parts of the cell that the image s holds, and what a step of them told
+-- the parts of the cell that the image s holds, and what a step of them answers
 module _ (s a : List ℕ) (i dt t : Float) (q : SpmParts) (neg pos : List Float)
     (eq : q ≡ partsOf (cellAt s)) (en : neg ≡ placesAt 64 s 17) (eo : pos ≡ placesAt 64 s 92)
     (r : SpmReported) (neg' pos' : List Float) (h : StepOf q neg pos i dt t r neg' pos') where

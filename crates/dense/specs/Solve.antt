@@ -1,4 +1,4 @@
--- The whole answer of `solve_dense`: the copies it works on, 01's refusals, the solution. Definitions only.
+-- The whole answer of `solve_dense`: the copies it works on, docs/REFERENCE.md's refusals, the solution. Definitions only.
 use Prim.Native.Nat.{ℕ, _+_, _*_}
 use mathlib.Core.Bool.{_&&_, cond}
 use mathlib.Core.List.{List}

@@ -123,7 +123,7 @@ module _ (p : DfnParams) (g : DfnConfig) (t : Float) (neg pos cE : List Float) (
     refused-step eb h r er v i x y =
         rw er (agrees-by _ _ (refused (cellOf p g t neg pos cE v i x y) current dt k (first-refusal eb v i x y) (ne-eqb k 0 h)))
 
-    -- by the grains of both electrodes, what moved, the report and the number that they meet
+    -- by the particles' parameters of both electrodes, what moved, the report and the number that they meet
     module _ (eb : b ≡ loadRefusal current dt) (z : k ≡ 0) (u w : Side) (ga gc : ParticleParams) (sn sp : SolidUpdate) (cE' : List Float)
         (eu : u ≡ anodeOf p) (ew : w ≡ cathodeOf p)
         (ega : ga ≡ particleParams p u (g .«n_r») (F.neg current) dt) (egc : gc ≡ particleParams p w (g .«n_r») current dt)

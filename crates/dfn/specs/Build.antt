@@ -18,7 +18,7 @@ use Rattle.dfn.specs.declared.DfnBuildAnswer.{DfnBuildAnswer}
 unfoldable pub newRefusal : DfnParams → DfnConfig → ℕ
 newRefusal p g = firstRefusal (refusalUnless (gridFits g) grid) (refusalUnless (parametersFit p && limitsFit g) sheet)
 
--- the particles at theta_0 * c_max, the salt at c_e0, 3.8 V, at rest
+-- the particles at theta_0 * c_max, the electrolyte at c_e0, 3.8 V, at rest
 unfoldable pub fresh : DfnParams → DfnConfig → DfnSolver
 fresh p g = record {
   params = p;

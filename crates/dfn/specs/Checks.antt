@@ -29,7 +29,7 @@ usedPos g = g .«n_x_pos» * g .«n_r»
 abbrev pub usedElectrolyte : DfnConfig → ℕ
 usedElectrolyte g = g .«n_x_neg» + 1 + g .«n_x_pos»
 
--- parameters, grid but for its counts, the particles of both electrodes, the salt and the clock: all but what a step only overwrites
+-- parameters, grid but for its counts, the particles of both electrodes, the electrolyte and the clock: all but what a step only overwrites
 abbrev pub partsFit : DfnParams → DfnConfig → List Float → List Float → List Float → Float → Bool
 partsFit p g neg pos cE t =
     parametersFit p

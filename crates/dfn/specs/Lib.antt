@@ -1,4 +1,4 @@
--- The Doyle-Fuller-Newman cell, from document 01 and dfn.rs.
+-- The Doyle-Fuller-Newman cell, from docs/REFERENCE.md and dfn.rs.
 --
 -- Checks: what a cell that is handed in is checked for, and a step.
 -- Step: what a step moves, reports, leaves and answers. `stepped` is what a run folds.

@@ -84,7 +84,7 @@ module _ (d : DfnSolver) (current dt : Float) where
   unfolding stepped
   stepped-ends = stepped-by (eqb (stepRefusal d current dt) 0) refl
 
-  -- the whole answer, by what a step of the parts told
+  -- the whole answer, by what a step of the parts answers
   module _ (r : DfnReported) (neg pos cE : List Float) (h : Agrees (stepped d current dt) r neg pos cE) where
     whole : (cell : DfnSolver) → cell ≡ stepped d current dt .cell → answerOf (r .refusal) (r .report) cell ≡ stepped d current dt
     whole cell e = same (h .0) (h .1 .0) e

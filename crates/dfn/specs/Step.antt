@@ -60,7 +60,7 @@ reportAt g old new thetaNeg thetaPos t current v = record {
   cutoff = lt v (g .«v_min») || lt (g .«v_max») v;
 }
 
--- by the salt before and after; the voltage from the new stoichiometries and the new salt at node n_x_neg / 2
+-- by the electrolyte before and after; the voltage from the new stoichiometries and the new salt at node n_x_neg / 2
 abbrev pub reportBy : DfnParams → DfnConfig → List Float → List Float → Float → Float → Float → Float → DfnStep
 reportBy p g old new thetaNeg thetaPos t current =
     reportAt g old new thetaNeg thetaPos t current (voltageOf p thetaNeg thetaPos (getD new (g .«n_x_neg» / 2) nan) current)
@@ -96,7 +96,7 @@ partsFinite g neg pos cE r =
     && finite (r .«theta_pos»)
     && finite (r .«delta_c_e_max»)
 
--- the same as a number: by those of both electrodes, whose mean stoichiometries the report has, and by the salt and the rest of the report
+-- the same as a number: by those of both electrodes, whose mean stoichiometries the report has, and by the electrolyte and the rest of the report
 abbrev pub outcomeRefusal : DfnConfig → ℕ → ℕ → List Float → DfnStep → ℕ
 outcomeRefusal g neg pos cE r =
     firstRefusal (firstRefusal neg pos)

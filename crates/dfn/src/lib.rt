@@ -44,7 +44,7 @@ pub struct DfnStep {
     // Mean stoichiometries of the surfaces.
     pub theta_neg: f64,
     pub theta_pos: f64,
-    // Largest change of the salt, mol/m^3.
+    // Largest change of the electrolyte's concentration, mol/m^3.
     pub delta_c_e_max: f64,
     pub newton_iter: usize,
     // Whether the voltage is outside its limits.
@@ -189,7 +189,7 @@ fn load_refusal(current: f64, dt: f64) -> u64
     refusal::first_refusal(load, interval)
 }
 
-// The report of a step, by the salt before and after it, the new stoichiometries of the surfaces, the new clock and the current.
+// The report of a step, by the electrolyte before and after it, the new stoichiometries of the surfaces, the new clock and the current.
 fn report_of(
     p: DfnParams,
     g: DfnConfig,
@@ -217,7 +217,7 @@ fn report_of(
     }
 }
 
-// What a step's outcome meets: 8 where the particles, by the numbers of both electrodes, the salt or the report hold a NaN or an infinity; 0 for none.
+// What a step's outcome meets: 8 where the particles, by the numbers of both electrodes, the electrolyte or the report hold a NaN or an infinity; 0 for none.
 fn outcome_refusal(g: DfnConfig, neg: u64, pos: u64, c_e: &[f64; 33], r: DfnStep) -> u64
     requires { ⌜ Grid g ⌝ }
     ensures { λ k. ⌜ k ≡ outcomeRefusal g neg pos (now («c_e» .entry)) r ⌝ }

@@ -19,7 +19,7 @@ use Rattle.dfn_calls.specs.Steps.{putStepped, dfnReturn, dfnAfter}
 abbrev stepPut : List ℕ → DfnStepAnswer → List ℕ
 stepPut a t = putReport (putCell a (t .cell)) (t .report)
 
--- the parts of the cell that the image s holds, and what a step of them told
+-- the parts of the cell that the image s holds, and what a step of them answers
 module _ (s a : List ℕ) (i dt : Float) (p : DfnParams) (g : DfnConfig) (t : Float) (neg pos cE : List Float)
     (ep : p ≡ paramsAt s) (eg : g ≡ configAt s) (et : t ≡ floatAt s 1121)
     (en : neg ≡ placesAt 512 s 64) (eo : pos ≡ placesAt 512 s 576) (es : cE ≡ placesAt 33 s 1088)

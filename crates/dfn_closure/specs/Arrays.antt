@@ -1,4 +1,4 @@
--- The particles and the salt after a step fit again, where what the step makes is finite. Assumes nothing.
+-- The particles and the electrolyte after a step fit again, where what the step makes is finite. Assumes nothing.
 use Prim.Native.Nat.{ℕ, zero, suc, _+_, _-_, _*_, _≤_, _<_}
 use mathlib.Core.Path.{_≡_, refl}
 use mathlib.Core.Bool.{Bool, true, false}
@@ -108,7 +108,7 @@ module _ (v : ParticleParams) (c d : List Float) where
       (λ (h : u ≤ i). rw (particles-kept m i h) (all-at (λ j. placeFits (at c j) (ltb j u) «0·0» (v .«c_max»)) 512 i l t))
       (lt-or-ge i u))
 
--- ---- the salt
+-- ---- the electrolyte
 abbrev low : Float
 low = «100·0»
 

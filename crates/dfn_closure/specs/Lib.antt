@@ -3,7 +3,7 @@
 --
 -- Clamped: numbers that a clamp holds.
 -- Tests: the numbers' ranges out of the parameters' tests.
--- Arrays: the particles and the salt after a step.
+-- Arrays: the particles and the electrolyte after a step.
 -- Closure: `step-passes`, `step-refused`, and `next-step`, what they say of the step after.
 -- Build: `build-passes`, `build-refused`.
 pub mod Clamped

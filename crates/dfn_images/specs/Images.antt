@@ -11,7 +11,7 @@ use Rattle.dfn.specs.declared.DfnSolver.{DfnSolver}
 use Rattle.dfn.specs.declared.DfnStep.{DfnStep}
 use Rattle.parameter_images.specs.Images.{paramsAt, putParams, configAt, putConfig}
 
--- ---- the cell: parameters, grid, the particles of anode and cathode, the salt, the clock, what the last step reported
+-- ---- the cell: parameters, grid, the particles of anode and cathode, the electrolyte, the clock, what the last step reported
 
 unfoldable pub cellAt : List ℕ → DfnSolver
 cellAt s = record {

@@ -1,4 +1,4 @@
--- The parameters and the grid of the Doyle-Fuller-Newman cell, from document 01 and dfn.rs.
+-- The parameters and the grid of the Doyle-Fuller-Newman cell, from docs/REFERENCE.md and dfn.rs.
 --
 -- Ranges: what the fields are checked for.
 -- Ready: the two ready sets.

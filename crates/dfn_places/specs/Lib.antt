@@ -1,2 +1,2 @@
--- The arrays of the Doyle-Fuller-Newman cell, from document 01 and dfn.rs.
+-- The arrays of the Doyle-Fuller-Newman cell, from docs/REFERENCE.md and dfn.rs.
 pub mod Places

@@ -38,7 +38,7 @@ module _ {S Q : Type 0} (a : Stepper S Q) where
   total s [] = 0
   total s (q ∷ qs) = cond (a .ok s q) (length (a .moves q)) 0 + total (a .step s q) qs
 
-  -- the exact scheme, fed each call and whether it was refused; a refused one changes nothing
+  -- the exact scheme, given each call and whether it was refused; a refused one changes nothing
   unfoldable pub exactAfter : S → List Q → List Fraction → List Fraction
   exactAfter s [] x = x
   exactAfter s (q ∷ qs) x = exactAfter (a .step s q) qs (cond (a .ok s q) (exactRun (a .grid) (a .moves q) x) x)

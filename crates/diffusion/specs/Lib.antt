@@ -2,7 +2,7 @@
 --
 -- WHERE TO START
 --   Exact       the exact scheme on fractions: `centre`, `inner`, `surface` before the clamp, `exactNode` after it, `exactStep` for a profile. Nothing in it rounds.
---   Calls       lists of calls: `after`, the state; `exactAfter`, the exact scheme fed the same calls and whether each was refused; `total`, the number K of sub-steps
+--   Calls       lists of calls: `after`, the state; `exactAfter`, the exact scheme given the same calls and whether each was refused; `total`, the number K of sub-steps
 --   CallLaws    `calls-near`: every node is within K·M / 2 ^ 49 of the exact one;  `calls-ranking`: greater fluxes, nodes nowhere more than 2·K·M / 2 ^ 49 below
 --
 -- WHAT IS DEFINED

@@ -43,7 +43,7 @@ pub(crate) fn write_rows(rows: &[f64; 80000], count: usize) {
     }
 }
 
-// A refusal by its number and its word of document 01's table.
+// A refusal by its number and its word of docs/REFERENCE.md's table.
 pub(crate) fn say_refusal(number: u64) {
     say(b"refusal ");
     io::print_decimal(libc::STDOUT_FILENO, number);

@@ -14,7 +14,7 @@ ghost use Prim.Native.Nat.{_<_, _≤_, _^_, _*_};
 ghost use lib.ListN.{length};
 ghost use Rattle.discharge_run.specs.Discharge.{timeOver, overAfter, started, turned, rowOf, runOutcome, finishedRun, allTurns, allRows, runRefusal, discharged, dischargedRows, runSettings};
 
-// What each step of a run is fed, and the run's time limit.
+// What each step of a run is given, and the run's time limit.
 pub struct RunSettings {
     pub current_a: f64,
     pub dt: f64,

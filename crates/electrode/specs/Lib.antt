@@ -1,4 +1,4 @@
--- The electrode sheet, from document 01 and electrode.rs.
+-- The electrode sheet, from docs/REFERENCE.md and electrode.rs.
 --
 -- Sheet: the record's ranges, the three ready sheets, the diffusivity at a temperature, the interfacial area.
 -- Curves: the open-circuit potential of the chemistry, and its slope.

@@ -1,4 +1,4 @@
--- The electrolyte, from document 01 and electrolyte.rs.
+-- The electrolyte, from docs/REFERENCE.md and electrolyte.rs.
 --
 -- State: the state's ranges, the mean, the largest stable interval, what a step works with.
 -- Calls: what each public call answers, refusals included.

@@ -1,4 +1,4 @@
--- The electrolyte's parameters, from document 01 and electrolyte.rs.
+-- The electrolyte's parameters, from docs/REFERENCE.md and electrolyte.rs.
 --
 -- Params: the record's ranges, the ready one, the diffusivity and the conductivity at a temperature, bare and in a porous medium.
 -- Calls: what each rate answers, refusals included.

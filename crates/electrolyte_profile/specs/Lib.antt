@@ -1,4 +1,4 @@
--- The electrolyte's profile, from document 01 and electrolyte.rs.
+-- The electrolyte's profile, from docs/REFERENCE.md and electrolyte.rs.
 --
 -- Places: what a profile is checked for, a uniform one, the sum.
 -- Step: a node after a step, and the profile, all from the old one.

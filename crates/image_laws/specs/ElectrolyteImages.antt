@@ -16,7 +16,7 @@ use Rattle.image_laws.specs.Encodable.{EncodableRow}
 use Rattle.image_laws.specs.Rows.{Writes, SameWords, same-part, same-below, same-float, writes-then, writes-word, writes-places, place-read-back, row-read-back, row-same}
 use Rattle.image_laws.specs.Layout.{Layout}
 
--- ---- the salt: seven numbers
+-- ---- the parameters: seven numbers
 abbrev pub electrolyteParamsNumbers : ElectrolyteParams → List Float
 electrolyteParamsNumbers p = p .«d_e_ref» ∷ p .«kappa_ref» ∷ p .«t_plus» ∷ p .bruggeman ∷ p .«c_e_init» ∷ p .«e_a_de» ∷ p .«e_a_kappa» ∷ []
 
@@ -43,7 +43,7 @@ electrolyte-params-read-back s p h k =
     let at : (i : ℕ) → i < 7 → floatAt (putRow s 0 (electrolyteParamsNumbers p)) i ≡ getD (electrolyteParamsNumbers p) i nan = λ i l. place-read-back s 0 (electrolyteParamsNumbers p) h k i i l (omega arith) in
     rw (at 0 (lit≤ tt), at 1 (lit≤ tt), at 2 (lit≤ tt), at 3 (lit≤ tt), at 4 (lit≤ tt), at 5 (lit≤ tt), at 6 (lit≤ tt))
 
--- ---- an electrolyte: the salt, six numbers, three counts, 96 places
+-- ---- an electrolyte: its parameters, six numbers, three counts, 96 places
 pub record EncodableElectrolyte (e : ElectrolyteState) : Type 0 where
   pub cE : EncodableRow (electrolyteParamsNumbers (e .params))
   pub regions : EncodableRow (regionNumbers e)

@@ -1,2 +1,2 @@
--- The kinetics of a single-particle cell: configuration, fluxes, overpotential and voltage, from document 01 and solver.rs.
+-- The kinetics of a single-particle cell: configuration, fluxes, overpotential and voltage, from docs/REFERENCE.md and solver.rs.
 pub mod Kinetics

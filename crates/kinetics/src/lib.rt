@@ -1,4 +1,4 @@
-// The kinetics of a single-particle cell: its configuration, the flux at the particles' walls, the overpotential and the
+// The kinetics of a single-particle cell: its configuration, the flux at the particles' surfaces, the overpotential and the
 // terminal voltage. A changed translation of src/battery/p2d/solver.rs.
 use electrode::ElectrodeParams;
 use particle::surface_theta;
@@ -39,7 +39,7 @@ impl SpmConfig {
     }
 }
 
-// What a molar flux at the walls carries, as a current of the electrode's area: a_s * L * F.
+// What a molar flux at the surfaces carries, as a current of the electrode's area: a_s * L * F.
 pub fn surface_current(p: ElectrodeParams, faraday: f64) -> f64
     ensures { λ r. ⌜ r ≡ surfaceCurrent p faraday ⌝ }
 {

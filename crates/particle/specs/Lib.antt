@@ -1,4 +1,4 @@
--- A particle and the diffusion in it, from document 01 and electrode.rs.
+-- A particle and the diffusion in it, from docs/REFERENCE.md and electrode.rs.
 --
 -- Checks: what a particle that is handed in is checked for.
 -- Particle: spacing, stoichiometries, average, stable interval.

@@ -1,4 +1,4 @@
--- The profile of a particle, from document 01 and electrode.rs.
+-- The profile of a particle, from docs/REFERENCE.md and electrode.rs.
 --
 -- Places: what the places are checked for, and a uniform profile.
 -- Weights: the weights of the average and its two sums.

@@ -1,4 +1,4 @@
--- What the answer of a call that gives a number says, in document 01's terms: the number of the refusal and no value, or 0 and the value.
+-- What the answer of a call that gives a number says, in the terms of docs/REFERENCE.md: the number of the refusal and no value, or 0 and the value.
 -- Definitions, and one law. Assumes nothing.
 use Prim.Native.Nat.{ℕ}
 use mathlib.Core.Path.{_≡_}

@@ -1,4 +1,4 @@
--- What document 01's table of refusals means.
+-- What docs/REFERENCE.md's table of refusals means.
 --
 -- Numbers: the ten numbers by name, the first of two that is met, and what a row that met nothing has passed.
 -- Ranges: the tests on numbers that the rows cite.

@@ -1,4 +1,4 @@
--- The numbers of document 01's table of refusals, and which of several is answered. 0 is no refusal. Assumes nothing.
+-- The numbers of docs/REFERENCE.md's table of refusals, and which of several is answered. 0 is no refusal. Assumes nothing.
 use Prim.Native.Nat.{ℕ, zero, suc, _<_}
 use mathlib.Core.Path.{_≡_, refl}
 use mathlib.Core.Bool.{Bool, true, false, cond}

@@ -1,4 +1,4 @@
--- The tests that the rows of document 01's table cite, in the order of binary64, where no NaN compares. Definitions only.
+-- The tests that the rows of docs/REFERENCE.md's table cite, in the order of binary64, where no NaN compares. Definitions only.
 use Prim.Native.Nat.{ℕ}
 use mathlib.Core.Bool.{Bool, _&&_}
 use lib.Dec.{leb, eqb}

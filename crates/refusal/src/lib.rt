@@ -1,4 +1,4 @@
-// Refusals: the numbers of document 01's table, and the tests that several calls share. A refusal is a number, and 0 is
+// Refusals: the numbers of docs/REFERENCE.md's table, and the tests that several calls share. A refusal is a number, and 0 is
 // none; so a call chains its tests in the table's order and branches once.
 
 ghost use mathlib.Core.Path.{_≡_};

@@ -1,4 +1,4 @@
--- The endings of a run in document 01's words: voltage, time, full, refused, with their numbers here, and a refusal's number. Definitions only.
+-- The endings of a run in docs/REFERENCE.md's words: voltage, time, full, refused, with their numbers here, and a refusal's number. Definitions only.
 use Prim.Native.Nat.{ℕ}
 use mathlib.Core.Bool.{cond}
 use lib.Dec.{eqb}

@@ -1,6 +1,6 @@
 -- Runs into a lent slice, for every kind of cell.
 --
--- Endings: document 01's endings, and what the enum says.
+-- Endings: docs/REFERENCE.md's endings, and what the enum says.
 -- Rows: what stands after k turns of a run, and what the slice then holds.
 -- RunAnswers: when the answer of a run is written.
 -- Laws: how a turn goes on or ends; a run's loop keeps `Going` and leaves by `ends-refused`, `ends-stopped` or `ends-full`.

@@ -1,4 +1,4 @@
--- The single-particle cell, from document 01 and solver.rs.
+-- The single-particle cell, from docs/REFERENCE.md and solver.rs.
 --
 -- Cell: what a cell is checked for, how it is built, its numbers at rest.
 -- Parts: a step on the parts of a cell, its profiles lent.

@@ -91,7 +91,7 @@ module _ (s : SpmSolver) (dt : Float) where
 same : {k n l m : ℕ} {a b : SpmState} {c d : SpmSolver} → k ≡ n → a ≡ b → l ≡ m → c ≡ d → stepBy k a l c ≡ stepBy n b m d
 same e f g h = rw (e, f, g, h)
 
--- the whole answer, by what a step of the parts told
+-- the whole answer, by what a step of the parts answers
 module _ (s : SpmSolver) (i dt t : Float) (r : SpmReported) (a c : List Float) (h : Agrees (stepped s i dt t) r a c) where
   pub answer-kept : (r .refusal ≡ 0 → ⊥) → refusedStep (r .refusal) s ≡ stepped s i dt t
   answer-kept z = rw (h .0) (sym (stepped-ends s dt i t .kept (λ k. z (h .0 ∙ k))))

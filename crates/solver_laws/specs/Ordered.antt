@@ -37,7 +37,7 @@ module _ (b : Grid) where
   ordered-run (Both.more k ks) (Each.more r rs) o = ordered-run ks rs (ordered-step k r o)
 
 module _ {S Q : Type 0} (a : Stepper S Q) where
-  -- the exact scheme, fed accepted calls only
+  -- the exact scheme, given accepted calls only
   unfoldable fed : List Q → List Fraction → List Fraction
   fed [] x = x
   fed (q ∷ qs) x = fed qs (exactRun (a .grid) (a .moves q) x)

@@ -25,7 +25,7 @@ use Rattle.solver_laws.specs.Electrodes.{Electrode, particleAt}
 use Rattle.solver_laws.specs.Closure.{step-refused, step-count}
 use Rattle.solver_laws.specs.Demand.{Call, answer, cellAfter, taken, K, planFor, numbersAt, exactPlace, Inv, itself, stays, same-plan, solver-near}
 
--- ---- what a run feeds each step, and its list of calls: one for each row. A step that is refused ends the run without a row: it leaves the cell as it was, and adds no call.
+-- ---- what a run gives each step, and its list of calls: one for each row. A step that is refused ends the run without a row: it leaves the cell as it was, and adds no call.
 abbrev pub callOf : RunSettings → Call
 callOf w = record { current = w .«current_a»; dt = w .dt; temp = w .«temp_k» }
 

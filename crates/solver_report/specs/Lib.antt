@@ -1,4 +1,4 @@
--- The report of a step of the single-particle cell, from document 01 and solver.rs.
+-- The report of a step of the single-particle cell, from docs/REFERENCE.md and solver.rs.
 --
--- Report: what a particle shows at its wall, and the report from both walls.
+-- Report: what a particle shows at its surface, and the report from both surfaces.
 pub mod Report

@@ -1,4 +1,4 @@
--- The report of a step, from what both particles show at their walls. Definitions only.
+-- The report of a step, from what both particles show at their surfaces. Definitions only.
 use mathlib.Core.Bool.{Bool, false, _&&_, _||_}
 use lib.Ieee.{Float, lt, neg}
 use Rattle.binary64.specs.Operators.{_⊗_}
@@ -11,7 +11,7 @@ use Rattle.kinetics.specs.Kinetics.{overpotential, terminalVoltage}
 use Rattle.solver_report.specs.declared.SpmState.{SpmState}
 use Rattle.solver_report.specs.declared.SurfaceState.{SurfaceState}
 
--- what a particle shows at its wall: stoichiometries, open-circuit potential, overpotential
+-- what a particle shows at its surface: stoichiometries, open-circuit potential, overpotential
 abbrev pub surfaceState : SpmConfig → ParticleDiffusion → Float → Float → SurfaceState
 surfaceState g p j t = record {
   theta = surfaceTheta p;
@@ -32,7 +32,7 @@ reportAt g a c i time v = record {
   cutoff = lt v (g .«v_min») || lt (g .«v_max») v;
 }
 
--- from both walls
+-- from both surfaces
 abbrev pub reportWith : SpmConfig → Float → SurfaceState → SurfaceState → Float → Float → SpmState
 reportWith g density a c i time =
     reportAt g a c i time

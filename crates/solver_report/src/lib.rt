@@ -1,4 +1,4 @@
-// The report of a step of the single-particle cell, from what both particles show at their walls. Of oxigrid's
+// The report of a step of the single-particle cell, from what both particles show at their surfaces. Of oxigrid's
 // src/battery/p2d/solver.rs (`step`), changed.
 use electrode::ElectrodeParams;
 use kinetics::SpmConfig;
@@ -29,7 +29,7 @@ pub struct SpmState {
     pub cutoff: bool,
 }
 
-// What a particle shows at its wall: see `surface_state`.
+// What a particle shows at its surface: see `surface_state`.
 pub struct SurfaceState {
     pub theta: f64,
     pub theta_avg: f64,
@@ -53,7 +53,7 @@ pub fn no_state() -> SpmState
     }
 }
 
-// What a particle after the sub-steps shows at its wall: its stoichiometries, there and on average, its open-circuit
+// What a particle after the sub-steps shows at its surface: its stoichiometries, there and on average, its open-circuit
 // potential, and the overpotential of its flux.
 pub fn surface_state(
     config: SpmConfig,
@@ -74,7 +74,7 @@ pub fn surface_state(
     }
 }
 
-// The report of a step, from both walls.
+// The report of a step, from both surfaces.
 pub fn reported(
     config: SpmConfig,
     i_app: f64,

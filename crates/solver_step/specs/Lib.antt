@@ -1,4 +1,4 @@
--- A step of the single-particle cell on lent profiles, from document 01 and solver.rs.
+-- A step of the single-particle cell on lent profiles, from docs/REFERENCE.md and solver.rs.
 --
 -- Moves: the sub-steps of a plan, then the report.
 pub mod Moves

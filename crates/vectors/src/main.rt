@@ -1,5 +1,5 @@
 // Replays the oracle's answers, a list for each call, through the proved code, and writes how many lines of each agree and how many answers of each call
-// they hold; then runs the bench cells that document 01 says are run only. The lists stand in data/; a line is words of 16 hexadecimal digits, arguments
+// they hold; then runs the worked examples that are run only. The lists stand in data/; a line is words of 16 hexadecimal digits, arguments
 // and answer, with a tab between the two. Each argument names a list: the calls that it has an answer of in every line, '|' after each, and its file.
 mod cells;
 mod discharges;

@@ -1,4 +1,4 @@
-// The bench cells of document 01 that are run only, a line each: what it is, and the number of the refusal, 0 where it passes.
+// The worked examples that are run only, a line each: what it is, and the number of the refusal, 0 where it passes.
 use dfn::DfnSolver;
 use dfn_parameters::DfnConfig;
 use dfn_parameters::DfnParams;
@@ -24,7 +24,7 @@ pub(crate) fn particles() {
     write_number(b"particle of 65 nodes gives ", particle_of(65));
 }
 
-// The ready NMC cell with much salt whose diffusivity falls off steeply, three nodes in the anode.
+// The ready NMC cell with an electrolyte of high concentration whose diffusivity falls off steeply, three nodes in the anode.
 fn salty_cell() -> DfnSolver {
     let mut params = DfnParams::nmc_graphite();
     params.c_e0 = 1e5;

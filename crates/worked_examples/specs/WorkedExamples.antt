@@ -1,4 +1,4 @@
--- The bench cells of document 01, in its order. Each left side is the definition that a contract cites: exp, ln, sqrt, asinh, solve_dense, the plan of a
+-- The worked examples, in the order of the list that asks for them. Each left side is the definition that a contract cites: exp, ln, sqrt, asinh, solve_dense, the plan of a
 -- step and its answer, the weights of the average, update_solid. Assumes nothing.
 use Prim.Native.Nat.{ℕ, _+_, _-_, _^_}
 use mathlib.Core.Path.{_≡_, refl}

@@ -1,1 +1,1 @@
-// The bench cells of document 01 as one theorem, in specs/. No code.
+// The worked examples as one theorem, in specs/. No code.

@@ -1,4 +1,4 @@
--- `electrolyte::ElectrolyteState::drive` meets its contract. Assumes nothing.
+-- `electrolyte::ElectrolyteState::step_params` meets its contract. Assumes nothing.
 use borrow.Author.Needs.{needs}
 use Rattle.electrolyte.specs.State.{stepParams}
 use Rattle.electrolyte.proofs.ElectrolyteState.step_params.Statement.{statement}
