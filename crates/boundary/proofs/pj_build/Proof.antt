@@ -26,7 +26,14 @@ lengths-fit-requires c κs = search needs
 
 returns-2 : tie.Need-returns-2
 unfolding afterLengths buildReturn buildAfter
-returns-2 c = rw (← c .before .before .before .before .before .is-listed .ensures, on (c .before .before .before .before .before .is-listed .result) (c .before .before .before .before .if1 .left), ← c .before .before .before .build-length .ensures, ← c .before .before .built-length .ensures, ← c .before .lengths-fit .ensures, off (c .before .lengths-fit .result) (c .if2 .taken)) (refl, refl)
+returns-2 c =
+    let lengths-fit = c .before .lengths-fit in
+    let built-length = c .before .before .built-length in
+    let build-length = c .before .before .before .build-length in
+    let if1 = c .before .before .before .before .if1 in
+    let is-listed = c .before .before .before .before .before .is-listed in
+    rw (← is-listed .ensures, on (is-listed .result) (if1 .left), ← build-length .ensures, ← built-length .ensures, ← lengths-fit .ensures,
+        off (lengths-fit .result) (c .if2 .taken)) (refl, refl)
 
 put-ready-requires : tie.Need-put-ready-requires
 put-ready-requires c κs = search needs
@@ -36,7 +43,17 @@ same-length c = search needs depth 24
 
 returns-3 : tie.Need-returns-3
 unfolding afterLengths buildReturn buildAfter
-returns-3 c = rw (← c .before .before .before .before .before .before .before .before .before .before .is-listed .ensures, on (c .before .before .before .before .before .before .before .before .before .before .is-listed .result) (c .before .before .before .before .before .before .before .before .before .if1 .left), ← c .before .before .before .before .before .before .before .before .build-length .ensures, ← c .before .before .before .before .before .before .before .built-length .ensures, ← c .before .before .before .before .before .before .lengths-fit .ensures, on (c .before .before .before .before .before .before .lengths-fit .result) (c .before .before .before .before .before .if2 .left), le-leb (c .before .before .before .before .before .before .before .before .before .before .before .before .before .args .call) 6 (omega arith)) (refl, c .before .before .put-ready .ensures)
+returns-3 c =
+    let put-ready = c .before .before .put-ready in
+    let if2 = c .before .before .before .before .before .if2 in
+    let lengths-fit = c .before .before .before .before .before .before .lengths-fit in
+    let built-length = c .before .before .before .before .before .before .before .built-length in
+    let build-length = c .before .before .before .before .before .before .before .before .build-length in
+    let if1 = c .before .before .before .before .before .before .before .before .before .if1 in
+    let is-listed = c .before .before .before .before .before .before .before .before .before .before .is-listed in
+    let args = c .before .before .before .before .before .before .before .before .before .before .before .before .before .args in
+    rw (← is-listed .ensures, on (is-listed .result) (if1 .left), ← build-length .ensures, ← built-length .ensures, ← lengths-fit .ensures, on (lengths-fit .result) (if2 .left),
+        le-leb (args .call) 6 (omega arith)) (refl, put-ready .ensures)
 
 put-new-requires : tie.Need-put-new-requires
 put-new-requires c κs = search needs
@@ -46,7 +63,17 @@ same-length-2 c = search needs depth 24
 
 returns-4 : tie.Need-returns-4
 unfolding afterLengths buildReturn buildAfter
-returns-4 c = rw (← c .before .before .before .before .before .before .before .before .before .before .is-listed .ensures, on (c .before .before .before .before .before .before .before .before .before .before .is-listed .result) (c .before .before .before .before .before .before .before .before .before .if1 .left), ← c .before .before .before .before .before .before .before .before .build-length .ensures, ← c .before .before .before .before .before .before .before .built-length .ensures, ← c .before .before .before .before .before .before .lengths-fit .ensures, on (c .before .before .before .before .before .before .lengths-fit .result) (c .before .before .before .before .before .if2 .left), lt-leb (c .before .before .before .before .before .before .before .before .before .before .before .before .before .args .call) 6 (omega arith)) (c .before .before .put-new .ensures)
+returns-4 c =
+    let put-new = c .before .before .put-new in
+    let if2 = c .before .before .before .before .before .if2 in
+    let lengths-fit = c .before .before .before .before .before .before .lengths-fit in
+    let built-length = c .before .before .before .before .before .before .before .built-length in
+    let build-length = c .before .before .before .before .before .before .before .before .build-length in
+    let if1 = c .before .before .before .before .before .before .before .before .before .if1 in
+    let is-listed = c .before .before .before .before .before .before .before .before .before .before .is-listed in
+    let args = c .before .before .before .before .before .before .before .before .before .before .before .before .before .args in
+    rw (← is-listed .ensures, on (is-listed .result) (if1 .left), ← build-length .ensures, ← built-length .ensures, ← lengths-fit .ensures, on (lengths-fit .result) (if2 .left),
+        lt-leb (args .call) 6 (omega arith)) (put-new .ensures)
 
 pub pj-build-spec : {M : Type 1} → statement M
 pj-build-spec =

@@ -21,7 +21,11 @@ same-length c = search needs depth 24
 
 returns-2 : tie.Need-returns-2
 unfolding afterLengths dfnReturn dfnAfter
-returns-2 c = rw (← c .before .before .before .before .before .lengths-fit .ensures, on (c .before .before .before .before .before .lengths-fit .result) (c .before .before .before .before .if1 .left)) (c .before .before .dfn-step .ensures)
+returns-2 c =
+    let dfn-step = c .before .before .dfn-step in
+    let if1 = c .before .before .before .before .if1 in
+    let lengths-fit = c .before .before .before .before .before .lengths-fit in
+    rw (← lengths-fit .ensures, on (lengths-fit .result) (if1 .left)) (dfn-step .ensures)
 
 pub pj-dfn-step-spec : {M : Type 1} → statement M
 pj-dfn-step-spec =

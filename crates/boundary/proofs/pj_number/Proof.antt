@@ -23,7 +23,12 @@ lengths-fit-requires c κs = search needs
 
 returns-2 : tie.Need-returns-2
 unfolding numberCall putPlaces
-returns-2 c = rw (← c .before .before .before .before .is-listed .ensures, on (c .before .before .before .before .is-listed .result) (c .before .before .before .if1 .left), ← c .before .before .number-length .ensures, ← c .before .lengths-fit .ensures, off (c .before .lengths-fit .result) (c .if2 .taken)) (refl, refl)
+returns-2 c =
+    let lengths-fit = c .before .lengths-fit in
+    let number-length = c .before .before .number-length in
+    let if1 = c .before .before .before .if1 in
+    let is-listed = c .before .before .before .before .is-listed in
+    rw (← is-listed .ensures, on (is-listed .result) (if1 .left), ← number-length .ensures, ← lengths-fit .ensures, off (lengths-fit .result) (c .if2 .taken)) (refl, refl)
 
 number-of-requires : tie.Need-number-of-requires
 number-of-requires c κs = search needs
@@ -42,11 +47,30 @@ same-length c = c .before .before .write-f64 .kept .0
 
 returns-3 : tie.Need-returns-3
 unfolding numberCall
-returns-3 c = rw (← c .before .before .before .before .before .before .before .before .before .before .before .before .is-listed .ensures, on (c .before .before .before .before .before .before .before .before .before .before .before .before .is-listed .result) (c .before .before .before .before .before .before .before .before .before .before .before .if1 .left), ← c .before .before .before .before .before .before .before .before .before .before .number-length .ensures, ← c .before .before .before .before .before .before .before .before .before .lengths-fit .ensures, on (c .before .before .before .before .before .before .before .before .before .lengths-fit .result) (c .before .before .before .before .before .before .before .before .if2 .left)) (value-answered _ _ _ _ (ap outcomeOf (sym (c .before .before .before .before .before .outcome .given .1)) ∙ c .before .before .before .before .before .before .before .number-of .ensures) (c .before .before .write-f64 .ensures))
+returns-3 c =
+    let write-f64 = c .before .before .write-f64 in
+    let outcome = c .before .before .before .before .before .outcome in
+    let number-of = c .before .before .before .before .before .before .before .number-of in
+    let if2 = c .before .before .before .before .before .before .before .before .if2 in
+    let lengths-fit = c .before .before .before .before .before .before .before .before .before .lengths-fit in
+    let number-length = c .before .before .before .before .before .before .before .before .before .before .number-length in
+    let if1 = c .before .before .before .before .before .before .before .before .before .before .before .if1 in
+    let is-listed = c .before .before .before .before .before .before .before .before .before .before .before .before .is-listed in
+    rw (← is-listed .ensures, on (is-listed .result) (if1 .left), ← number-length .ensures, ← lengths-fit .ensures,
+        on (lengths-fit .result) (if2 .left)) (value-answered _ _ _ _ (ap outcomeOf (sym (outcome .given .1)) ∙ number-of .ensures) (write-f64 .ensures))
 
 returns-4 : tie.Need-returns-4
 unfolding numberCall
-returns-4 c = rw (← c .before .before .before .before .before .before .before .before .is-listed .ensures, on (c .before .before .before .before .before .before .before .before .is-listed .result) (c .before .before .before .before .before .before .before .if1 .left), ← c .before .before .before .before .before .before .number-length .ensures, ← c .before .before .before .before .before .lengths-fit .ensures, on (c .before .before .before .before .before .lengths-fit .result) (c .before .before .before .before .if2 .left)) (refusal-answered _ _ _ (ap outcomeOf (sym (c .before .outcome2 .given .1)) ∙ c .before .before .before .number-of .ensures))
+returns-4 c =
+    let outcome2 = c .before .outcome2 in
+    let number-of = c .before .before .before .number-of in
+    let if2 = c .before .before .before .before .if2 in
+    let lengths-fit = c .before .before .before .before .before .lengths-fit in
+    let number-length = c .before .before .before .before .before .before .number-length in
+    let if1 = c .before .before .before .before .before .before .before .if1 in
+    let is-listed = c .before .before .before .before .before .before .before .before .is-listed in
+    rw (← is-listed .ensures, on (is-listed .result) (if1 .left), ← number-length .ensures, ← lengths-fit .ensures,
+        on (lengths-fit .result) (if2 .left)) (refusal-answered _ _ _ (ap outcomeOf (sym (outcome2 .given .1)) ∙ number-of .ensures))
 
 pub pj-number-spec : {M : Type 1} → statement M
 pj-number-spec =

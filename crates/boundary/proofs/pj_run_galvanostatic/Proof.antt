@@ -25,7 +25,11 @@ same-length-2 c = search needs depth 24
 
 returns-2 : tie.Need-returns-2
 unfolding afterLengths galvanostaticReturn galvanostaticRows galvanostaticAfter
-returns-2 c = rw (← c .before .before .before .before .before .before .before .before .lengths-fit .ensures, on (c .before .before .before .before .before .before .before .before .lengths-fit .result) (c .before .before .before .before .before .before .before .if1 .left)) (c .before .before .before .before .run-galvanostatic .ensures)
+returns-2 c =
+    let run-galvanostatic = c .before .before .before .before .run-galvanostatic in
+    let if1 = c .before .before .before .before .before .before .before .if1 in
+    let lengths-fit = c .before .before .before .before .before .before .before .before .lengths-fit in
+    rw (← lengths-fit .ensures, on (lengths-fit .result) (if1 .left)) (run-galvanostatic .ensures)
 
 pub pj-run-galvanostatic-spec : {M : Type 1} → statement M
 pj-run-galvanostatic-spec =

@@ -24,16 +24,28 @@ same-length c = c .before .before .put-stepped .kept .0
 
 returns : tie.Need-returns
 returns c =
-    let a = c .before .before .before .before .before .before .before .before .before .before .before .before .before .before .before .before .before .before .before .args in
+    let put-stepped = c .before .before .put-stepped in
+    let if1 = c .before .before .before .before .before .before .before .before .if1 in
+    let step-in-place = c .before .before .before .before .before .before .before .before .before .step-in-place in
+    let fill-642 = c .before .before .before .before .before .before .before .before .before .before .before .before .fill-642 in
+    let fill-64 = c .before .before .before .before .before .before .before .before .before .before .before .before .before .before .fill-64 in
+    let parts-at = c .before .before .before .before .before .before .before .before .before .before .before .before .before .before .before .before .parts-at in
+    let args = c .before .before .before .before .before .before .before .before .before .before .before .before .before .before .before .before .before .before .before .args in
+    let a = args in
     cell-taken (a .cell .now) (a .answer .now) (a .current-a) (a .dt) (a .temp-k)
-    (c .before .before .before .before .before .before .before .before .before .before .before .before .before .before .before .before .parts-at .result) _ _ (c .before .before .before .before .before .before .before .before .before .before .before .before .before .before .before .before .parts-at .ensures) (c .before .before .before .before .before .before .before .before .before .before .before .before .before .before .fill-64 .ensures) (c .before .before .before .before .before .before .before .before .before .before .before .before .fill-642 .ensures) (c .before .before .before .before .before .before .before .before .before .step-in-place .result) _ _ (c .before .before .before .before .before .before .before .before .before .step-in-place .ensures)
-    _ (c .before .before .before .before .before .before .before .before .if1 .taken) (c .before .before .put-stepped .ensures)
+    (parts-at .result) _ _ (parts-at .ensures) (fill-64 .ensures) (fill-642 .ensures) (step-in-place .result) _ _ (step-in-place .ensures)
+    _ (if1 .taken) (put-stepped .ensures)
 
 returns-2 : tie.Need-returns-2
 returns-2 c =
-    let a = c .before .before .before .before .before .before .before .before .before .before .before .args in
+    let step-in-place = c .before .step-in-place in
+    let fill-642 = c .before .before .before .before .fill-642 in
+    let fill-64 = c .before .before .before .before .before .before .fill-64 in
+    let parts-at = c .before .before .before .before .before .before .before .before .parts-at in
+    let args = c .before .before .before .before .before .before .before .before .before .before .before .args in
+    let a = args in
     cell-left (a .cell .now) (a .answer .now) (a .current-a) (a .dt) (a .temp-k)
-    (c .before .before .before .before .before .before .before .before .parts-at .result) _ _ (c .before .before .before .before .before .before .before .before .parts-at .ensures) (c .before .before .before .before .before .before .fill-64 .ensures) (c .before .before .before .before .fill-642 .ensures) (c .before .step-in-place .result) _ _ (c .before .step-in-place .ensures)
+    (parts-at .result) _ _ (parts-at .ensures) (fill-64 .ensures) (fill-642 .ensures) (step-in-place .result) _ _ (step-in-place .ensures)
     (c .if1 .left)
 
 pub cell-step-spec : {M : Type 1} → statement M

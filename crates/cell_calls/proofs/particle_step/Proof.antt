@@ -21,11 +21,23 @@ same-length c = c .before .before .put-particle .kept .0
 
 returns : tie.Need-returns
 unfolding particleReturn particleAfter
-returns c = accepted (λ (t : ParticleAnswer). t .refusal) (λ (t : ParticleAnswer). putParticle (c .before .before .before .before .before .before .before .before .before .before .args .answer .now) 0 (t .particle)) _ _ _ (rw (c .before .before .before .before .before .before .before .particle-at .ensures) at (c .before .before .before .before .before .before .step .ensures)) _ (c .before .before .before .before .before .if1 .taken) (c .before .before .put-particle .ensures)
+returns c =
+    let put-particle = c .before .before .put-particle in
+    let if1 = c .before .before .before .before .before .if1 in
+    let step = c .before .before .before .before .before .before .step in
+    let particle-at = c .before .before .before .before .before .before .before .particle-at in
+    let args = c .before .before .before .before .before .before .before .before .before .before .args in
+    accepted (λ (t : ParticleAnswer). t .refusal) (λ (t : ParticleAnswer). putParticle (args .answer .now) 0 (t .particle)) _ _ _ (rw (particle-at .ensures) at (step .ensures)) _
+        (if1 .taken) (put-particle .ensures)
 
 returns-2 : tie.Need-returns-2
 unfolding particleReturn particleAfter
-returns-2 c = refused (λ (t : ParticleAnswer). t .refusal) (λ (t : ParticleAnswer). putParticle (c .before .before .before .before .before .args .answer .now) 0 (t .particle)) _ _ _ (rw (c .before .before .particle-at .ensures) at (c .before .step .ensures)) (c .if1 .left)
+returns-2 c =
+    let step = c .before .step in
+    let particle-at = c .before .before .particle-at in
+    let args = c .before .before .before .before .before .args in
+    refused (λ (t : ParticleAnswer). t .refusal) (λ (t : ParticleAnswer). putParticle (args .answer .now) 0 (t .particle)) _ _ _ (rw (particle-at .ensures) at (step .ensures))
+        (c .if1 .left)
 
 pub particle-step-spec : {M : Type 1} → statement M
 particle-step-spec =

@@ -20,10 +20,22 @@ put-report-requires : tie.Need-put-report-requires
 put-report-requires c κs = search needs
 
 same-length : tie.Need-same-length
-same-length c = c .before .before .put-report .kept .0 ∙ c .before .before .before .before .before .before .write-f64 .kept .0 ∙ c .before .before .before .before .before .before .before .before .before .before .put-parts2 .kept .0 ∙ c .before .before .before .before .before .before .before .before .before .before .before .before .before .before .put-parts .kept .0 ∙ c .before .before .before .before .before .before .before .before .before .before .before .before .before .before .before .before .before .before .put-config .kept .0
+same-length c =
+    let put-report = c .before .before .put-report in
+    let write-f64 = c .before .before .before .before .before .before .write-f64 in
+    let put-parts2 = c .before .before .before .before .before .before .before .before .before .before .put-parts2 in
+    let put-parts = c .before .before .before .before .before .before .before .before .before .before .before .before .before .before .put-parts in
+    let put-config = c .before .before .before .before .before .before .before .before .before .before .before .before .before .before .before .before .before .before .put-config in
+    put-report .kept .0 ∙ write-f64 .kept .0 ∙ put-parts2 .kept .0 ∙ put-parts .kept .0 ∙ put-config .kept .0
 
 returns : tie.Need-returns
-returns c = rw (c .before .before .put-report .ensures, c .before .before .before .before .before .before .write-f64 .ensures, c .before .before .before .before .before .before .before .before .before .before .put-parts2 .ensures, c .before .before .before .before .before .before .before .before .before .before .before .before .before .before .put-parts .ensures, c .before .before .before .before .before .before .before .before .before .before .before .before .before .before .before .before .before .before .put-config .ensures)
+returns c =
+    let put-report = c .before .before .put-report in
+    let write-f64 = c .before .before .before .before .before .before .write-f64 in
+    let put-parts2 = c .before .before .before .before .before .before .before .before .before .before .put-parts2 in
+    let put-parts = c .before .before .before .before .before .before .before .before .before .before .before .before .before .before .put-parts in
+    let put-config = c .before .before .before .before .before .before .before .before .before .before .before .before .before .before .before .before .before .before .put-config in
+    rw (put-report .ensures, write-f64 .ensures, put-parts2 .ensures, put-parts .ensures, put-config .ensures)
 
 pub put-stepped-spec : {M : Type 1} → statement M
 put-stepped-spec =

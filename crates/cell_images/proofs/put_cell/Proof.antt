@@ -21,7 +21,12 @@ same-length c = search needs depth 24
 
 returns : tie.Need-returns
 unfolding putCell
-returns c = rw (c .before .before .write-f64 .ensures, c .before .before .before .before .before .before .put-parts2 .ensures, c .before .before .before .before .before .before .before .before .before .before .before .before .before .put-parts .ensures, c .before .before .before .before .before .before .before .before .before .before .before .before .before .before .before .before .before .before .before .before .put-config .ensures)
+returns c =
+    let write-f64 = c .before .before .write-f64 in
+    let put-parts2 = c .before .before .before .before .before .before .put-parts2 in
+    let put-parts = c .before .before .before .before .before .before .before .before .before .before .before .before .before .put-parts in
+    let put-config = c .before .before .before .before .before .before .before .before .before .before .before .before .before .before .before .before .before .before .before .before .put-config in
+    rw (write-f64 .ensures, put-parts2 .ensures, put-parts .ensures, put-config .ensures)
 
 pub put-cell-spec : {M : Type 1} → statement M
 put-cell-spec =

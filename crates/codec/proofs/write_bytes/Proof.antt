@@ -87,7 +87,15 @@ same-length c = search needs depth 24
 
 returns : tie.Need-returns
 unfolding putBytes
-returns c = rw (c .before .before .before .before .before .before .before .low-byte .ensures, c .before .before .before .before .before .before .low-byte2 .ensures, c .before .before .before .before .before .low-byte3 .ensures, c .before .before .before .before .low-byte4 .ensures, c .before .before .before .low-byte5 .ensures, c .before .before .low-byte6 .ensures, c .before .low-byte7 .ensures, c .low-byte8 .ensures)
+returns c =
+    let low-byte7 = c .before .low-byte7 in
+    let low-byte6 = c .before .before .low-byte6 in
+    let low-byte5 = c .before .before .before .low-byte5 in
+    let low-byte4 = c .before .before .before .before .low-byte4 in
+    let low-byte3 = c .before .before .before .before .before .low-byte3 in
+    let low-byte2 = c .before .before .before .before .before .before .low-byte2 in
+    let low-byte = c .before .before .before .before .before .before .before .low-byte in
+    rw (low-byte .ensures, low-byte2 .ensures, low-byte3 .ensures, low-byte4 .ensures, low-byte5 .ensures, low-byte6 .ensures, low-byte7 .ensures, c .low-byte8 .ensures)
 
 pub write-bytes-spec : {M : Type 1} → statement M
 write-bytes-spec =

@@ -25,7 +25,10 @@ same-length c = search needs
 
 returns : tie.Need-returns
 unfolding putWord
-returns c = rw (le-leb (c .before .before .before .before .before .before .args .k * 8 + 8) (length (c .before .before .before .before .before .before .args .s .now)) (omega arith)) (c .before .before .write-bytes .ensures)
+returns c =
+    let write-bytes = c .before .before .write-bytes in
+    let args = c .before .before .before .before .before .before .args in
+    rw (le-leb (args .k * 8 + 8) (length (args .s .now)) (omega arith)) (write-bytes .ensures)
 
 returns-2 : tie.Need-returns-2
 unfolding putWord

@@ -24,7 +24,13 @@ exp-requires-2 c κs = search needs
 
 returns : tie.Need-returns
 unfolding lfpCurve
-returns c = rw (c .exp2 .ensures, c .before .exp .ensures, c .before .before .fourth .ensures, c .before .before .before .cube .ensures, c .before .before .before .before .square .ensures, c .before .before .before .before .before .clamp .ensures)
+returns c =
+    let exp = c .before .exp in
+    let fourth = c .before .before .fourth in
+    let cube = c .before .before .before .cube in
+    let square = c .before .before .before .before .square in
+    let clamp = c .before .before .before .before .before .clamp in
+    rw (c .exp2 .ensures, exp .ensures, fourth .ensures, cube .ensures, square .ensures, clamp .ensures)
 
 pub ocp-lfp-spec : {M : Type 1} → statement M
 ocp-lfp-spec =

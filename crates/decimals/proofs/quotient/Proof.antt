@@ -11,7 +11,11 @@ power-of-ten-requires : tie.Need-power-of-ten-requires
 power-of-ten-requires c κs = search needs
 
 returns : tie.Need-returns
-returns c = rw (c .power-of-ten .ensures, c .before .nearest-u64-to-f64 .ensures) (quotient-is (c .before .before .args .digits) (c .before .before .args .places) (c .before .before .pre .0) (c .before .before .pre .1))
+returns c =
+    let nearest-u64-to-f64 = c .before .nearest-u64-to-f64 in
+    let args = c .before .before .args in
+    let pre = c .before .before .pre in
+    rw (c .power-of-ten .ensures, nearest-u64-to-f64 .ensures) (quotient-is (args .digits) (args .places) (pre .0) (pre .1))
 
 pub quotient-spec : {M : Type 1} → statement M
 quotient-spec = tie.close (tie.spec nearest-u64-to-f64-requires power-of-ten-requires returns)

@@ -19,7 +19,11 @@ loop-holds : tie.Need-loop-holds Inv-loop μ-loop
 loop-holds c = (search needs, rw (range-none 0))
 
 load-row-requires : tie.Need-load-row-requires Inv-loop μ-loop
-load-row-requires c κs = (search needs, (search needs, omega (arith, row-fits (c .before .before .loop .row) (c .before .before .before .before .args .n) (c .before .loop-test .taken))))
+load-row-requires c κs =
+    let loop-test = c .before .loop-test in
+    let loop = c .before .before .loop in
+    let args = c .before .before .before .before .args in
+    (search needs, (search needs, omega (arith, row-fits (loop .row) (args .n) (loop-test .taken))))
 
 add-row : tie.Need-add-row Inv-loop μ-loop
 add-row c = omega arith

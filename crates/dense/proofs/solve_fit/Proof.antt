@@ -20,7 +20,12 @@ answer-requires c κs = search needs
 
 returns : tie.Need-returns
 unfolding solutionRefusal reduced loaded firstRefusal answer
-returns c = rw (← c .before .before .before .before .before .before .before .load-matrix .ensures, ← c .before .before .before .before .before .load-side .ensures, ← c .before .before .eliminate .ensures, ne-eqb _ _ (c .before .if1 .taken), c .answer .ensures, ne-eqb _ _ (c .before .if1 .taken))
+returns c =
+    let if1 = c .before .if1 in
+    let eliminate = c .before .before .eliminate in
+    let load-side = c .before .before .before .before .before .load-side in
+    let load-matrix = c .before .before .before .before .before .before .before .load-matrix in
+    rw (← load-matrix .ensures, ← load-side .ensures, ← eliminate .ensures, ne-eqb _ _ (if1 .taken), c .answer .ensures, ne-eqb _ _ (if1 .taken))
 
 substitute-requires : tie.Need-substitute-requires
 substitute-requires c κs = search needs
@@ -39,7 +44,17 @@ answer-requires-2 c κs = search needs
 
 returns-2 : tie.Need-returns-2
 unfolding solutionRefusal solution reduced loaded firstRefusal
-returns-2 c = rw (← c .before .before .before .before .before .before .before .before .before .before .before .before .before .before .load-matrix .ensures, ← c .before .before .before .before .before .before .before .before .before .before .before .before .load-side .ensures, ← c .before .before .before .before .before .before .before .before .before .eliminate .ensures, c .before .before .before .before .before .before .before .before .if1 .left, ← c .before .before .before .before .before .substitute .ensures, c .answer2 .ensures, c .before .first-refusal .ensures, c .before .before .refusal-unless .ensures, c .before .before .before .solution-finite .ensures)
+returns-2 c =
+    let first-refusal = c .before .first-refusal in
+    let refusal-unless = c .before .before .refusal-unless in
+    let solution-finite = c .before .before .before .solution-finite in
+    let substitute = c .before .before .before .before .before .substitute in
+    let if1 = c .before .before .before .before .before .before .before .before .if1 in
+    let eliminate = c .before .before .before .before .before .before .before .before .before .eliminate in
+    let load-side = c .before .before .before .before .before .before .before .before .before .before .before .before .load-side in
+    let load-matrix = c .before .before .before .before .before .before .before .before .before .before .before .before .before .before .load-matrix in
+    rw (← load-matrix .ensures, ← load-side .ensures, ← eliminate .ensures, if1 .left, ← substitute .ensures, c .answer2 .ensures, first-refusal .ensures, refusal-unless .ensures,
+        solution-finite .ensures)
 
 pub solve-fit-spec : {M : Type 1} → statement M
 solve-fit-spec =

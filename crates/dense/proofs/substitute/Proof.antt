@@ -40,7 +40,11 @@ abs-requires c κs = search needs
 
 returns : tie.Need-returns Inv-loop μ-loop
 unfolding substituted columnSolved
-returns c = try-ends _ _ _ (c .before .before .before .before .loop .k) _ _ (c .before .before .before .loop-test .taken) (λ z. absurd (omega (arith, z))) (c .before .before .before .before .loop .inv .1) (rw (← c .before .abs .ensures, c .if1 .taken))
+returns c =
+    let abs = c .before .abs in
+    let loop-test = c .before .before .before .loop-test in
+    let loop = c .before .before .before .before .loop in
+    try-ends _ _ _ (loop .k) _ _ (loop-test .taken) (λ z. absurd (omega (arith, z))) (loop .inv .1) (rw (← abs .ensures, c .if1 .taken))
 
 mul-x : tie.Need-mul-x Inv-loop μ-loop
 mul-x c = omega arith
@@ -65,7 +69,11 @@ loop-less c = search needs
 
 loop-again : tie.Need-loop-again Inv-loop μ-loop
 unfolding columnSolved
-loop-again c = (search needs, rw (try-next _ _ _ _ (c .before .before .before .before .before .before .before .loop .inv .1), ← c .before .before .before .before .abs .ensures, c .before .before .before .if1 .left, c .take-out .ensures))
+loop-again c =
+    let if1 = c .before .before .before .if1 in
+    let abs = c .before .before .before .before .abs in
+    let loop = c .before .before .before .before .before .before .before .loop in
+    (search needs, rw (try-next _ _ _ _ (loop .inv .1), ← abs .ensures, if1 .left, c .take-out .ensures))
 
 returns-2 : tie.Need-returns-2 Inv-loop μ-loop
 unfolding substituted

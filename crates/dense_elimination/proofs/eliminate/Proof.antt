@@ -27,7 +27,10 @@ abbrev μ-columns : tie.MeasureT-columns
 
 -- a turn of the search leaves the pivot of one row more
 larger-is : (c : tie.After-larger Inv-loop μ-loop Inv-columns μ-columns) → c .larger .result ≡ pivotOf (c .before .before .before .before .before .before .before .before .columns .a) (c .before .before .before .before .before .before .before .before .columns .col) (c .before .before .before .before .loop .row + 1)
-larger-is c = rw (c .larger .ensures, c .before .candidate2 .ensures, c .before .before .before .before .loop .inv .1 .1 .1 .0) (pivot-next _ _ _ (c .before .before .before .before .loop .inv .0))
+larger-is c =
+    let candidate2 = c .before .candidate2 in
+    let loop = c .before .before .before .before .loop in
+    rw (c .larger .ensures, candidate2 .ensures, loop .inv .1 .1 .1 .0) (pivot-next _ _ _ (loop .inv .0))
 
 columns-holds : tie.Need-columns-holds Inv-loop μ-loop Inv-columns μ-columns
 columns-holds c = (search needs, (refl, rw try-none))
@@ -54,12 +57,17 @@ loop-less : tie.Need-loop-less Inv-loop μ-loop Inv-columns μ-columns
 loop-less c = search needs
 
 loop-again : tie.Need-loop-again Inv-loop μ-loop Inv-columns μ-columns
-loop-again c = (search needs, (search needs, (c .before .before .before .before .before .loop .inv .1 .1 .0, (larger-is (c .before), ⊎-elim (λ w. λ e. w .2 .left) (λ w. λ e. absurd (w .left e)) (c .if1 .came)))))
+loop-again c =
+    let loop = c .before .before .before .before .before .loop in
+    (search needs, (search needs, (loop .inv .1 .1 .0, (larger-is (c .before), ⊎-elim (λ w. λ e. w .2 .left) (λ w. λ e. absurd (w .left e)) (c .if1 .came)))))
 
 take-pivot-requires : tie.Need-take-pivot-requires Inv-loop μ-loop Inv-columns μ-columns
 take-pivot-requires c κs =
-    let e : c .before .before .before .loop .row ≡ c .before .before .before .before .before .before .before .before .args .n = omega arith in
-    (search needs, (rw (c .before .before .before .loop .inv .1 .1 .1 .0, e) (pivot-row _ _ _ (c .before .before .before .before .before .before .columns-test .taken)), search needs))
+    let loop = c .before .before .before .loop in
+    let columns-test = c .before .before .before .before .before .before .columns-test in
+    let args = c .before .before .before .before .before .before .before .before .args in
+    let e : loop .row ≡ args .n = omega arith in
+    (search needs, (rw (loop .inv .1 .1 .1 .0, e) (pivot-row _ _ _ (columns-test .taken)), search needs))
 
 add-col : tie.Need-add-col Inv-loop μ-loop Inv-columns μ-columns
 add-col c = omega arith
@@ -69,8 +77,13 @@ columns-less c = search needs
 
 columns-again : tie.Need-columns-again Inv-loop μ-loop Inv-columns μ-columns
 columns-again c =
-    let e : c .before .before .before .before .loop .row ≡ c .before .before .before .before .before .before .before .before .before .args .n = omega arith in
-    (search needs, (c .before .before .before .before .loop .inv .1 .1 .0, rw (c .take-pivot .ensures) (sym (try-next _ _ _ _ (c .before .before .before .before .before .before .before .before .columns .inv .1 .1) ∙ column-some _ _ (system (c .before .before .before .before .before .before .before .before .columns .a) (c .before .before .before .before .before .before .before .before .columns .x)) _ (rw e at (c .before .before .before .before .loop .inv .1 .1 .1 .0)) (c .before .before .before .before .loop .inv .1 .1 .1 .1 e)))))
+    let loop = c .before .before .before .before .loop in
+    let columns = c .before .before .before .before .before .before .before .before .columns in
+    let args = c .before .before .before .before .before .before .before .before .before .args in
+    let e : loop .row ≡ args .n = omega arith in
+    (search needs, (loop .inv .1 .1 .0,
+        rw (c .take-pivot .ensures) (sym (try-next _ _ _ _ (columns .inv .1 .1) ∙ column-some _ _ (system (columns .a) (columns .x)) _ (rw e at (loop .inv .1 .1 .1 .0))
+        (loop .inv .1 .1 .1 .1 e)))))
 
 returns : tie.Need-returns Inv-loop μ-loop Inv-columns μ-columns
 unfolding eliminated
@@ -81,8 +94,12 @@ returns c =
 returns-2 : tie.Need-returns-2 Inv-loop μ-loop Inv-columns μ-columns
 unfolding eliminated
 returns-2 c =
-    try-ends _ _ _ (c .before .before .before .before .before .before .before .before .before .before .before .columns .col) _ _ (c .before .before .before .before .before .before .before .before .before .before .columns-test .taken) (λ z. absurd (omega (arith, z))) (c .before .before .before .before .before .before .before .before .before .before .before .columns .inv .1 .1)
-    (column-none _ _ (system (c .before .before .before .before .before .before .before .before .before .before .before .columns .a) (c .before .before .before .before .before .before .before .before .before .before .before .columns .x)) _ (rw (c .before .before .if1 .taken) at (larger-is (c .before .before .before))) (c .if2 .taken))
+    let before = c .before .before .before in
+    let if1 = c .before .before .if1 in
+    let columns-test = c .before .before .before .before .before .before .before .before .before .before .columns-test in
+    let columns = c .before .before .before .before .before .before .before .before .before .before .before .columns in
+    try-ends _ _ _ (columns .col) _ _ (columns-test .taken) (λ z. absurd (omega (arith, z))) (columns .inv .1 .1)
+    (column-none _ _ (system (columns .a) (columns .x)) _ (rw (if1 .taken) at (larger-is (before))) (c .if2 .taken))
 
 pub eliminate-spec : {M : Type 1} → statement M
 eliminate-spec =

@@ -19,7 +19,12 @@ first-refusal-requires : tie.Need-first-refusal-requires
 first-refusal-requires c κs = search needs
 
 returns : tie.Need-returns
-returns c = rw (c .first-refusal .ensures, c .before .refusal-unless2 .ensures, c .before .before .interval-fits .ensures, c .before .before .before .refusal-unless .ensures, c .before .before .before .before .load-fits .ensures)
+returns c =
+    let refusal-unless2 = c .before .refusal-unless2 in
+    let interval-fits = c .before .before .interval-fits in
+    let refusal-unless = c .before .before .before .refusal-unless in
+    let load-fits = c .before .before .before .before .load-fits in
+    rw (c .first-refusal .ensures, refusal-unless2 .ensures, interval-fits .ensures, refusal-unless .ensures, load-fits .ensures)
 
 pub load-refusal-spec : {M : Type 1} → statement M
 load-refusal-spec =

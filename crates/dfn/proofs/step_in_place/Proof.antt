@@ -14,10 +14,14 @@ fit : (c : tie.Else1)
     → Valid (cellOf (given c .args .p) (given c .args .g) (given c .args .time-s) (given c .args .neg .now) (given c .args .pos .now) (given c .args .c-e .now)
     (given c .args .time-s) (given c .args .time-s) (given c .args .time-s) (given c .args .time-s))
 fit c =
+    let first-refusal = c .before .first-refusal in
+    let load-refusal = c .before .before .load-refusal in
+    let cell-refusal = c .before .before .before .cell-refusal in
     let s = given c .args in
-    let cell = c .before .before .before .cell-refusal in
-    let first = c .before .first-refusal in
-    valid (s .p) (s .g) (s .time-s) (s .neg .now) (s .pos .now) (s .c-e .now) (s .current) (s .dt) (cell .result) (c .before .before .load-refusal .result) (first .result) (cell .ensures) (first .ensures) (c .if1 .left)
+    let cell = cell-refusal in
+    let first = first-refusal in
+    valid (s .p) (s .g) (s .time-s) (s .neg .now) (s .pos .now) (s .c-e .now) (s .current) (s .dt) (cell .result) (load-refusal .result) (first .result) (cell .ensures)
+        (first .ensures) (c .if1 .left)
 
 cell-refusal-requires : tie.Need-cell-refusal-requires
 cell-refusal-requires c κs = search needs
@@ -33,12 +37,18 @@ no-report-requires c κs = search needs
 
 returns : tie.Need-returns
 returns c =
-    let s = c .before .before .before .before .before .before .before .before .args in
-    let cell = c .before .before .before .before .cell-refusal in
-    let load = c .before .before .before .load-refusal in
-    let first = c .before .before .first-refusal in
-    refused-step (s .p) (s .g) (s .time-s) (s .neg .now) (s .pos .now) (s .c-e .now) (s .current) (s .dt) (cell .result) (load .result) (first .result) (cell .ensures) (first .ensures) (load .ensures)
-    (c .before .if1 .taken) (c .no-report .result) (c .no-report .ensures)
+    let if1 = c .before .if1 in
+    let first-refusal = c .before .before .first-refusal in
+    let load-refusal = c .before .before .before .load-refusal in
+    let cell-refusal = c .before .before .before .before .cell-refusal in
+    let args = c .before .before .before .before .before .before .before .before .args in
+    let s = args in
+    let cell = cell-refusal in
+    let load = load-refusal in
+    let first = first-refusal in
+    refused-step (s .p) (s .g) (s .time-s) (s .neg .now) (s .pos .now) (s .c-e .now) (s .current) (s .dt) (cell .result) (load .result) (first .result) (cell .ensures)
+        (first .ensures) (load .ensures)
+    (if1 .taken) (c .no-report .result) (c .no-report .ensures)
 
 anode-requires : tie.Need-anode-requires
 anode-requires c κs = search needs

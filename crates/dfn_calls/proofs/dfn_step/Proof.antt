@@ -33,17 +33,35 @@ same-length c = c .before .before .put-stepped .kept .0
 
 returns : tie.Need-returns
 returns c =
-    let a = c .before .before .before .before .before .before .before .before .before .before .before .before .before .before .before .before .before .before .before .before .before .before .before .before .args in
-    step-taken (a .cell .now) (a .answer .now) (a .current-a) (a .dt-s) (c .before .before .before .before .before .before .before .before .before .before .before .before .before .before .before .before .before .before .before .before .before .params-at .result) (c .before .before .before .before .before .before .before .before .before .before .before .before .before .before .before .before .before .before .before .before .config-at .result) (c .before .before .before .before .before .before .before .before .before .before .before .before .before .before .before .before .before .before .before .read-f64 .result) _ _ _
-    (c .before .before .before .before .before .before .before .before .before .before .before .before .before .before .before .before .before .before .before .before .before .params-at .ensures) (c .before .before .before .before .before .before .before .before .before .before .before .before .before .before .before .before .before .before .before .before .config-at .ensures) (c .before .before .before .before .before .before .before .before .before .before .before .before .before .before .before .before .before .before .before .read-f64 .ensures) (c .before .before .before .before .before .before .before .before .before .before .before .before .before .before .before .before .before .fill-512 .ensures) (c .before .before .before .before .before .before .before .before .before .before .before .before .before .before .before .fill-5122 .ensures) (c .before .before .before .before .before .before .before .before .before .before .before .before .before .fill-33 .ensures)
-    (c .before .before .before .before .before .before .before .before .before .step-in-place .result) _ _ _ (c .before .before .before .before .before .before .before .before .before .step-in-place .ensures) _ (c .before .before .before .before .before .before .before .before .if1 .taken) (c .before .before .put-stepped .ensures)
+    let put-stepped = c .before .before .put-stepped in
+    let if1 = c .before .before .before .before .before .before .before .before .if1 in
+    let step-in-place = c .before .before .before .before .before .before .before .before .before .step-in-place in
+    let fill-33 = c .before .before .before .before .before .before .before .before .before .before .before .before .before .fill-33 in
+    let fill-5122 = c .before .before .before .before .before .before .before .before .before .before .before .before .before .before .before .fill-5122 in
+    let fill-512 = c .before .before .before .before .before .before .before .before .before .before .before .before .before .before .before .before .before .fill-512 in
+    let read-f64 = c .before .before .before .before .before .before .before .before .before .before .before .before .before .before .before .before .before .before .before .read-f64 in
+    let config-at = c .before .before .before .before .before .before .before .before .before .before .before .before .before .before .before .before .before .before .before .before .config-at in
+    let params-at = c .before .before .before .before .before .before .before .before .before .before .before .before .before .before .before .before .before .before .before .before .before .params-at in
+    let args = c .before .before .before .before .before .before .before .before .before .before .before .before .before .before .before .before .before .before .before .before .before .before .before .before .args in
+    let a = args in
+    step-taken (a .cell .now) (a .answer .now) (a .current-a) (a .dt-s) (params-at .result) (config-at .result) (read-f64 .result) _ _ _
+    (params-at .ensures) (config-at .ensures) (read-f64 .ensures) (fill-512 .ensures) (fill-5122 .ensures) (fill-33 .ensures)
+    (step-in-place .result) _ _ _ (step-in-place .ensures) _ (if1 .taken) (put-stepped .ensures)
 
 returns-2 : tie.Need-returns-2
 returns-2 c =
-    let a = c .before .before .before .before .before .before .before .before .before .before .before .before .before .before .before .before .args in
-    step-left (a .cell .now) (a .answer .now) (a .current-a) (a .dt-s) (c .before .before .before .before .before .before .before .before .before .before .before .before .before .params-at .result) (c .before .before .before .before .before .before .before .before .before .before .before .before .config-at .result) (c .before .before .before .before .before .before .before .before .before .before .before .read-f64 .result) _ _ _
-    (c .before .before .before .before .before .before .before .before .before .before .before .before .before .params-at .ensures) (c .before .before .before .before .before .before .before .before .before .before .before .before .config-at .ensures) (c .before .before .before .before .before .before .before .before .before .before .before .read-f64 .ensures) (c .before .before .before .before .before .before .before .before .before .fill-512 .ensures) (c .before .before .before .before .before .before .before .fill-5122 .ensures) (c .before .before .before .before .before .fill-33 .ensures)
-    (c .before .step-in-place .result) _ _ _ (c .before .step-in-place .ensures) (c .if1 .left)
+    let step-in-place = c .before .step-in-place in
+    let fill-33 = c .before .before .before .before .before .fill-33 in
+    let fill-5122 = c .before .before .before .before .before .before .before .fill-5122 in
+    let fill-512 = c .before .before .before .before .before .before .before .before .before .fill-512 in
+    let read-f64 = c .before .before .before .before .before .before .before .before .before .before .before .read-f64 in
+    let config-at = c .before .before .before .before .before .before .before .before .before .before .before .before .config-at in
+    let params-at = c .before .before .before .before .before .before .before .before .before .before .before .before .before .params-at in
+    let args = c .before .before .before .before .before .before .before .before .before .before .before .before .before .before .before .before .args in
+    let a = args in
+    step-left (a .cell .now) (a .answer .now) (a .current-a) (a .dt-s) (params-at .result) (config-at .result) (read-f64 .result) _ _ _
+    (params-at .ensures) (config-at .ensures) (read-f64 .ensures) (fill-512 .ensures) (fill-5122 .ensures) (fill-33 .ensures)
+    (step-in-place .result) _ _ _ (step-in-place .ensures) (c .if1 .left)
 
 pub dfn-step-spec : {M : Type 1} → statement M
 dfn-step-spec =

@@ -21,11 +21,23 @@ same-length c = c .before .before .put-electrolyte .kept .0
 
 returns : tie.Need-returns
 unfolding electrolyteReturn electrolyteAfter
-returns c = accepted (λ (t : ElectrolyteAnswer). t .refusal) (λ (t : ElectrolyteAnswer). putElectrolyte (c .before .before .before .before .before .before .before .before .before .before .args .answer .now) (t .state)) _ _ _ (rw (c .before .before .before .before .before .before .before .electrolyte-at .ensures) at (c .before .before .before .before .before .before .step-concentration .ensures)) _ (c .before .before .before .before .before .if1 .taken) (c .before .before .put-electrolyte .ensures)
+returns c =
+    let put-electrolyte = c .before .before .put-electrolyte in
+    let if1 = c .before .before .before .before .before .if1 in
+    let step-concentration = c .before .before .before .before .before .before .step-concentration in
+    let electrolyte-at = c .before .before .before .before .before .before .before .electrolyte-at in
+    let args = c .before .before .before .before .before .before .before .before .before .before .args in
+    accepted (λ (t : ElectrolyteAnswer). t .refusal) (λ (t : ElectrolyteAnswer). putElectrolyte (args .answer .now) (t .state)) _ _ _ (rw (electrolyte-at .ensures) at
+        (step-concentration .ensures)) _ (if1 .taken) (put-electrolyte .ensures)
 
 returns-2 : tie.Need-returns-2
 unfolding electrolyteReturn electrolyteAfter
-returns-2 c = refused (λ (t : ElectrolyteAnswer). t .refusal) (λ (t : ElectrolyteAnswer). putElectrolyte (c .before .before .before .before .before .args .answer .now) (t .state)) _ _ _ (rw (c .before .before .electrolyte-at .ensures) at (c .before .step-concentration .ensures)) (c .if1 .left)
+returns-2 c =
+    let step-concentration = c .before .step-concentration in
+    let electrolyte-at = c .before .before .electrolyte-at in
+    let args = c .before .before .before .before .before .args in
+    refused (λ (t : ElectrolyteAnswer). t .refusal) (λ (t : ElectrolyteAnswer). putElectrolyte (args .answer .now) (t .state)) _ _ _ (rw (electrolyte-at .ensures) at
+        (step-concentration .ensures)) (c .if1 .left)
 
 pub electrolyte-step-spec : {M : Type 1} → statement M
 electrolyte-step-spec =

@@ -14,10 +14,18 @@ put-report-requires : tie.Need-put-report-requires
 put-report-requires c κs = search needs
 
 same-length : tie.Need-same-length
-same-length c = c .before .before .put-report .kept .0 ∙ c .before .before .before .before .before .before .put-last .kept .0 ∙ c .before .before .before .before .before .before .before .before .before .before .put-places .kept .0
+same-length c =
+    let put-report = c .before .before .put-report in
+    let put-last = c .before .before .before .before .before .before .put-last in
+    let put-places = c .before .before .before .before .before .before .before .before .before .before .put-places in
+    put-report .kept .0 ∙ put-last .kept .0 ∙ put-places .kept .0
 
 returns : tie.Need-returns
-returns c = rw (c .before .before .put-report .ensures, c .before .before .before .before .before .before .put-last .ensures, c .before .before .before .before .before .before .before .before .before .before .put-places .ensures)
+returns c =
+    let put-report = c .before .before .put-report in
+    let put-last = c .before .before .before .before .before .before .put-last in
+    let put-places = c .before .before .before .before .before .before .before .before .before .before .put-places in
+    rw (put-report .ensures, put-last .ensures, put-places .ensures)
 
 pub put-stepped-spec : {M : Type 1} → statement M
 put-stepped-spec =

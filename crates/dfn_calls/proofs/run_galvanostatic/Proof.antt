@@ -36,11 +36,20 @@ same-length-2 c = search needs depth 24
 returns : tie.Need-returns
 unfolding galvanostaticReturn galvanostaticRows galvanostaticAfter
 returns c =
+    let put-ending = c .before .before .put-ending in
+    let ending-number = c .before .before .before .ending-number in
+    let put-cell = c .before .before .before .before .before .before .before .put-cell in
+    let if1 = c .before .before .before .before .before .before .before .before .before .before .if1 in
+    let ending-refusal = c .before .before .before .before .before .before .before .before .before .before .before .ending-refusal in
+    let run-galvanostatic = c .before .before .before .before .before .before .before .before .before .before .before .before .before .before .run-galvanostatic in
+    let cell-at = c .before .before .before .before .before .before .before .before .before .before .before .before .before .before .before .before .cell-at in
+    let args = c .before .before .before .before .before .before .before .before .before .before .before .before .before .before .before .before .before .before .before .before .args in
     let p =
-    run-written (λ (t : RunOutcome). t .ended .refusal) (λ (t : RunOutcome). t .rows) (λ (t : RunOutcome). putEnding (putCell (c .before .before .before .before .before .before .before .before .before .before .before .before .before .before .before .before .before .before .before .before .args .answer .now) (t .cell)) 1126 (t .ended .ending) (t .rows)) _ _ _
-    (rw (c .before .before .before .before .before .before .before .before .before .before .before .before .before .before .before .before .cell-at .ensures) at (c .before .before .before .before .before .before .before .before .before .before .before .before .before .before .run-galvanostatic .ensures .0))
-    _ (rw (c .before .before .before .before .before .before .before .before .before .before .before .ending-refusal .ensures) at (c .before .before .before .before .before .before .before .before .before .before .if1 .taken)) (rw (c .before .before .before .before .before .before .before .put-cell .ensures, c .before .before .before .ending-number .ensures) at (c .before .before .put-ending .ensures)) in
-    (c .before .before .before .before .before .before .before .before .before .before .before .ending-refusal .ensures ∙ p .0, (rw (c .before .before .before .before .before .before .before .before .before .before .before .before .before .before .before .before .cell-at .ensures) at (c .before .before .before .before .before .before .before .before .before .before .before .before .before .before .run-galvanostatic .ensures .1), p .1))
+    run-written (λ (t : RunOutcome). t .ended .refusal) (λ (t : RunOutcome). t .rows) (λ (t : RunOutcome). putEnding (putCell (args .answer .now) (t .cell)) 1126
+        (t .ended .ending) (t .rows)) _ _ _
+    (rw (cell-at .ensures) at (run-galvanostatic .ensures .0))
+    _ (rw (ending-refusal .ensures) at (if1 .taken)) (rw (put-cell .ensures, ending-number .ensures) at (put-ending .ensures)) in
+    (ending-refusal .ensures ∙ p .0, (rw (cell-at .ensures) at (run-galvanostatic .ensures .1), p .1))
 
 same-length-3 : tie.Need-same-length-3
 same-length-3 c = search needs depth 24
@@ -48,11 +57,16 @@ same-length-3 c = search needs depth 24
 returns-2 : tie.Need-returns-2
 unfolding galvanostaticReturn galvanostaticRows galvanostaticAfter
 returns-2 c =
+    let ending-refusal = c .before .ending-refusal in
+    let run-galvanostatic = c .before .before .before .before .run-galvanostatic in
+    let cell-at = c .before .before .before .before .before .before .cell-at in
+    let args = c .before .before .before .before .before .before .before .before .before .before .args in
     let p =
-    run-kept (λ (t : RunOutcome). t .ended .refusal) (λ (t : RunOutcome). t .rows) (λ (t : RunOutcome). putEnding (putCell (c .before .before .before .before .before .before .before .before .before .before .args .answer .now) (t .cell)) 1126 (t .ended .ending) (t .rows)) _ _ _
-    (rw (c .before .before .before .before .before .before .cell-at .ensures) at (c .before .before .before .before .run-galvanostatic .ensures .0))
-    (rw (c .before .ending-refusal .ensures) at (c .if1 .left)) in
-    (c .before .ending-refusal .ensures ∙ p .0, (rw (c .before .before .before .before .before .before .cell-at .ensures) at (c .before .before .before .before .run-galvanostatic .ensures .1), p .1))
+    run-kept (λ (t : RunOutcome). t .ended .refusal) (λ (t : RunOutcome). t .rows) (λ (t : RunOutcome). putEnding (putCell (args .answer .now) (t .cell)) 1126 (t .ended .ending)
+        (t .rows)) _ _ _
+    (rw (cell-at .ensures) at (run-galvanostatic .ensures .0))
+    (rw (ending-refusal .ensures) at (c .if1 .left)) in
+    (ending-refusal .ensures ∙ p .0, (rw (cell-at .ensures) at (run-galvanostatic .ensures .1), p .1))
 
 pub run-galvanostatic-spec : {M : Type 1} → statement M
 run-galvanostatic-spec =

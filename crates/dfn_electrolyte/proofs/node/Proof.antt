@@ -27,7 +27,9 @@ add-if2-3 : tie.Need-add-if2-3
 add-if2-3 c = omega arith
 
 moved-requires-2 : tie.Need-moved-requires-2
-moved-requires-2 c κs = let h = both-less (c .before .before .before .before .before .before .args .neg .n) (c .before .before .before .before .before .before .args .i) (c .before .before .before .before .before .before .args .i + 1) (c .before .before .before .before .before .before .args .neg .n + 1 + c .before .before .before .before .before .before .args .pos .n) (c .if2 .taken) in
+moved-requires-2 c κs =
+    let args = c .before .before .before .before .before .before .args in
+    let h = both-less (args .neg .n) (args .i) (args .i + 1) (args .neg .n + 1 + args .pos .n) (c .if2 .taken) in
     (omega (arith, h .0), omega (arith, h .1))
 
 returns-2 : tie.Need-returns-2

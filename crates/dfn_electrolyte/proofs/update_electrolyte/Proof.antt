@@ -40,7 +40,17 @@ nodes-requires c κs = rw (c .before .before .before .before .before .region-of 
 
 returns : tie.Need-returns
 unfolding electrolyteAfter
-returns c = rw (c .nodes .ensures, c .before .before .diffusivities .ensures, c .before .before .before .diffusivity-params .ensures, c .before .before .before .before .region-of2 .ensures, c .before .before .before .before .before .before .region-of .ensures, c .before .before .before .before .before .pore-flux2 .ensures, c .before .before .before .before .before .before .before .pore-flux .ensures, c .before .before .before .before .before .before .before .before .cathode .ensures, c .before .before .before .before .before .before .before .before .before .anode .ensures)
+returns c =
+    let diffusivities = c .before .before .diffusivities in
+    let diffusivity-params = c .before .before .before .diffusivity-params in
+    let region-of2 = c .before .before .before .before .region-of2 in
+    let pore-flux2 = c .before .before .before .before .before .pore-flux2 in
+    let region-of = c .before .before .before .before .before .before .region-of in
+    let pore-flux = c .before .before .before .before .before .before .before .pore-flux in
+    let cathode = c .before .before .before .before .before .before .before .before .cathode in
+    let anode = c .before .before .before .before .before .before .before .before .before .anode in
+    rw (c .nodes .ensures, diffusivities .ensures, diffusivity-params .ensures, region-of2 .ensures, region-of .ensures, pore-flux2 .ensures, pore-flux .ensures, cathode .ensures,
+        anode .ensures)
 
 pub update-electrolyte-spec : {M : Type 1} → statement M
 update-electrolyte-spec =

@@ -23,12 +23,17 @@ same-length c = search needs depth 32
 
 returns : tie.Need-returns
 returns c =
+    let write-places3 = c .before .before .write-places3 in
+    let write-places2 = c .before .before .before .before .before .before .before .write-places2 in
+    let write-places = c .before .before .before .before .before .before .before .before .before .before .before .before .write-places in
+    let put-config = c .before .before .before .before .before .before .before .before .before .before .before .before .before .before .before .before .before .put-config in
+    let put-params = c .before .before .before .before .before .before .before .before .before .before .before .before .before .before .before .before .before .before .before .before .before .put-params in
     rw (
-      c .before .before .write-places3 .ensures,
-      c .before .before .before .before .before .before .before .write-places2 .ensures,
-      c .before .before .before .before .before .before .before .before .before .before .before .before .write-places .ensures,
-      c .before .before .before .before .before .before .before .before .before .before .before .before .before .before .before .before .before .put-config .ensures,
-      c .before .before .before .before .before .before .before .before .before .before .before .before .before .before .before .before .before .before .before .before .before .put-params .ensures,
+      write-places3 .ensures,
+      write-places2 .ensures,
+      write-places .ensures,
+      put-config .ensures,
+      put-params .ensures,
     )
 
 pub put-places-spec : {M : Type 1} → statement M

@@ -37,7 +37,10 @@ loop-less c = search needs
 
 loop-again : tie.Need-loop-again Inv-loop μ-loop
 unfolding solidFitsTo allBelow placeFits
-loop-again c = (search needs, (search needs, λ x h. rw (add-one, le-ltb (c .before .before .before .loop .i) (c .before .before .before .before .args .n) (omega arith), c .plus-zero .ensures, c .before .before .before .loop .inv .1 .1 x h)))
+loop-again c =
+    let loop = c .before .before .before .loop in
+    let args = c .before .before .before .before .args in
+    (search needs, (search needs, λ x h. rw (add-one, le-ltb (loop .i) (args .n) (omega arith), c .plus-zero .ensures, loop .inv .1 .1 x h)))
 
 returns : tie.Need-returns Inv-loop μ-loop
 unfolding solidFits

@@ -37,7 +37,9 @@ loop-less c = search needs
 
 loop-again : tie.Need-loop-again Inv-loop μ-loop
 unfolding solidFitsTo allBelow placeFits
-loop-again c = (search needs, λ n h. rw (add-one, lt-ltb (c .before .before .before .loop .i) n (omega (arith, h)), c .within .ensures, c .before .before .before .loop .inv .1 n h))
+loop-again c =
+    let loop = c .before .before .before .loop in
+    (search needs, λ n h. rw (add-one, lt-ltb (loop .i) n (omega (arith, h)), c .within .ensures, loop .inv .1 n h))
 
 returns : tie.Need-returns Inv-loop μ-loop
 returns c = let e : c .before .loop .i ≡ c .before .before .args .m = omega arith in

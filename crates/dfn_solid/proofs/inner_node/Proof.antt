@@ -79,7 +79,10 @@ element-copy-out-result c = omega arith
 
 returns : tie.Need-returns
 unfolding innerWith
-returns c = rw (c .before .before .before .before .before .before .before .before .before .before .before .before .before .max .ensures, c .before .before .before .before .before .before .before .before .before .before .before .before .before .before .before .before .before .nearest-u64-to-f64 .ensures)
+returns c =
+    let max = c .before .before .before .before .before .before .before .before .before .before .before .before .before .max in
+    let nearest-u64-to-f64 = c .before .before .before .before .before .before .before .before .before .before .before .before .before .before .before .before .before .nearest-u64-to-f64 in
+    rw (max .ensures, nearest-u64-to-f64 .ensures)
 
 pub inner-node-spec : {M : Type 1} → statement M
 inner-node-spec =

@@ -32,7 +32,10 @@ mul-move-particle c = let r = room-at (c .before .before .loop .i) (c .before .b
     omega (arith, r)
 
 move-particle-requires : tie.Need-move-particle-requires Inv-loop μ-loop
-move-particle-requires c κs = (search needs, room-at (c .before .before .before .loop .i) (c .before .before .before .before .before .before .args .v .n) (omega arith) (omega arith))
+move-particle-requires c κs =
+    let loop = c .before .before .before .loop in
+    let args = c .before .before .before .before .before .before .args in
+    (search needs, room-at (loop .i) (args .v .n) (omega arith) (omega arith))
 
 mul-sum : tie.Need-mul-sum Inv-loop μ-loop
 mul-sum c = let r = room-at (c .before .before .before .before .loop .i) (c .before .before .before .before .before .before .before .args .v .n) (omega arith) (omega arith) in
@@ -50,7 +53,10 @@ mul-sum-2 c = let r = room-at (c .before .before .before .before .loop .i) (c .b
     search needs
 
 array-read-sum : tie.Need-array-read-sum Inv-loop μ-loop
-array-read-sum c = let r = room-at (c .before .before .before .before .loop .i) (c .before .before .before .before .before .before .before .args .v .n) (omega arith) (omega arith) in
+array-read-sum c =
+    let loop = c .before .before .before .before .loop in
+    let args = c .before .before .before .before .before .before .before .args in
+    let r = room-at (loop .i) (args .v .n) (omega arith) (omega arith) in
     omega (arith, r)
 
 add-i : tie.Need-add-i Inv-loop μ-loop
@@ -74,11 +80,14 @@ nearest-u64-to-f64-requires c κs = search needs
 
 mul-solid-finite : tie.Need-mul-solid-finite Inv-loop μ-loop
 mul-solid-finite c =
-    let r = room (c .before .before .before .before .before .before .before .args .count) (c .before .before .before .before .before .before .before .args .v .n) (omega arith) (omega arith) in
+    let args = c .before .before .before .before .before .before .before .args in
+    let r = room (args .count) (args .v .n) (omega arith) (omega arith) in
     omega (arith, r)
 
 solid-finite-requires : tie.Need-solid-finite-requires Inv-loop μ-loop
-solid-finite-requires c κs = room (c .before .before .before .before .before .before .before .args .count) (c .before .before .before .before .before .before .before .args .v .n) (omega arith) (omega arith)
+solid-finite-requires c κs =
+    let args = c .before .before .before .before .before .before .before .args in
+    room (args .count) (args .v .n) (omega arith) (omega arith)
 
 is-finite-requires : tie.Need-is-finite-requires Inv-loop μ-loop
 is-finite-requires c κs = search needs

@@ -33,7 +33,17 @@ clamp-requires c κs = search needs
 
 returns : tie.Need-returns
 unfolding voltageOf
-returns c = rw (c .clamp .ensures, c .before .side-overpotential2 .ensures, c .before .before .cathode .ensures, c .before .before .before .side-overpotential .ensures, c .before .before .before .before .anode .ensures, c .before .before .before .before .before .ln .ensures, c .before .before .before .before .before .before .max .ensures, c .before .before .before .before .before .before .before .before .before .resistance .ensures, c .before .before .before .before .before .before .before .before .before .before .open-voltage .ensures)
+returns c =
+    let side-overpotential2 = c .before .side-overpotential2 in
+    let cathode = c .before .before .cathode in
+    let side-overpotential = c .before .before .before .side-overpotential in
+    let anode = c .before .before .before .before .anode in
+    let ln = c .before .before .before .before .before .ln in
+    let max = c .before .before .before .before .before .before .max in
+    let resistance = c .before .before .before .before .before .before .before .before .before .resistance in
+    let open-voltage = c .before .before .before .before .before .before .before .before .before .before .open-voltage in
+    rw (c .clamp .ensures, side-overpotential2 .ensures, cathode .ensures, side-overpotential .ensures, anode .ensures, ln .ensures, max .ensures, resistance .ensures,
+        open-voltage .ensures)
 
 pub compute-voltage-spec : {M : Type 1} → statement M
 compute-voltage-spec =

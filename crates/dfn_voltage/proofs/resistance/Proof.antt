@@ -21,7 +21,12 @@ max-requires-2 c κs = search needs
 
 returns : tie.Need-returns
 unfolding resistanceOf
-returns c = rw (c .max2 .ensures, c .before .layer3 .ensures, c .before .before .layer2 .ensures, c .before .before .before .layer .ensures, c .before .before .before .before .max .ensures)
+returns c =
+    let layer3 = c .before .layer3 in
+    let layer2 = c .before .before .layer2 in
+    let layer = c .before .before .before .layer in
+    let max = c .before .before .before .before .max in
+    rw (c .max2 .ensures, layer3 .ensures, layer2 .ensures, layer .ensures, max .ensures)
 
 pub resistance-spec : {M : Type 1} → statement M
 resistance-spec =

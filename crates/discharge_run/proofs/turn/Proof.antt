@@ -20,7 +20,11 @@ add-t11 c = search needs
 
 returns-2 : tie.Need-returns-2
 unfolding turned followed
-returns-2 c = rw (← c .before .before .before .before .before .before .before .before .step .ensures, eq-eqb _ _ (c .before .before .before .before .if1 .left), c .before .over-after .ensures)
+returns-2 c =
+    let over-after = c .before .over-after in
+    let if1 = c .before .before .before .before .if1 in
+    let step = c .before .before .before .before .before .before .before .before .step in
+    rw (← step .ensures, eq-eqb _ _ (if1 .left), over-after .ensures)
 
 pub turn-spec : {M : Type 1} → statement M
 turn-spec = tie.close (tie.spec step-requires returns over-after-requires add-t11 returns-2)

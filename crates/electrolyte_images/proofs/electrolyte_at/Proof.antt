@@ -49,7 +49,13 @@ read-word-requires-3 c κs = search needs
 
 returns : tie.Need-returns
 unfolding electrolyteAt firstBy
-returns c = rw (c .read-word3 .ensures, c .before .read-word2 .ensures, c .before .before .read-word .ensures, c .before .before .before .before .read-places2 .ensures, c .before .before .before .before .before .before .before .read-places .ensures, c .before .before .before .before .before .before .before .before .before .electrolyte-params-at .ensures)
+returns c =
+    let read-word2 = c .before .read-word2 in
+    let read-word = c .before .before .read-word in
+    let read-places2 = c .before .before .before .before .read-places2 in
+    let read-places = c .before .before .before .before .before .before .before .read-places in
+    let electrolyte-params-at = c .before .before .before .before .before .before .before .before .before .electrolyte-params-at in
+    rw (c .read-word3 .ensures, read-word2 .ensures, read-word .ensures, read-places2 .ensures, read-places .ensures, electrolyte-params-at .ensures)
 
 pub electrolyte-at-spec : {M : Type 1} → statement M
 electrolyte-at-spec =

@@ -18,7 +18,11 @@ same-length c = search needs depth 32
 
 returns : tie.Need-returns
 unfolding putElectrolyte
-returns c = rw (c .before .before .write-places .ensures, c .before .before .before .before .before .before .before .before .before .put-regions .ensures, c .before .before .before .before .before .before .before .before .before .before .before .before .before .put-electrolyte-params .ensures)
+returns c =
+    let write-places = c .before .before .write-places in
+    let put-regions = c .before .before .before .before .before .before .before .before .before .put-regions in
+    let put-electrolyte-params = c .before .before .before .before .before .before .before .before .before .before .before .before .before .put-electrolyte-params in
+    rw (write-places .ensures, put-regions .ensures, put-electrolyte-params .ensures)
 
 pub put-electrolyte-spec : {M : Type 1} → statement M
 put-electrolyte-spec =

@@ -24,7 +24,12 @@ same-length c = search needs depth 24
 
 returns : tie.Need-returns
 unfolding putRegions
-returns c = rw (c .before .before .write-word3 .ensures, c .before .before .before .before .before .before .write-word2 .ensures, c .before .before .before .before .before .before .before .before .before .before .write-word .ensures, c .before .before .before .before .before .before .before .before .before .before .before .before .before .before .write-places .ensures)
+returns c =
+    let write-word3 = c .before .before .write-word3 in
+    let write-word2 = c .before .before .before .before .before .before .write-word2 in
+    let write-word = c .before .before .before .before .before .before .before .before .before .before .write-word in
+    let write-places = c .before .before .before .before .before .before .before .before .before .before .before .before .before .before .write-places in
+    rw (write-word3 .ensures, write-word2 .ensures, write-word .ensures, write-places .ensures)
 
 pub put-regions-spec : {M : Type 1} → statement M
 put-regions-spec =

@@ -31,8 +31,12 @@ exp-squarings-requires c κs = search needs
 
 returns-4 : tie.Need-returns-4
 returns-4 c =
-    let start = c .before .before .before .before .before in
-    c .exp-squarings .ensures ∙ ap (squarings 10) (c .before .short-series .ensures) ∙ powered-is (start .args .t) ∙ sym (exp-mid (start .args .t) (c .before .before .before .if2 .left) (c .before .before .if3 .left))
+    let short-series = c .before .short-series in
+    let if3 = c .before .before .if3 in
+    let if2 = c .before .before .before .if2 in
+    let before = c .before .before .before .before .before in
+    let start = before in
+    c .exp-squarings .ensures ∙ ap (squarings 10) (short-series .ensures) ∙ powered-is (start .args .t) ∙ sym (exp-mid (start .args .t) (if2 .left) (if3 .left))
 
 pub exp-spec : {M : Type 1} → statement M
 exp-spec = tie.close (tie.spec returns float-from-bits-result returns-2 returns-3 short-series-requires exp-squarings-requires returns-4)

@@ -52,9 +52,12 @@ returns-2 c = zeros .1 ∙ ap lnOf (ap f64 (sym (c .if3 .taken)) ∙ back (c .be
 
 returns-3 : tie.Need-returns-3
 returns-3 c =
-    let start = c .before .before .before in
+    let if2 = c .before .if2 in
+    let before = c .before .before .before in
+    let start = before in
     let lt : bits start < 2 ^ 64 = toBits-lt binary64 (start .args .x) (representable start) in
-    zero-by-zero ∙ sym (subst (λ (v : Float). lnOf v ≡ nan) (back start) (at-negative lnOf nan-ln negative-ln (bits start) (lt-of-le-ne (c .before .if2 .taken) (λ e. c .if3 .left (sym e))) lt))
+    zero-by-zero ∙ sym (subst (λ (v : Float). lnOf v ≡ nan) (back start) (at-negative lnOf nan-ln negative-ln (bits start) (lt-of-le-ne (if2 .taken) (λ e. c .if3 .left
+        (sym e))) lt))
 
 float-from-bits-result-2 : tie.Need-float-from-bits-result-2
 float-from-bits-result-2 c = minus-infinity
@@ -86,10 +89,13 @@ float-from-bits-m c = no-nan-bits (0x3fe0_0000_0000_0000 + c .before .parts-of .
 -- the logarithm, by the parts
 split : (c : tie.After-parts-of) → lnOf (c .before .before .before .before .before .args .x) ≡ lnSplit (f64 (0x3fe0_0000_0000_0000 + c .parts-of .result .c)) (minus (c .parts-of .result .w) 1074)
 split c =
-    let start = c .before .before .before .before .before in
+    let if5 = c .before .if5 in
+    let before = c .before .before .before .before .before in
+    let start = before in
     let b = bits start in
     ap lnOf (sym (back start))
-    ∙ ln-split (f64 b) (unitsOf (b / 2 ^ 52) (b % 2 ^ 52)) (c .parts-of .result .c) (c .parts-of .result .w) (ofBits-fits binary64 b) (positive-value b (c .before .if5 .left)) (positive-units b (above c)) (normal c)
+    ∙ ln-split (f64 b) (unitsOf (b / 2 ^ 52) (b % 2 ^ 52)) (c .parts-of .result .c) (c .parts-of .result .w) (ofBits-fits binary64 b) (positive-value b (if5 .left))
+        (positive-units b (above c)) (normal c)
 
 add-exponent : tie.Need-add-exponent
 add-exponent c = omega (arith, normal (c .before .before) .top)

@@ -33,7 +33,17 @@ first-refusal-requires-3 c κs = search needs
 
 returns : tie.Need-returns
 unfolding runRefusal
-returns c = rw (c .first-refusal3 .ensures, c .before .first-refusal2 .ensures, c .before .before .first-refusal .ensures, c .before .before .before .step-refusal .ensures, c .before .before .before .before .refusal-unless3 .ensures, c .before .before .before .before .before .is-finite .ensures, c .before .before .before .before .before .before .refusal-unless2 .ensures, c .before .before .before .before .before .before .before .refusal-unless .ensures, c .before .before .before .before .before .before .before .before .grid-fits .ensures)
+returns c =
+    let first-refusal2 = c .before .first-refusal2 in
+    let first-refusal = c .before .before .first-refusal in
+    let step-refusal = c .before .before .before .step-refusal in
+    let refusal-unless3 = c .before .before .before .before .refusal-unless3 in
+    let is-finite = c .before .before .before .before .before .is-finite in
+    let refusal-unless2 = c .before .before .before .before .before .before .refusal-unless2 in
+    let refusal-unless = c .before .before .before .before .before .before .before .refusal-unless in
+    let grid-fits = c .before .before .before .before .before .before .before .before .grid-fits in
+    rw (c .first-refusal3 .ensures, first-refusal2 .ensures, first-refusal .ensures, step-refusal .ensures, refusal-unless3 .ensures, is-finite .ensures, refusal-unless2 .ensures,
+        refusal-unless .ensures, grid-fits .ensures)
 
 pub run-refusal-spec : {M : Type 1} → statement M
 run-refusal-spec =

@@ -32,37 +32,68 @@ same-length c = c .before .before .before .before .before .loop .inv .0 .long
 
 returns : tie.Need-returns Inv-loop μ-loop
 unfolding allTurns allRows
-returns c = let q = ends-refused overOf (turned (c .before .before .before .before .before .before .before .args .w)) lastRow _ _ _ _ _ _ (c .before .before .before .before .before .loop .inv .0) _ (c .before .before .before .turn .ensures) (c .before .if1 .taken) (c .before .before .before .before .loop-test .taken) in
+returns c =
+    let if1 = c .before .if1 in
+    let turn = c .before .before .before .turn in
+    let loop-test = c .before .before .before .before .loop-test in
+    let loop = c .before .before .before .before .before .loop in
+    let args = c .before .before .before .before .before .before .before .args in
+    let q = ends-refused overOf (turned (args .w)) lastRow _ _ _ _ _ _ (loop .inv .0) _ (turn .ensures) (if1 .taken) (loop-test .taken) in
     (c .finished .ensures ∙ ap finishedRun (q .0), q .1)
 
 mul-put-row : tie.Need-mul-put-row Inv-loop μ-loop
 mul-put-row c = omega (arith, c .before .before .before .before .before .loop-test .taken, c .before .before .before .before .before .before .before .before .pre .1 .1 .0)
 
 put-row-requires : tie.Need-put-row-requires Inv-loop μ-loop
-put-row-requires c κs = omega (arith, c .before .before .before .before .before .loop-test .taken, c .before .before .before .before .before .before .before .before .pre .1 .1 .1, c .before .before .before .before .before .before .loop .inv .0 .long)
+put-row-requires c κs =
+    let loop-test = c .before .before .before .before .before .loop-test in
+    let loop = c .before .before .before .before .before .before .loop in
+    let pre = c .before .before .before .before .before .before .before .before .pre in
+    omega (arith, loop-test .taken, pre .1 .1 .1, loop .inv .0 .long)
 
 add-i : tie.Need-add-i Inv-loop μ-loop
-add-i c = omega (arith, c .before .before .before .before .before .before .before .before .loop-test .taken, c .before .before .before .before .before .before .before .before .before .before .before .pre .1 .1 .0)
+add-i c =
+    let loop-test = c .before .before .before .before .before .before .before .before .loop-test in
+    let pre = c .before .before .before .before .before .before .before .before .before .before .before .pre in
+    omega (arith, loop-test .taken, pre .1 .1 .0)
 
 finished-requires-2 : tie.Need-finished-requires-2 Inv-loop μ-loop
 finished-requires-2 c κs = search needs
 
 same-length-2 : tie.Need-same-length-2 Inv-loop μ-loop
-same-length-2 c = c .before .before .before .before .before .put-row .kept .0 ∙ c .before .before .before .before .before .before .before .before .before .before .before .before .loop .inv .0 .long
+same-length-2 c =
+    let put-row = c .before .before .before .before .before .put-row in
+    let loop = c .before .before .before .before .before .before .before .before .before .before .before .before .loop in
+    put-row .kept .0 ∙ loop .inv .0 .long
 
 returns-2 : tie.Need-returns-2 Inv-loop μ-loop
 unfolding allTurns allRows
-returns-2 c = let q = ends-stopped overOf (turned (c .before .before .before .before .before .before .before .before .before .before .before .before .before .before .args .w)) lastRow _ _ _ _ _ _ (c .before .before .before .before .before .before .before .before .before .before .before .before .loop .inv .0) _ _ _ (c .before .before .before .before .before .before .before .before .before .before .turn .ensures) (c .before .before .before .before .before .before .before .before .if1 .left) refl (c .before .before .before .before .before .put-row .ensures) (c .before .before .before .before .before .before .before .before .before .before .before .loop-test .taken) (c .before .if2 .taken) in
+returns-2 c =
+    let if2 = c .before .if2 in
+    let put-row = c .before .before .before .before .before .put-row in
+    let if1 = c .before .before .before .before .before .before .before .before .if1 in
+    let turn = c .before .before .before .before .before .before .before .before .before .before .turn in
+    let loop-test = c .before .before .before .before .before .before .before .before .before .before .before .loop-test in
+    let loop = c .before .before .before .before .before .before .before .before .before .before .before .before .loop in
+    let args = c .before .before .before .before .before .before .before .before .before .before .before .before .before .before .args in
+    let q = ends-stopped overOf (turned (args .w)) lastRow _ _ _ _ _ _ (loop .inv .0) _ _ _ (turn .ensures) (if1 .left) refl (put-row .ensures) (loop-test .taken) (if2 .taken) in
     (c .finished2 .ensures ∙ ap finishedRun (q .0), q .1)
 
 loop-less : tie.Need-loop-less Inv-loop μ-loop
 loop-less c = omega (arith, c .before .before .before .before .before .before .before .before .before .before .loop-test .taken)
 
 loop-again : tie.Need-loop-again Inv-loop μ-loop
-loop-again c = let t = c .before .before .before .before .before .before .before .before .before .turn .ensures in
-    let l = c .before .before .before .before .before .before .before .before .before .before .before .loop in (
-      going-on overOf (turned (c .before .before .before .before .before .before .before .before .before .before .before .before .before .args .w)) lastRow _ _ _ _ _ _ (l .inv .0) _ _ _ t (c .before .before .before .before .before .before .before .if1 .left) refl (c .before .before .before .before .put-row .ensures) (c .before .before .before .before .put-row .kept .0) (c .before .before .before .before .before .before .before .before .before .before .loop-test .taken) (c .if2 .left),
-      ap (λ (r : RunState). r .rows) t ∙ turned-rows (c .before .before .before .before .before .before .before .before .before .before .before .before .before .args .w) (l .run) (rw t at (c .before .before .before .before .before .before .before .if1 .left)) ∙ ap (λ (k : ℕ). k + 1) (l .inv .1),
+loop-again c =
+    let put-row = c .before .before .before .before .put-row in
+    let if1 = c .before .before .before .before .before .before .before .if1 in
+    let turn = c .before .before .before .before .before .before .before .before .before .turn in
+    let loop-test = c .before .before .before .before .before .before .before .before .before .before .loop-test in
+    let loop = c .before .before .before .before .before .before .before .before .before .before .before .loop in
+    let args = c .before .before .before .before .before .before .before .before .before .before .before .before .before .args in
+    let t = turn .ensures in
+    let l = loop in (
+      going-on overOf (turned (args .w)) lastRow _ _ _ _ _ _ (l .inv .0) _ _ _ t (if1 .left) refl (put-row .ensures) (put-row .kept .0) (loop-test .taken) (c .if2 .left),
+      ap (λ (r : RunState). r .rows) t ∙ turned-rows (args .w) (l .run) (rw t at (if1 .left)) ∙ ap (λ (k : ℕ). k + 1) (l .inv .1),
     )
 
 finished-requires-3 : tie.Need-finished-requires-3 Inv-loop μ-loop

@@ -23,7 +23,11 @@ over-after-requires c κs = search needs
 
 returns-2 : tie.Need-returns-2
 unfolding turned followed
-returns-2 c = rw (← c .before .before .before .before .before .before .before .step .ensures, eq-eqb _ _ (c .before .before .before .before .if1 .left), c .before .before .row-of .ensures, c .over-after .ensures)
+returns-2 c =
+    let row-of = c .before .before .row-of in
+    let if1 = c .before .before .before .before .if1 in
+    let step = c .before .before .before .before .before .before .before .step in
+    rw (← step .ensures, eq-eqb _ _ (if1 .left), row-of .ensures, c .over-after .ensures)
 
 pub turn-spec : {M : Type 1} → statement M
 turn-spec =

@@ -28,7 +28,11 @@ returns-5 c = rw (c .if5 .taken)
 
 returns-6 : tie.Need-returns-6
 unfolding buildLength
-returns-6 c = rw (lt-leb (c .before .before .before .before .before .args .call) 6 (omega arith), ne-eqb _ _ (c .before .before .before .if2 .left), lt-leb (c .before .before .before .before .before .args .call) 9 (omega arith), ne-eqb _ _ (c .before .if4 .left), ne-eqb _ _ (c .if5 .left))
+returns-6 c =
+    let if4 = c .before .if4 in
+    let if2 = c .before .before .before .if2 in
+    let args = c .before .before .before .before .before .args in
+    rw (lt-leb (args .call) 6 (omega arith), ne-eqb _ _ (if2 .left), lt-leb (args .call) 9 (omega arith), ne-eqb _ _ (if4 .left), ne-eqb _ _ (c .if5 .left))
 
 pub build-length-spec : {M : Type 1} → statement M
 build-length-spec =

@@ -33,7 +33,12 @@ returns-2 c = rw (c .before .match .keys2, ← c .before .before .config-at .ens
 
 returns-3 : tie.Need-returns-3
 unfolding cellBuilt
-returns-3 c = rw (ne-eqb _ _ (c .before .before .before .match .rest .0 .1), ne-eqb _ _ (c .before .before .before .match .rest .1), ← c .before .before .before .before .config-at .ensures, ← c .before .before .sheet-at .ensures, ← c .before .sheet-at2 .ensures) (c .new .ensures)
+returns-3 c =
+    let sheet-at2 = c .before .sheet-at2 in
+    let sheet-at = c .before .before .sheet-at in
+    let match = c .before .before .before .match in
+    let config-at = c .before .before .before .before .config-at in
+    rw (ne-eqb _ _ (match .rest .0 .1), ne-eqb _ _ (match .rest .1), ← config-at .ensures, ← sheet-at .ensures, ← sheet-at2 .ensures) (c .new .ensures)
 
 pub built-cell-spec : {M : Type 1} → statement M
 built-cell-spec = tie.close (tie.spec config-at-requires graphite-lfp-requires graphite-nmc-requires sheet-at-requires sheet-at-requires-2 new-requires returns returns-2 returns-3)

@@ -24,7 +24,11 @@ returns-4 c = rw (c .if4 .taken)
 
 returns-5 : tie.Need-returns-5
 unfolding builtLength
-returns-5 c = rw (lt-leb (c .before .before .before .before .before .args .call) 3 (omega arith), ne-eqb _ _ (c .before .before .before .if2 .left), lt-leb (c .before .before .before .before .before .args .call) 6 (omega arith), ne-eqb _ _ (c .before .if4 .left), le-leb (c .before .before .before .before .before .args .call) 10 (omega arith))
+returns-5 c =
+    let if4 = c .before .if4 in
+    let if2 = c .before .before .before .if2 in
+    let args = c .before .before .before .before .before .args in
+    rw (lt-leb (args .call) 3 (omega arith), ne-eqb _ _ (if2 .left), lt-leb (args .call) 6 (omega arith), ne-eqb _ _ (if4 .left), le-leb (args .call) 10 (omega arith))
 
 returns-6 : tie.Need-returns-6
 unfolding builtLength
@@ -32,7 +36,12 @@ returns-6 c = rw (c .if6 .taken)
 
 returns-7 : tie.Need-returns-7
 unfolding builtLength
-returns-7 c = rw (lt-leb (c .before .before .before .before .before .before .args .call) 3 (omega arith), ne-eqb _ _ (c .before .before .before .before .if2 .left), lt-leb (c .before .before .before .before .before .before .args .call) 6 (omega arith), ne-eqb _ _ (c .before .before .if4 .left), lt-leb (c .before .before .before .before .before .before .args .call) 10 (omega arith), ne-eqb _ _ (c .if6 .left))
+returns-7 c =
+    let if4 = c .before .before .if4 in
+    let if2 = c .before .before .before .before .if2 in
+    let args = c .before .before .before .before .before .before .args in
+    rw (lt-leb (args .call) 3 (omega arith), ne-eqb _ _ (if2 .left), lt-leb (args .call) 6 (omega arith), ne-eqb _ _ (if4 .left), lt-leb (args .call) 10 (omega arith),
+        ne-eqb _ _ (c .if6 .left))
 
 pub built-length-spec : {M : Type 1} → statement M
 built-length-spec =

@@ -18,10 +18,17 @@ same-length c = search needs depth 24
 
 returns : tie.Need-returns
 returns c =
-    accepted (λ (t : SpmBuildAnswer). t .refusal) (λ (t : SpmBuildAnswer). putCell (c .before .before .before .before .before .before .before .before .before .args .answer .now) (t .solver)) _ _ _ (c .before .before .before .before .before .before .built-cell .ensures) _ (c .before .before .before .before .before .if1 .taken) (c .before .before .put-cell .ensures)
+    let put-cell = c .before .before .put-cell in
+    let if1 = c .before .before .before .before .before .if1 in
+    let built-cell = c .before .before .before .before .before .before .built-cell in
+    let args = c .before .before .before .before .before .before .before .before .before .args in
+    accepted (λ (t : SpmBuildAnswer). t .refusal) (λ (t : SpmBuildAnswer). putCell (args .answer .now) (t .solver)) _ _ _ (built-cell .ensures) _ (if1 .taken) (put-cell .ensures)
 
 returns-2 : tie.Need-returns-2
-returns-2 c = refused (λ (t : SpmBuildAnswer). t .refusal) (λ (t : SpmBuildAnswer). putCell (c .before .before .before .before .args .answer .now) (t .solver)) _ _ _ (c .before .built-cell .ensures) (c .if1 .left)
+returns-2 c =
+    let built-cell = c .before .built-cell in
+    let args = c .before .before .before .before .args in
+    refused (λ (t : SpmBuildAnswer). t .refusal) (λ (t : SpmBuildAnswer). putCell (args .answer .now) (t .solver)) _ _ _ (built-cell .ensures) (c .if1 .left)
 
 pub new-cell-spec : {M : Type 1} → statement M
 new-cell-spec =

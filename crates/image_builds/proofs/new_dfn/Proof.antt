@@ -26,14 +26,24 @@ same-length c = search needs depth 24
 returns : tie.Need-returns
 unfolding dfnMade
 returns c =
-    let e : c .before .before .before .before .before .before .new .result ≡ dfnMade (c .before .before .before .before .before .before .before .before .before .before .before .args .image .now) = rw (← c .before .before .before .before .before .before .before .before .params-at .ensures, ← c .before .before .before .before .before .before .before .config-at .ensures) (c .before .before .before .before .before .before .new .ensures) in
-    accepted (λ (t : DfnBuildAnswer). t .refusal) (λ (t : DfnBuildAnswer). putCell (c .before .before .before .before .before .before .before .before .before .before .before .args .answer .now) (t .cell)) _ _ _ e _ (c .before .before .before .before .before .if1 .taken) (c .before .before .put-cell .ensures)
+    let put-cell = c .before .before .put-cell in
+    let if1 = c .before .before .before .before .before .if1 in
+    let new = c .before .before .before .before .before .before .new in
+    let config-at = c .before .before .before .before .before .before .before .config-at in
+    let params-at = c .before .before .before .before .before .before .before .before .params-at in
+    let args = c .before .before .before .before .before .before .before .before .before .before .before .args in
+    let e : new .result ≡ dfnMade (args .image .now) = rw (← params-at .ensures, ← config-at .ensures) (new .ensures) in
+    accepted (λ (t : DfnBuildAnswer). t .refusal) (λ (t : DfnBuildAnswer). putCell (args .answer .now) (t .cell)) _ _ _ e _ (if1 .taken) (put-cell .ensures)
 
 returns-2 : tie.Need-returns-2
 unfolding dfnMade
 returns-2 c =
-    let e : c .before .new .result ≡ dfnMade (c .before .before .before .before .before .before .args .image .now) = rw (← c .before .before .before .params-at .ensures, ← c .before .before .config-at .ensures) (c .before .new .ensures) in
-    refused (λ (t : DfnBuildAnswer). t .refusal) (λ (t : DfnBuildAnswer). putCell (c .before .before .before .before .before .before .args .answer .now) (t .cell)) _ _ _ e (c .if1 .left)
+    let new = c .before .new in
+    let config-at = c .before .before .config-at in
+    let params-at = c .before .before .before .params-at in
+    let args = c .before .before .before .before .before .before .args in
+    let e : new .result ≡ dfnMade (args .image .now) = rw (← params-at .ensures, ← config-at .ensures) (new .ensures) in
+    refused (λ (t : DfnBuildAnswer). t .refusal) (λ (t : DfnBuildAnswer). putCell (args .answer .now) (t .cell)) _ _ _ e (c .if1 .left)
 
 pub new-dfn-spec : {M : Type 1} → statement M
 new-dfn-spec =

@@ -18,10 +18,18 @@ same-length c = search needs depth 24
 
 returns : tie.Need-returns
 returns c =
-    accepted (λ (t : ElectrolyteAnswer). t .refusal) (λ (t : ElectrolyteAnswer). putElectrolyte (c .before .before .before .before .before .before .before .before .before .args .answer .now) (t .state)) _ _ _ (c .before .before .before .before .before .before .built-electrolyte .ensures) _ (c .before .before .before .before .before .if1 .taken) (c .before .before .put-electrolyte .ensures)
+    let put-electrolyte = c .before .before .put-electrolyte in
+    let if1 = c .before .before .before .before .before .if1 in
+    let built-electrolyte = c .before .before .before .before .before .before .built-electrolyte in
+    let args = c .before .before .before .before .before .before .before .before .before .args in
+    accepted (λ (t : ElectrolyteAnswer). t .refusal) (λ (t : ElectrolyteAnswer). putElectrolyte (args .answer .now) (t .state)) _ _ _ (built-electrolyte .ensures) _ (if1 .taken)
+        (put-electrolyte .ensures)
 
 returns-2 : tie.Need-returns-2
-returns-2 c = refused (λ (t : ElectrolyteAnswer). t .refusal) (λ (t : ElectrolyteAnswer). putElectrolyte (c .before .before .before .before .args .answer .now) (t .state)) _ _ _ (c .before .built-electrolyte .ensures) (c .if1 .left)
+returns-2 c =
+    let built-electrolyte = c .before .built-electrolyte in
+    let args = c .before .before .before .before .args in
+    refused (λ (t : ElectrolyteAnswer). t .refusal) (λ (t : ElectrolyteAnswer). putElectrolyte (args .answer .now) (t .state)) _ _ _ (built-electrolyte .ensures) (c .if1 .left)
 
 pub new-electrolyte-spec : {M : Type 1} → statement M
 new-electrolyte-spec =

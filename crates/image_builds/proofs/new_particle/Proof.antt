@@ -26,14 +26,24 @@ same-length c = search needs depth 24
 returns : tie.Need-returns
 unfolding particleMade
 returns c =
-    let e : c .before .before .before .before .before .before .new .result ≡ particleMade (c .before .before .before .before .before .before .before .before .before .before .before .args .image .now) = rw (← c .before .before .before .before .before .before .before .before .sheet-at .ensures, ← c .before .before .before .before .before .before .before .read-word .ensures) (c .before .before .before .before .before .before .new .ensures) in
-    accepted (λ (t : ParticleAnswer). t .refusal) (λ (t : ParticleAnswer). putParticle (c .before .before .before .before .before .before .before .before .before .before .before .args .answer .now) 0 (t .particle)) _ _ _ e _ (c .before .before .before .before .before .if1 .taken) (c .before .before .put-particle .ensures)
+    let put-particle = c .before .before .put-particle in
+    let if1 = c .before .before .before .before .before .if1 in
+    let new = c .before .before .before .before .before .before .new in
+    let read-word = c .before .before .before .before .before .before .before .read-word in
+    let sheet-at = c .before .before .before .before .before .before .before .before .sheet-at in
+    let args = c .before .before .before .before .before .before .before .before .before .before .before .args in
+    let e : new .result ≡ particleMade (args .image .now) = rw (← sheet-at .ensures, ← read-word .ensures) (new .ensures) in
+    accepted (λ (t : ParticleAnswer). t .refusal) (λ (t : ParticleAnswer). putParticle (args .answer .now) 0 (t .particle)) _ _ _ e _ (if1 .taken) (put-particle .ensures)
 
 returns-2 : tie.Need-returns-2
 unfolding particleMade
 returns-2 c =
-    let e : c .before .new .result ≡ particleMade (c .before .before .before .before .before .before .args .image .now) = rw (← c .before .before .before .sheet-at .ensures, ← c .before .before .read-word .ensures) (c .before .new .ensures) in
-    refused (λ (t : ParticleAnswer). t .refusal) (λ (t : ParticleAnswer). putParticle (c .before .before .before .before .before .before .args .answer .now) 0 (t .particle)) _ _ _ e (c .if1 .left)
+    let new = c .before .new in
+    let read-word = c .before .before .read-word in
+    let sheet-at = c .before .before .before .sheet-at in
+    let args = c .before .before .before .before .before .before .args in
+    let e : new .result ≡ particleMade (args .image .now) = rw (← sheet-at .ensures, ← read-word .ensures) (new .ensures) in
+    refused (λ (t : ParticleAnswer). t .refusal) (λ (t : ParticleAnswer). putParticle (args .answer .now) 0 (t .particle)) _ _ _ e (c .if1 .left)
 
 pub new-particle-spec : {M : Type 1} → statement M
 new-particle-spec =

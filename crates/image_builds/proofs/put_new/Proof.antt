@@ -24,7 +24,11 @@ same-length-2 c = search needs depth 24
 
 returns-2 : tie.Need-returns-2
 unfolding newReturn newAfter
-returns-2 c = rw (ne-eqb _ _ (c .before .before .before .before .before .if1 .left), le-leb (c .before .before .before .before .before .before .before .before .args .call) 10 (omega arith)) (c .before .before .new-cell .ensures)
+returns-2 c =
+    let new-cell = c .before .before .new-cell in
+    let if1 = c .before .before .before .before .before .if1 in
+    let args = c .before .before .before .before .before .before .before .before .args in
+    rw (ne-eqb _ _ (if1 .left), le-leb (args .call) 10 (omega arith)) (new-cell .ensures)
 
 new-electrolyte-requires : tie.Need-new-electrolyte-requires
 new-electrolyte-requires c κs = search needs
@@ -44,7 +48,12 @@ same-length-4 c = search needs depth 24
 
 returns-4 : tie.Need-returns-4
 unfolding newReturn newAfter
-returns-4 c = rw (ne-eqb _ _ (c .before .before .before .before .before .before .if1 .left), lt-leb (c .before .before .before .before .before .before .before .before .before .args .call) 10 (omega arith), ne-eqb _ _ (c .before .before .before .before .if3 .left)) (c .before .before .new-dfn .ensures)
+returns-4 c =
+    let new-dfn = c .before .before .new-dfn in
+    let if3 = c .before .before .before .before .if3 in
+    let if1 = c .before .before .before .before .before .before .if1 in
+    let args = c .before .before .before .before .before .before .before .before .before .args in
+    rw (ne-eqb _ _ (if1 .left), lt-leb (args .call) 10 (omega arith), ne-eqb _ _ (if3 .left)) (new-dfn .ensures)
 
 pub put-new-spec : {M : Type 1} → statement M
 put-new-spec =

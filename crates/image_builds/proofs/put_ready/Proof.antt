@@ -29,7 +29,11 @@ same-length c = search needs depth 24
 
 returns : tie.Need-returns
 unfolding readyPut
-returns c = rw (le-leb (c .before .before .before .before .before .before .before .args .call) 3 (omega arith), ← c .before .before .before .ready-sheet .ensures) (c .before .before .put-sheet .ensures)
+returns c =
+    let put-sheet = c .before .before .put-sheet in
+    let ready-sheet = c .before .before .before .ready-sheet in
+    let args = c .before .before .before .before .before .before .before .args in
+    rw (le-leb (args .call) 3 (omega arith), ← ready-sheet .ensures) (put-sheet .ensures)
 
 same-length-2 : tie.Need-same-length-2
 same-length-2 c = search needs depth 24
@@ -43,7 +47,12 @@ same-length-3 c = search needs depth 24
 
 returns-3 : tie.Need-returns-3
 unfolding readyPut
-returns-3 c = rw (lt-leb (c .before .before .before .before .before .before .before .before .args .call) 3 (omega arith), ne-eqb _ _ (c .before .before .before .before .before .if2 .left), ← c .before .before .before .ready-params .ensures) (c .before .before .put-params .ensures)
+returns-3 c =
+    let put-params = c .before .before .put-params in
+    let ready-params = c .before .before .before .ready-params in
+    let if2 = c .before .before .before .before .before .if2 in
+    let args = c .before .before .before .before .before .before .before .before .args in
+    rw (lt-leb (args .call) 3 (omega arith), ne-eqb _ _ (if2 .left), ← ready-params .ensures) (put-params .ensures)
 
 pub put-ready-spec : {M : Type 1} → statement M
 put-ready-spec =

@@ -24,7 +24,10 @@ enum-known-n-2 c = search needs
 
 returns : tie.Need-returns
 unfolding nodesOutcome
-returns c = rw (c .nearest-u64-to-f64 .ensures) (ap (λ t. countOutcome (counted t)) (sym (c .before .before .n .given .1)) ∙ ap countOutcome (c .before .before .before .before .n-total .ensures))
+returns c =
+    let n = c .before .before .n in
+    let n-total = c .before .before .before .before .n-total in
+    rw (c .nearest-u64-to-f64 .ensures) (ap (λ t. countOutcome (counted t)) (sym (n .given .1)) ∙ ap countOutcome (n-total .ensures))
 
 returns-2 : tie.Need-returns-2
 unfolding nodesOutcome

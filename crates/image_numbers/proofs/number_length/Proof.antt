@@ -16,19 +16,33 @@ returns-2 c = rw (c .if2 .taken)
 
 returns-3 : tie.Need-returns-3
 unfolding numberLength
-returns-3 c = rw (lt-leb (c .before .before .before .args .call) 4 (omega arith), ne-eqb _ _ (c .before .if2 .left), le-leb (c .before .before .before .args .call) 10 (omega arith))
+returns-3 c =
+    let if2 = c .before .if2 in
+    let args = c .before .before .before .args in
+    rw (lt-leb (args .call) 4 (omega arith), ne-eqb _ _ (if2 .left), le-leb (args .call) 10 (omega arith))
 
 returns-4 : tie.Need-returns-4
 unfolding numberLength
-returns-4 c = rw (lt-leb (c .before .before .before .before .args .call) 4 (omega arith), ne-eqb _ _ (c .before .before .if2 .left), lt-leb (c .before .before .before .before .args .call) 10 (omega arith), le-leb (c .before .before .before .before .args .call) 12 (omega arith))
+returns-4 c =
+    let if2 = c .before .before .if2 in
+    let args = c .before .before .before .before .args in
+    rw (lt-leb (args .call) 4 (omega arith), ne-eqb _ _ (if2 .left), lt-leb (args .call) 10 (omega arith), le-leb (args .call) 12 (omega arith))
 
 returns-5 : tie.Need-returns-5
 unfolding numberLength
-returns-5 c = rw (lt-leb (c .before .before .before .before .before .args .call) 4 (omega arith), ne-eqb _ _ (c .before .before .before .if2 .left), lt-leb (c .before .before .before .before .before .args .call) 10 (omega arith), lt-leb (c .before .before .before .before .before .args .call) 12 (omega arith), le-leb (c .before .before .before .before .before .args .call) 16 (omega arith))
+returns-5 c =
+    let if2 = c .before .before .before .if2 in
+    let args = c .before .before .before .before .before .args in
+    rw (lt-leb (args .call) 4 (omega arith), ne-eqb _ _ (if2 .left), lt-leb (args .call) 10 (omega arith), lt-leb (args .call) 12 (omega arith),
+        le-leb (args .call) 16 (omega arith))
 
 returns-6 : tie.Need-returns-6
 unfolding numberLength
-returns-6 c = rw (lt-leb (c .before .before .before .before .before .args .call) 4 (omega arith), ne-eqb _ _ (c .before .before .before .if2 .left), lt-leb (c .before .before .before .before .before .args .call) 10 (omega arith), lt-leb (c .before .before .before .before .before .args .call) 12 (omega arith), lt-leb (c .before .before .before .before .before .args .call) 16 (omega arith))
+returns-6 c =
+    let if2 = c .before .before .before .if2 in
+    let args = c .before .before .before .before .before .args in
+    rw (lt-leb (args .call) 4 (omega arith), ne-eqb _ _ (if2 .left), lt-leb (args .call) 10 (omega arith), lt-leb (args .call) 12 (omega arith),
+        lt-leb (args .call) 16 (omega arith))
 
 pub number-length-spec : {M : Type 1} → statement M
 number-length-spec =

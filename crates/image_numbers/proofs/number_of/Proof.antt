@@ -36,7 +36,10 @@ particle-number-requires c κs = search needs
 
 returns-2 : tie.Need-returns-2
 unfolding numberOutcome
-returns-2 c = rw (lt-leb (c .before .before .before .before .before .args .call) 5 (omega arith), le-leb (c .before .before .before .before .before .args .call) 10 (omega arith), ← c .before .particle-at .ensures) (c .particle-number .ensures)
+returns-2 c =
+    let particle-at = c .before .particle-at in
+    let args = c .before .before .before .before .before .args in
+    rw (lt-leb (args .call) 5 (omega arith), le-leb (args .call) 10 (omega arith), ← particle-at .ensures) (c .particle-number .ensures)
 
 cell-at-requires : tie.Need-cell-at-requires
 cell-at-requires c κs = search needs
@@ -46,7 +49,10 @@ cell-number-requires c κs = search needs
 
 returns-3 : tie.Need-returns-3
 unfolding numberOutcome
-returns-3 c = rw (lt-leb (c .before .before .before .before .before .before .args .call) 5 (omega arith), lt-leb (c .before .before .before .before .before .before .args .call) 10 (omega arith), le-leb (c .before .before .before .before .before .before .args .call) 12 (omega arith), ← c .before .cell-at .ensures) (c .cell-number .ensures)
+returns-3 c =
+    let cell-at = c .before .cell-at in
+    let args = c .before .before .before .before .before .before .args in
+    rw (lt-leb (args .call) 5 (omega arith), lt-leb (args .call) 10 (omega arith), le-leb (args .call) 12 (omega arith), ← cell-at .ensures) (c .cell-number .ensures)
 
 electrolyte-params-at-requires : tie.Need-electrolyte-params-at-requires
 electrolyte-params-at-requires c κs = search needs
@@ -56,7 +62,11 @@ rate-number-requires c κs = search needs
 
 returns-4 : tie.Need-returns-4
 unfolding numberOutcome
-returns-4 c = rw (lt-leb (c .before .before .before .before .before .before .before .args .call) 5 (omega arith), lt-leb (c .before .before .before .before .before .before .before .args .call) 10 (omega arith), lt-leb (c .before .before .before .before .before .before .before .args .call) 12 (omega arith), le-leb (c .before .before .before .before .before .before .before .args .call) 16 (omega arith), ← c .before .electrolyte-params-at .ensures) (c .rate-number .ensures)
+returns-4 c =
+    let electrolyte-params-at = c .before .electrolyte-params-at in
+    let args = c .before .before .before .before .before .before .before .args in
+    rw (lt-leb (args .call) 5 (omega arith), lt-leb (args .call) 10 (omega arith), lt-leb (args .call) 12 (omega arith), le-leb (args .call) 16 (omega arith),
+        ← electrolyte-params-at .ensures) (c .rate-number .ensures)
 
 electrolyte-at-requires : tie.Need-electrolyte-at-requires
 electrolyte-at-requires c κs = search needs
@@ -66,7 +76,11 @@ electrolyte-number-requires c κs = search needs
 
 returns-5 : tie.Need-returns-5
 unfolding numberOutcome
-returns-5 c = rw (lt-leb (c .before .before .before .before .before .before .before .args .call) 5 (omega arith), lt-leb (c .before .before .before .before .before .before .before .args .call) 10 (omega arith), lt-leb (c .before .before .before .before .before .before .before .args .call) 12 (omega arith), lt-leb (c .before .before .before .before .before .before .before .args .call) 16 (omega arith), ← c .before .electrolyte-at .ensures) (c .electrolyte-number .ensures)
+returns-5 c =
+    let electrolyte-at = c .before .electrolyte-at in
+    let args = c .before .before .before .before .before .before .before .args in
+    rw (lt-leb (args .call) 5 (omega arith), lt-leb (args .call) 10 (omega arith), lt-leb (args .call) 12 (omega arith), lt-leb (args .call) 16 (omega arith),
+        ← electrolyte-at .ensures) (c .electrolyte-number .ensures)
 
 pub number-of-spec : {M : Type 1} → statement M
 number-of-spec =

@@ -45,7 +45,9 @@ returns-4 c = rw (c .before .match .keys4) (c .c-avg .ensures)
 
 returns-5 : tie.Need-returns-5
 unfolding particleNumber
-returns-5 c = rw (ne-eqb _ _ (c .before .match .rest .0 .0 .0 .1), ne-eqb _ _ (c .before .match .rest .0 .0 .1), ne-eqb _ _ (c .before .match .rest .0 .1), ne-eqb _ _ (c .before .match .rest .1)) (c .ocp-surface .ensures)
+returns-5 c =
+    let match = c .before .match in
+    rw (ne-eqb _ _ (match .rest .0 .0 .0 .1), ne-eqb _ _ (match .rest .0 .0 .1), ne-eqb _ _ (match .rest .0 .1), ne-eqb _ _ (match .rest .1)) (c .ocp-surface .ensures)
 
 pub particle-number-spec : {M : Type 1} → statement M
 particle-number-spec =

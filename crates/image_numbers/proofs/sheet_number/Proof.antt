@@ -45,7 +45,9 @@ returns-4 c = rw (c .before .match .keys4) (c .docp-dtheta .ensures)
 
 returns-5 : tie.Need-returns-5
 unfolding sheetNumber
-returns-5 c = rw (ne-eqb _ _ (c .before .match .rest .0 .0 .0 .1), ne-eqb _ _ (c .before .match .rest .0 .0 .1), ne-eqb _ _ (c .before .match .rest .0 .1), ne-eqb _ _ (c .before .match .rest .1)) (c .sphere-volume .ensures)
+returns-5 c =
+    let match = c .before .match in
+    rw (ne-eqb _ _ (match .rest .0 .0 .0 .1), ne-eqb _ _ (match .rest .0 .0 .1), ne-eqb _ _ (match .rest .0 .1), ne-eqb _ _ (match .rest .1)) (c .sphere-volume .ensures)
 
 pub sheet-number-spec : {M : Type 1} → statement M
 sheet-number-spec =

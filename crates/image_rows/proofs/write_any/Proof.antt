@@ -40,7 +40,10 @@ loop-less c = search needs
 
 loop-again : tie.Need-loop-again Inv-loop μ-loop
 unfolding putPlaces
-loop-again c = (search needs, (search needs, (search needs, rw (add-one (c .before .before .before .before .before .before .loop .i), c .before .before .write-f64 .ensures, c .before .before .before .before .before .before .loop .inv .1 .1 .1))))
+loop-again c =
+    let write-f64 = c .before .before .write-f64 in
+    let loop = c .before .before .before .before .before .before .loop in
+    (search needs, (search needs, (search needs, rw (add-one (loop .i), write-f64 .ensures, loop .inv .1 .1 .1))))
 
 same-length : tie.Need-same-length Inv-loop μ-loop
 same-length c = search needs

@@ -38,8 +38,11 @@ shared-slice-read-write-bytes c = search needs
 float-to-bits-write-bytes : tie.Need-float-to-bits-write-bytes Inv-loop μ-loop
 unfolding noNan
 float-to-bits-write-bytes c =
-    let a = c .before .before .before .before .before .before .args in
-    no-nan _ (all-at (λ k. eq (getD (a .c .now) k nan) (getD (a .c .now) k nan)) (length (a .c .now)) (c .before .before .before .loop .i) (omega arith) (c .before .before .before .before .before .before .pre .1))
+    let loop = c .before .before .before .loop in
+    let args = c .before .before .before .before .before .before .args in
+    let pre = c .before .before .before .before .before .before .pre in
+    let a = args in
+    no-nan _ (all-at (λ k. eq (getD (a .c .now) k nan) (getD (a .c .now) k nan)) (length (a .c .now)) (loop .i) (omega arith) (pre .1))
 
 write-bytes-requires : tie.Need-write-bytes-requires Inv-loop μ-loop
 write-bytes-requires c κs = search needs

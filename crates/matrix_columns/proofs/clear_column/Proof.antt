@@ -73,7 +73,11 @@ loop-less c = search needs
 
 loop-again : tie.Need-loop-again Inv-loop μ-loop
 unfolding rowCleared rowLess
-loop-again c = (search needs, (search needs, rw (range-next (c .before .before .before .before .before .before .before .before .args .col + 1) (c .before .before .before .before .before .before .loop .row) _ _ (c .before .before .before .before .before .before .loop .inv .0), ← c .before .before .before .before .before .before .loop .inv .1 .1, c .before .before .reduce-row .ensures)))
+loop-again c =
+    let reduce-row = c .before .before .reduce-row in
+    let loop = c .before .before .before .before .before .before .loop in
+    let args = c .before .before .before .before .before .before .before .before .args in
+    (search needs, (search needs, rw (range-next (args .col + 1) (loop .row) _ _ (loop .inv .0), ← loop .inv .1 .1, reduce-row .ensures)))
 
 returns : tie.Need-returns Inv-loop μ-loop
 unfolding columnCleared

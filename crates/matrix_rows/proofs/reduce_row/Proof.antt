@@ -56,7 +56,10 @@ loop-less c = search needs
 
 loop-again : tie.Need-loop-again Inv-loop μ-loop
 unfolding rowReduced
-loop-again c = (search needs, (search needs, rw (range-next (c .before .before .before .before .args .col) (c .before .before .before .loop .k) _ _ (omega arith), ← c .before .before .before .loop .inv .1 .1)))
+loop-again c =
+    let loop = c .before .before .before .loop in
+    let args = c .before .before .before .before .args in
+    (search needs, (search needs, rw (range-next (args .col) (loop .k) _ _ (omega arith), ← loop .inv .1 .1)))
 
 returns : tie.Need-returns Inv-loop μ-loop
 returns c =

@@ -25,9 +25,14 @@ nearest-u64-to-f64-requires c κs = search needs
 -- the whole part, and what it is compared with
 now : (c : tie.After-nearest-u64-to-f64) → Counted (c .before .before .before .before .args .q) (c .before .truncating-f64-to-u64 .result) (c .nearest-u64-to-f64 .result)
 now c =
-    let start = c .before .before .before .before in
-    subst (Counted (start .args .q) (c .before .truncating-f64-to-u64 .result)) (sym (c .nearest-u64-to-f64 .ensures))
-    (subst (CountedBy (start .args .q)) (sym (c .before .truncating-f64-to-u64 .ensures)) (counted (start .args .q) (subst T (sym (start .good .0 .1)) tt) (not-false _ (c .before .before .before .if1 .left)) (c .before .before .if2 .left)))
+    let truncating-f64-to-u64 = c .before .truncating-f64-to-u64 in
+    let if2 = c .before .before .if2 in
+    let before = c .before .before .before .before in
+    let if1 = c .before .before .before .if1 in
+    let start = before in
+    subst (Counted (start .args .q) (truncating-f64-to-u64 .result)) (sym (c .nearest-u64-to-f64 .ensures))
+    (subst (CountedBy (start .args .q)) (sym (truncating-f64-to-u64 .ensures)) (counted (start .args .q) (subst T (sym (start .good .0 .1)) tt) (not-false _ (if1 .left))
+        (if2 .left)))
 
 add-result : tie.Need-add-result
 add-result c = omega (arith, now (c .before) .next (c .if3 .taken) .0)

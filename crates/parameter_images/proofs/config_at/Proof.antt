@@ -21,7 +21,12 @@ read-f64-requires-2 c κs = search needs
 
 returns : tie.Need-returns
 unfolding configAt
-returns c = rw (c .read-f642 .ensures, c .before .read-f64 .ensures, c .before .before .read-word3 .ensures, c .before .before .before .read-word2 .ensures, c .before .before .before .before .read-word .ensures)
+returns c =
+    let read-f64 = c .before .read-f64 in
+    let read-word3 = c .before .before .read-word3 in
+    let read-word2 = c .before .before .before .read-word2 in
+    let read-word = c .before .before .before .before .read-word in
+    rw (c .read-f642 .ensures, read-f64 .ensures, read-word3 .ensures, read-word2 .ensures, read-word .ensures)
 
 pub config-at-spec : {M : Type 1} → statement M
 config-at-spec =

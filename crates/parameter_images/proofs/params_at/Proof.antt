@@ -33,7 +33,13 @@ params-of-requires c κs = search needs
 
 returns : tie.Need-returns
 unfolding paramsAt
-returns c = rw (c .params-of .ensures, c .before .read-word2 .ensures, c .before .before .read-word .ensures, c .before .before .before .before .read-places3 .ensures, c .before .before .before .before .before .before .before .read-places2 .ensures, c .before .before .before .before .before .before .before .before .before .before .read-places .ensures)
+returns c =
+    let read-word2 = c .before .read-word2 in
+    let read-word = c .before .before .read-word in
+    let read-places3 = c .before .before .before .before .read-places3 in
+    let read-places2 = c .before .before .before .before .before .before .before .read-places2 in
+    let read-places = c .before .before .before .before .before .before .before .before .before .before .read-places in
+    rw (c .params-of .ensures, read-word2 .ensures, read-word .ensures, read-places3 .ensures, read-places2 .ensures, read-places .ensures)
 
 pub params-at-spec : {M : Type 1} → statement M
 params-at-spec =

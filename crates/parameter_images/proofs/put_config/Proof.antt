@@ -24,7 +24,13 @@ same-length c = search needs depth 24
 
 returns : tie.Need-returns
 unfolding putConfig
-returns c = rw (c .before .before .write-f642 .ensures, c .before .before .before .before .before .before .write-f64 .ensures, c .before .before .before .before .before .before .before .before .before .before .write-word3 .ensures, c .before .before .before .before .before .before .before .before .before .before .before .before .before .before .write-word2 .ensures, c .before .before .before .before .before .before .before .before .before .before .before .before .before .before .before .before .before .before .write-word .ensures)
+returns c =
+    let write-f642 = c .before .before .write-f642 in
+    let write-f64 = c .before .before .before .before .before .before .write-f64 in
+    let write-word3 = c .before .before .before .before .before .before .before .before .before .before .write-word3 in
+    let write-word2 = c .before .before .before .before .before .before .before .before .before .before .before .before .before .before .write-word2 in
+    let write-word = c .before .before .before .before .before .before .before .before .before .before .before .before .before .before .before .before .before .before .write-word in
+    rw (write-f642 .ensures, write-f64 .ensures, write-word3 .ensures, write-word2 .ensures, write-word .ensures)
 
 pub put-config-spec : {M : Type 1} → statement M
 put-config-spec =

@@ -30,7 +30,14 @@ same-length c = search needs depth 32
 
 returns : tie.Need-returns
 unfolding putParams
-returns c = rw (c .before .before .write-places3 .ensures, c .before .before .before .before .before .before .before .before .before .write-word2 .ensures, c .before .before .before .before .before .before .before .before .before .before .before .before .before .write-places2 .ensures, c .before .before .before .before .before .before .before .before .before .before .before .before .before .before .before .before .before .before .before .before .write-word .ensures, c .before .before .before .before .before .before .before .before .before .before .before .before .before .before .before .before .before .before .before .before .before .before .before .before .write-places .ensures, c .before .before .before .before .before .before .before .before .before .before .before .before .before .before .before .before .before .before .before .before .before .before .before .before .before .before .before .numbers-of .ensures)
+returns c =
+    let write-places3 = c .before .before .write-places3 in
+    let write-word2 = c .before .before .before .before .before .before .before .before .before .write-word2 in
+    let write-places2 = c .before .before .before .before .before .before .before .before .before .before .before .before .before .write-places2 in
+    let write-word = c .before .before .before .before .before .before .before .before .before .before .before .before .before .before .before .before .before .before .before .before .write-word in
+    let write-places = c .before .before .before .before .before .before .before .before .before .before .before .before .before .before .before .before .before .before .before .before .before .before .before .before .write-places in
+    let numbers-of = c .before .before .before .before .before .before .before .before .before .before .before .before .before .before .before .before .before .before .before .before .before .before .before .before .before .before .before .numbers-of in
+    rw (write-places3 .ensures, write-word2 .ensures, write-places2 .ensures, write-word .ensures, write-places .ensures, numbers-of .ensures)
 
 pub put-params-spec : {M : Type 1} → statement M
 put-params-spec =

@@ -16,16 +16,26 @@ element-copy-out-result : tie.Need-element-copy-out-result
 element-copy-out-result c = search needs
 
 returns : tie.Need-returns
-returns c = let a = c .before .before .before .before .before .args in
+returns c =
+    let if1 = c .before .if1 in
+    let sums-of = c .before .before .before .sums-of in
+    let spacing′ = c .before .before .before .before .spacing in
+    let args = c .before .before .before .before .before .args in
+    let a = args in
     let p = particleOf (a .params) (a .n) (a .c .now) in
-    let e : c .before .before .before .sums-of .result ≡ sumsAfter (p .«c_s») (p .«n_nodes») (spacing p) (p .«n_nodes») = rw (c .before .before .before .sums-of .ensures, c .before .before .before .before .spacing .ensures (a .c .now)) in
-    rw (average-by p (c .before .before .before .sums-of .result) e, c .before .if1 .taken)
+    let e : sums-of .result ≡ sumsAfter (p .«c_s») (p .«n_nodes») (spacing p) (p .«n_nodes») = rw (sums-of .ensures, spacing′ .ensures (a .c .now)) in
+    rw (average-by p (sums-of .result) e, if1 .taken)
 
 returns-2 : tie.Need-returns-2
-returns-2 c = let a = c .before .before .before .before .before .args in
+returns-2 c =
+    let if1 = c .before .if1 in
+    let sums-of = c .before .before .before .sums-of in
+    let spacing′ = c .before .before .before .before .spacing in
+    let args = c .before .before .before .before .before .args in
+    let a = args in
     let p = particleOf (a .params) (a .n) (a .c .now) in
-    let e : c .before .before .before .sums-of .result ≡ sumsAfter (p .«c_s») (p .«n_nodes») (spacing p) (p .«n_nodes») = rw (c .before .before .before .sums-of .ensures, c .before .before .before .before .spacing .ensures (a .c .now)) in
-    rw (average-by p (c .before .before .before .sums-of .result) e, c .before .if1 .left, c .before .before .before .before .spacing .ensures (a .c .now))
+    let e : sums-of .result ≡ sumsAfter (p .«c_s») (p .«n_nodes») (spacing p) (p .«n_nodes») = rw (sums-of .ensures, spacing′ .ensures (a .c .now)) in
+    rw (average-by p (sums-of .result) e, if1 .left, spacing′ .ensures (a .c .now))
 
 pub average-spec : {M : Type 1} → statement M
 average-spec =

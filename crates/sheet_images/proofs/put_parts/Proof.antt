@@ -24,7 +24,11 @@ same-length c = search needs depth 24
 
 returns : tie.Need-returns
 unfolding putParticle
-returns c = rw (c .before .before .write-places .ensures, c .before .before .before .before .before .before .before .write-word .ensures, c .before .before .before .before .before .before .before .before .before .before .before .put-sheet .ensures)
+returns c =
+    let write-places = c .before .before .write-places in
+    let write-word = c .before .before .before .before .before .before .before .write-word in
+    let put-sheet = c .before .before .before .before .before .before .before .before .before .before .before .put-sheet in
+    rw (write-places .ensures, write-word .ensures, put-sheet .ensures)
 
 pub put-parts-spec : {M : Type 1} → statement M
 put-parts-spec =

@@ -77,16 +77,27 @@ refused-move-requires c κs = search needs
 
 returns : tie.Need-returns
 returns c =
-    let a = c .before .before .before .before .before .before .before .args in
+    let if1 = c .before .if1 in
+    let first-refusal = c .before .before .first-refusal in
+    let argument-refusal = c .before .before .before .argument-refusal in
+    let cell-refusal = c .before .before .before .before .cell-refusal in
+    let args = c .before .before .before .before .before .before .before .args in
+    let a = args in
     let s = cellOf (a .q) (a .c-neg .now) (a .c-pos .now) in
-    rw (refused-early s (a .current-a) (a .dt) (a .temp-k) _ _ _ (c .before .before .before .before .cell-refusal .ensures) (c .before .before .before .argument-refusal .ensures) (c .before .before .first-refusal .ensures) (c .before .if1 .taken), c .refused-move .ensures)
+    rw (refused-early s (a .current-a) (a .dt) (a .temp-k) _ _ _ (cell-refusal .ensures) (argument-refusal .ensures) (first-refusal .ensures) (if1 .taken),
+        c .refused-move .ensures)
     (refl, (refl, (refl, (refl, refl))))
 
 plan-of-requires : tie.Need-plan-of-requires
 plan-of-requires c κs =
-    let a = c .before .before .before .before .before .before .before .args in
+    let if1 = c .before .if1 in
+    let first-refusal = c .before .before .first-refusal in
+    let argument-refusal = c .before .before .before .argument-refusal in
+    let cell-refusal = c .before .before .before .before .cell-refusal in
+    let args = c .before .before .before .before .before .before .before .args in
+    let a = args in
     let s = cellOf (a .q) (a .c-neg .now) (a .c-pos .now) in
-    nodes s (a .current-a) (a .dt) (a .temp-k) _ _ _ (c .before .before .before .before .cell-refusal .ensures) (c .before .before .before .argument-refusal .ensures) (c .before .before .first-refusal .ensures) (c .before .if1 .left)
+    nodes s (a .current-a) (a .dt) (a .temp-k) _ _ _ (cell-refusal .ensures) (argument-refusal .ensures) (first-refusal .ensures) (if1 .left)
 
 plan-refusal-requires : tie.Need-plan-refusal-requires
 plan-refusal-requires c κs = search needs
@@ -97,23 +108,46 @@ refused-move-requires-2 c κs = search needs
 returns-2 : tie.Need-returns-2
 unfolding planOf currentDensity
 returns-2 c =
-    let a = c .before .before .before .before .before .before .before .before .before .before .before .args in
+    let if2 = c .before .if2 in
+    let plan-refusal = c .before .before .plan-refusal in
+    let plan-of = c .before .before .before .plan-of in
+    let if1 = c .before .before .before .before .before .if1 in
+    let first-refusal = c .before .before .before .before .before .before .first-refusal in
+    let argument-refusal = c .before .before .before .before .before .before .before .argument-refusal in
+    let cell-refusal = c .before .before .before .before .before .before .before .before .cell-refusal in
+    let args = c .before .before .before .before .before .before .before .before .before .before .before .args in
+    let a = args in
     let s = cellOf (a .q) (a .c-neg .now) (a .c-pos .now) in
-    rw (refused-late s (a .current-a) (a .dt) (a .temp-k) _ _ _ (c .before .before .before .before .before .before .before .before .cell-refusal .ensures) (c .before .before .before .before .before .before .before .argument-refusal .ensures) (c .before .before .before .before .before .before .first-refusal .ensures) (c .before .before .before .before .before .if1 .left) _ (c .before .before .before .plan-of .ensures _ _) _ (c .before .before .plan-refusal .ensures) (c .before .if2 .taken), c .refused-move2 .ensures)
+    rw (refused-late s (a .current-a) (a .dt) (a .temp-k) _ _ _ (cell-refusal .ensures) (argument-refusal .ensures) (first-refusal .ensures) (if1 .left) _
+        (plan-of .ensures _ _) _ (plan-refusal .ensures) (if2 .taken), c .refused-move2 .ensures)
     (refl, (refl, (refl, (refl, refl))))
 
 follow-requires : tie.Need-follow-requires
 follow-requires c κs =
-    let a = c .before .before .before .before .before .before .before .before .before .before .before .before .args in
+    let if1 = c .before .before .before .before .before .before .if1 in
+    let first-refusal = c .before .before .before .before .before .before .before .first-refusal in
+    let argument-refusal = c .before .before .before .before .before .before .before .before .argument-refusal in
+    let cell-refusal = c .before .before .before .before .before .before .before .before .before .cell-refusal in
+    let args = c .before .before .before .before .before .before .before .before .before .before .before .before .args in
+    let a = args in
     let s = cellOf (a .q) (a .c-neg .now) (a .c-pos .now) in
-    nodes s (a .current-a) (a .dt) (a .temp-k) _ _ _ (c .before .before .before .before .before .before .before .before .before .cell-refusal .ensures) (c .before .before .before .before .before .before .before .before .argument-refusal .ensures) (c .before .before .before .before .before .before .before .first-refusal .ensures) (c .before .before .before .before .before .before .if1 .left)
+    nodes s (a .current-a) (a .dt) (a .temp-k) _ _ _ (cell-refusal .ensures) (argument-refusal .ensures) (first-refusal .ensures) (if1 .left)
 
 returns-3 : tie.Need-returns-3
 unfolding planOf currentDensity
 returns-3 c =
-    let a = c .before .before .before .before .before .before .before .before .before .before .before .before .before .args in
+    let if2 = c .before .before .before .if2 in
+    let plan-refusal = c .before .before .before .before .plan-refusal in
+    let plan-of = c .before .before .before .before .before .plan-of in
+    let if1 = c .before .before .before .before .before .before .before .if1 in
+    let first-refusal = c .before .before .before .before .before .before .before .before .first-refusal in
+    let argument-refusal = c .before .before .before .before .before .before .before .before .before .argument-refusal in
+    let cell-refusal = c .before .before .before .before .before .before .before .before .before .before .cell-refusal in
+    let args = c .before .before .before .before .before .before .before .before .before .before .before .before .before .args in
+    let a = args in
     let s = cellOf (a .q) (a .c-neg .now) (a .c-pos .now) in
-    rw (to-end s (a .current-a) (a .dt) (a .temp-k) _ _ _ (c .before .before .before .before .before .before .before .before .before .before .cell-refusal .ensures) (c .before .before .before .before .before .before .before .before .before .argument-refusal .ensures) (c .before .before .before .before .before .before .before .before .first-refusal .ensures) (c .before .before .before .before .before .before .before .if1 .left) _ (c .before .before .before .before .before .plan-of .ensures _ _) _ (c .before .before .before .before .plan-refusal .ensures) (c .before .before .before .if2 .left))
+    rw (to-end s (a .current-a) (a .dt) (a .temp-k) _ _ _ (cell-refusal .ensures) (argument-refusal .ensures) (first-refusal .ensures) (if1 .left) _ (plan-of .ensures _ _) _
+        (plan-refusal .ensures) (if2 .left))
     (followed-agrees (a .q) _ (a .c-neg .now) (a .c-pos .now) (a .current-a) (a .dt) (a .temp-k) _ _ _ (c .follow .ensures))
 
 pub step-in-place-spec : {M : Type 1} → statement M

@@ -21,7 +21,12 @@ first-refusal-requires c κs = search needs
 
 returns : tie.Need-returns
 unfolding planRefusal
-returns c = rw (c .first-refusal .ensures, c .before .refusal-unless2 .ensures, c .before .before .refusal-unless .ensures, c .before .before .before .before .within2 .ensures, c .before .before .before .before .before .within .ensures)
+returns c =
+    let refusal-unless2 = c .before .refusal-unless2 in
+    let refusal-unless = c .before .before .refusal-unless in
+    let within2 = c .before .before .before .before .within2 in
+    let within = c .before .before .before .before .before .within in
+    rw (c .first-refusal .ensures, refusal-unless2 .ensures, refusal-unless .ensures, within2 .ensures, within .ensures)
 
 pub plan-refusal-spec : {M : Type 1} → statement M
 plan-refusal-spec =

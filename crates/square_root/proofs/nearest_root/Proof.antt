@@ -23,7 +23,9 @@ returns : tie.Need-returns
 returns c = (nearest-test _ _ (sym (c .before .is-nearest .ensures) ∙ c .if1 .taken), c .before .before .guess .ensures)
 
 by-halving-requires : tie.Need-by-halving-requires
-by-halving-requires c κs = let a = c .before .before .before in (doubled-ge (a .args .c) (a .args .odd) (a .pre .0 .0), doubled-lt (a .args .c) (a .args .odd) (a .pre .0 .1) (a .pre .1))
+by-halving-requires c κs =
+    let before = c .before .before .before in
+    let a = before in (doubled-ge (a .args .c) (a .args .odd) (a .pre .0 .0), doubled-lt (a .args .c) (a .args .odd) (a .pre .0 .1) (a .pre .1))
 
 returns-2 : tie.Need-returns-2
 returns-2 c = search needs

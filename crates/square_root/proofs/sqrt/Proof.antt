@@ -55,9 +55,12 @@ returns-2 c =
 
 returns-3 : tie.Need-returns-3
 returns-3 c =
-    let start = c .before .before .before in
+    let if2 = c .before .if2 in
+    let before = c .before .before .before in
+    let start = before in
     let lt : bits start < 2 ^ 64 = toBits-lt binary64 (start .args .x) (representable start) in
-    both start _ (zero-by-zero ∙ sym (subst (λ (v : Float). sqrtOf v ≡ nan) (back start) (at-negative sqrtOf nan-root negative-root (bits start) (lt-of-le-ne (c .before .if2 .taken) (λ e. c .if3 .left (sym e))) lt)))
+    both start _ (zero-by-zero ∙ sym (subst (λ (v : Float). sqrtOf v ≡ nan) (back start) (at-negative sqrtOf nan-root negative-root (bits start) (lt-of-le-ne (if2 .taken)
+        (λ e. c .if3 .left (sym e))) lt)))
 
 returns-4 : tie.Need-returns-4
 returns-4 c =

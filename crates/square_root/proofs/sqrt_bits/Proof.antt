@@ -30,11 +30,14 @@ add-result-2 c = omega (arith, normal (c .before) .top, c .nearest-root .ensures
 
 returns : tie.Need-returns
 returns c =
-    let p = c .before .parts-of in
-    let start = c .before .before in
+    let before = c .before .before in
+    let parts-of = c .before .parts-of in
+    let p = parts-of in
+    let start = before in
     let b = start .args .b in
     let n = c .nearest-root in (
-      sym (root-bits (ofBits binary64 b) (unitsOf (b / 2 ^ 52) (b % 2 ^ 52)) (p .result .c) (p .result .w) (n .result) (positive-value b (start .pre .1)) (positive-units b (start .pre .0)) (normal (c .before)) (n .ensures .0) (n .ensures .1)),
+      sym (root-bits (ofBits binary64 b) (unitsOf (b / 2 ^ 52) (b % 2 ^ 52)) (p .result .c) (p .result .w) (n .result) (positive-value b (start .pre .1)) (positive-units b
+          (start .pre .0)) (normal (c .before)) (n .ensures .0) (n .ensures .1)),
       omega (arith, normal (c .before) .top, n .ensures .1),
     )
 

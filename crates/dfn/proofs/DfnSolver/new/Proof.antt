@@ -31,43 +31,87 @@ no-cell-requires-2 c κs = search needs
 
 returns-2 : tie.Need-returns-2
 unfolding made newRefusal firstRefusal refusalUnless
-returns-2 c = rw (← c .before .before .before .before .before .grid-fits .ensures, not-false (c .before .before .before .before .before .grid-fits .result) (c .before .before .before .before .if1 .left), ← c .before .before .before .fit .ensures, ← c .before .before .limits-fit .ensures, not-true (c .before .before .before .fit .result && c .before .before .limits-fit .result) (c .before .if2 .taken), c .no-cell2 .ensures)
+returns-2 c =
+    let if2 = c .before .if2 in
+    let limits-fit = c .before .before .limits-fit in
+    let fit = c .before .before .before .fit in
+    let if1 = c .before .before .before .before .if1 in
+    let grid-fits = c .before .before .before .before .before .grid-fits in
+    rw (← grid-fits .ensures, not-false (grid-fits .result) (if1 .left), ← fit .ensures, ← limits-fit .ensures, not-true (fit .result && limits-fit .result) (if2 .taken),
+        c .no-cell2 .ensures)
 
 mul-uniform-solid : tie.Need-mul-uniform-solid
-mul-uniform-solid c = let g = grid-of (c .before .before .before .before .before .before .before .args .config) (c .before .before .before .before .before .before .grid-fits .result) (c .before .before .before .before .before .before .grid-fits .ensures) (c .before .before .before .before .before .if1 .left) in
-    let r = room (c .before .before .before .before .before .before .before .args .config .«n_x_neg») (c .before .before .before .before .before .before .before .args .config .«n_r») (g .most-neg) (g .most-r) in
+mul-uniform-solid c =
+    let if1 = c .before .before .before .before .before .if1 in
+    let grid-fits = c .before .before .before .before .before .before .grid-fits in
+    let args = c .before .before .before .before .before .before .before .args in
+    let g = grid-of (args .config) (grid-fits .result) (grid-fits .ensures) (if1 .left) in
+    let r = room (args .config .«n_x_neg») (args .config .«n_r») (g .most-neg) (g .most-r) in
     omega (arith, r)
 
 uniform-solid-requires : tie.Need-uniform-solid-requires
-uniform-solid-requires c κs = let g = grid-of (c .before .before .before .before .before .before .before .args .config) (c .before .before .before .before .before .before .grid-fits .result) (c .before .before .before .before .before .before .grid-fits .ensures) (c .before .before .before .before .before .if1 .left) in
-    let r = room (c .before .before .before .before .before .before .before .args .config .«n_x_neg») (c .before .before .before .before .before .before .before .args .config .«n_r») (g .most-neg) (g .most-r) in
+uniform-solid-requires c κs =
+    let if1 = c .before .before .before .before .before .if1 in
+    let grid-fits = c .before .before .before .before .before .before .grid-fits in
+    let args = c .before .before .before .before .before .before .before .args in
+    let g = grid-of (args .config) (grid-fits .result) (grid-fits .ensures) (if1 .left) in
+    let r = room (args .config .«n_x_neg») (args .config .«n_r») (g .most-neg) (g .most-r) in
     r
 
 mul-uniform-solid-2 : tie.Need-mul-uniform-solid-2
-mul-uniform-solid-2 c = let g = grid-of (c .before .before .before .before .before .before .before .before .before .before .args .config) (c .before .before .before .before .before .before .before .before .before .grid-fits .result) (c .before .before .before .before .before .before .before .before .before .grid-fits .ensures) (c .before .before .before .before .before .before .before .before .if1 .left) in
-    let r = room (c .before .before .before .before .before .before .before .before .before .before .args .config .«n_x_pos») (c .before .before .before .before .before .before .before .before .before .before .args .config .«n_r») (g .most-pos) (g .most-r) in
+mul-uniform-solid-2 c =
+    let if1 = c .before .before .before .before .before .before .before .before .if1 in
+    let grid-fits = c .before .before .before .before .before .before .before .before .before .grid-fits in
+    let args = c .before .before .before .before .before .before .before .before .before .before .args in
+    let g = grid-of (args .config) (grid-fits .result) (grid-fits .ensures) (if1 .left) in
+    let r = room (args .config .«n_x_pos») (args .config .«n_r») (g .most-pos) (g .most-r) in
     omega (arith, r)
 
 uniform-solid-requires-2 : tie.Need-uniform-solid-requires-2
-uniform-solid-requires-2 c κs = let g = grid-of (c .before .before .before .before .before .before .before .before .before .before .args .config) (c .before .before .before .before .before .before .before .before .before .grid-fits .result) (c .before .before .before .before .before .before .before .before .before .grid-fits .ensures) (c .before .before .before .before .before .before .before .before .if1 .left) in
-    let r = room (c .before .before .before .before .before .before .before .before .before .before .args .config .«n_x_pos») (c .before .before .before .before .before .before .before .before .before .before .args .config .«n_r») (g .most-pos) (g .most-r) in
+uniform-solid-requires-2 c κs =
+    let if1 = c .before .before .before .before .before .before .before .before .if1 in
+    let grid-fits = c .before .before .before .before .before .before .before .before .before .grid-fits in
+    let args = c .before .before .before .before .before .before .before .before .before .before .args in
+    let g = grid-of (args .config) (grid-fits .result) (grid-fits .ensures) (if1 .left) in
+    let r = room (args .config .«n_x_pos») (args .config .«n_r») (g .most-pos) (g .most-r) in
     r
 
 add-uniform-electrolyte : tie.Need-add-uniform-electrolyte
-add-uniform-electrolyte c = let g = grid-of (c .before .before .before .before .before .before .before .before .before .before .before .before .args .config) (c .before .before .before .before .before .before .before .before .before .before .before .grid-fits .result) (c .before .before .before .before .before .before .before .before .before .before .before .grid-fits .ensures) (c .before .before .before .before .before .before .before .before .before .before .if1 .left) in
+add-uniform-electrolyte c =
+    let if1 = c .before .before .before .before .before .before .before .before .before .before .if1 in
+    let grid-fits = c .before .before .before .before .before .before .before .before .before .before .before .grid-fits in
+    let args = c .before .before .before .before .before .before .before .before .before .before .before .before .args in
+    let g = grid-of (args .config) (grid-fits .result) (grid-fits .ensures) (if1 .left) in
     omega (arith, g .most-neg)
 
 add-uniform-electrolyte-2 : tie.Need-add-uniform-electrolyte-2
-add-uniform-electrolyte-2 c = let g = grid-of (c .before .before .before .before .before .before .before .before .before .before .before .before .before .args .config) (c .before .before .before .before .before .before .before .before .before .before .before .before .grid-fits .result) (c .before .before .before .before .before .before .before .before .before .before .before .before .grid-fits .ensures) (c .before .before .before .before .before .before .before .before .before .before .before .if1 .left) in
+add-uniform-electrolyte-2 c =
+    let if1 = c .before .before .before .before .before .before .before .before .before .before .before .if1 in
+    let grid-fits = c .before .before .before .before .before .before .before .before .before .before .before .before .grid-fits in
+    let args = c .before .before .before .before .before .before .before .before .before .before .before .before .before .args in
+    let g = grid-of (args .config) (grid-fits .result) (grid-fits .ensures) (if1 .left) in
     omega (arith, g .most-neg, g .most-pos)
 
 uniform-electrolyte-requires : tie.Need-uniform-electrolyte-requires
-uniform-electrolyte-requires c κs = let g = grid-of (c .before .before .before .before .before .before .before .before .before .before .before .before .before .args .config) (c .before .before .before .before .before .before .before .before .before .before .before .before .grid-fits .result) (c .before .before .before .before .before .before .before .before .before .before .before .before .grid-fits .ensures) (c .before .before .before .before .before .before .before .before .before .before .before .if1 .left) in
+uniform-electrolyte-requires c κs =
+    let if1 = c .before .before .before .before .before .before .before .before .before .before .before .if1 in
+    let grid-fits = c .before .before .before .before .before .before .before .before .before .before .before .before .grid-fits in
+    let args = c .before .before .before .before .before .before .before .before .before .before .before .before .before .args in
+    let g = grid-of (args .config) (grid-fits .result) (grid-fits .ensures) (if1 .left) in
     omega (arith, g .most-neg, g .most-pos)
 
 returns-3 : tie.Need-returns-3
 unfolding made newRefusal fresh firstRefusal refusalUnless
-returns-3 c = rw (← c .before .before .before .before .before .before .before .before .before .before .before .before .before .grid-fits .ensures, not-false (c .before .before .before .before .before .before .before .before .before .before .before .before .before .grid-fits .result) (c .before .before .before .before .before .before .before .before .before .before .before .before .if1 .left), ← c .before .before .before .before .before .before .before .before .before .before .before .fit .ensures, ← c .before .before .before .before .before .before .before .before .before .before .limits-fit .ensures, not-false (c .before .before .before .before .before .before .before .before .before .before .before .fit .result && c .before .before .before .before .before .before .before .before .before .before .limits-fit .result) (c .before .before .before .before .before .before .before .before .before .if2 .left), c .uniform-electrolyte .ensures, c .before .before .before .uniform-solid2 .ensures, c .before .before .before .before .before .before .uniform-solid .ensures)
+returns-3 c =
+    let uniform-solid2 = c .before .before .before .uniform-solid2 in
+    let uniform-solid = c .before .before .before .before .before .before .uniform-solid in
+    let if2 = c .before .before .before .before .before .before .before .before .before .if2 in
+    let limits-fit = c .before .before .before .before .before .before .before .before .before .before .limits-fit in
+    let fit = c .before .before .before .before .before .before .before .before .before .before .before .fit in
+    let if1 = c .before .before .before .before .before .before .before .before .before .before .before .before .if1 in
+    let grid-fits = c .before .before .before .before .before .before .before .before .before .before .before .before .before .grid-fits in
+    rw (← grid-fits .ensures, not-false (grid-fits .result) (if1 .left), ← fit .ensures, ← limits-fit .ensures, not-false (fit .result && limits-fit .result) (if2 .left),
+        c .uniform-electrolyte .ensures, uniform-solid2 .ensures, uniform-solid .ensures)
 
 pub new-spec : {M : Type 1} → statement M
 new-spec =

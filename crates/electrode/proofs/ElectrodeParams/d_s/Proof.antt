@@ -27,7 +27,14 @@ answered-requires c κs = search needs
 
 returns : tie.Need-returns
 unfolding dS sheetRefusal
-returns c = rw (c .answered .ensures, c .before .diffusivity-at .ensures, c .before .before .first-refusal .ensures, c .before .before .before .refusal-unless2 .ensures, c .before .before .before .before .temperature-fits .ensures, c .before .before .before .before .before .refusal-unless .ensures, c .before .before .before .before .before .before .fits2 .ensures)
+returns c =
+    let diffusivity-at = c .before .diffusivity-at in
+    let first-refusal = c .before .before .first-refusal in
+    let refusal-unless2 = c .before .before .before .refusal-unless2 in
+    let temperature-fits = c .before .before .before .before .temperature-fits in
+    let refusal-unless = c .before .before .before .before .before .refusal-unless in
+    let fits2 = c .before .before .before .before .before .before .fits2 in
+    rw (c .answered .ensures, diffusivity-at .ensures, first-refusal .ensures, refusal-unless2 .ensures, temperature-fits .ensures, refusal-unless .ensures, fits2 .ensures)
 
 pub d-s-spec : {M : Type 1} → statement M
 d-s-spec =

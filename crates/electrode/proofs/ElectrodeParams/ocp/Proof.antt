@@ -21,7 +21,12 @@ answered-requires c κs = search needs
 
 returns : tie.Need-returns
 unfolding ocpCall thetaRefusal
-returns c = rw (c .answered .ensures, c .before .open-circuit .ensures, c .before .before .refusal-unless .ensures, c .before .before .before .is-finite .ensures, c .before .before .before .before .fits2 .ensures)
+returns c =
+    let open-circuit = c .before .open-circuit in
+    let refusal-unless = c .before .before .refusal-unless in
+    let is-finite = c .before .before .before .is-finite in
+    let fits2 = c .before .before .before .before .fits2 in
+    rw (c .answered .ensures, open-circuit .ensures, refusal-unless .ensures, is-finite .ensures, fits2 .ensures)
 
 pub ocp-spec : {M : Type 1} → statement M
 ocp-spec =

@@ -29,17 +29,33 @@ answered-requires c κs = search needs
 
 returns : tie.Need-returns
 unfolding dtStable
-returns c = let a = c .before .before .before .before .before .before .args in
-    let e : c .before .before .first-refusal .result ≡ firstRefusal (particleRefusal (a .self)) (refusalUnless (temperatureFits (a .temp-k)) temperature) = rw (c .before .before .first-refusal .ensures, c .before .before .before .refusal .ensures, c .before .before .before .before .refusal-unless .ensures, c .before .before .before .before .before .temperature-fits .ensures) in
-    rw (← e, c .answered .ensures) (refused-outcome _ «0·0» (stableStep (a .self) (diffusivityAt (a .self .params) (a .temp-k))) (c .before .if1 .taken))
+returns c =
+    let if1 = c .before .if1 in
+    let first-refusal = c .before .before .first-refusal in
+    let refusal = c .before .before .before .refusal in
+    let refusal-unless = c .before .before .before .before .refusal-unless in
+    let temperature-fits = c .before .before .before .before .before .temperature-fits in
+    let args = c .before .before .before .before .before .before .args in
+    let a = args in
+    let e : first-refusal .result ≡ firstRefusal (particleRefusal (a .self)) (refusalUnless (temperatureFits (a .temp-k)) temperature) = rw (first-refusal .ensures,
+        refusal .ensures, refusal-unless .ensures, temperature-fits .ensures) in
+    rw (← e, c .answered .ensures) (refused-outcome _ «0·0» (stableStep (a .self) (diffusivityAt (a .self .params) (a .temp-k))) (if1 .taken))
 
 diffusivity-at-requires : tie.Need-diffusivity-at-requires
 diffusivity-at-requires c κs = search needs
 
 stable-step-requires : tie.Need-stable-step-requires
-stable-step-requires c κs = let a = c .before .before .before .before .before .before .before .args in
-    let valid : c .before .before .before .first-refusal .result ≡ firstRefusal (particleRefusal (a .self)) (refusalUnless (temperatureFits (a .temp-k)) temperature) = rw (c .before .before .before .first-refusal .ensures, c .before .before .before .before .refusal .ensures, c .before .before .before .before .before .refusal-unless .ensures, c .before .before .before .before .before .before .temperature-fits .ensures) in
-    let e : firstRefusal (particleRefusal (a .self)) (refusalUnless (temperatureFits (a .temp-k)) temperature) ≡ 0 = sym valid ∙ c .before .before .if1 .left in
+stable-step-requires c κs =
+    let if1 = c .before .before .if1 in
+    let first-refusal = c .before .before .before .first-refusal in
+    let refusal = c .before .before .before .before .refusal in
+    let refusal-unless = c .before .before .before .before .before .refusal-unless in
+    let temperature-fits = c .before .before .before .before .before .before .temperature-fits in
+    let args = c .before .before .before .before .before .before .before .args in
+    let a = args in
+    let valid : first-refusal .result ≡ firstRefusal (particleRefusal (a .self)) (refusalUnless (temperatureFits (a .temp-k)) temperature) = rw (first-refusal .ensures,
+        refusal .ensures, refusal-unless .ensures, temperature-fits .ensures) in
+    let e : firstRefusal (particleRefusal (a .self)) (refusalUnless (temperatureFits (a .temp-k)) temperature) ≡ 0 = sym valid ∙ if1 .left in
     nodes-of (a .self) (neither-refused _ _ e .0)
 
 answered-requires-2 : tie.Need-answered-requires-2
@@ -47,9 +63,18 @@ answered-requires-2 c κs = search needs
 
 returns-2 : tie.Need-returns-2
 unfolding dtStable
-returns-2 c = let a = c .before .before .before .before .before .before .before .before .before .args in
-    let e : c .before .before .before .before .before .first-refusal .result ≡ firstRefusal (particleRefusal (a .self)) (refusalUnless (temperatureFits (a .temp-k)) temperature) = rw (c .before .before .before .before .before .first-refusal .ensures, c .before .before .before .before .before .before .refusal .ensures, c .before .before .before .before .before .before .before .refusal-unless .ensures, c .before .before .before .before .before .before .before .before .temperature-fits .ensures) in
-    rw (← e, c .answered2 .ensures, c .before .stable-step .ensures (a .self .«c_s»), c .before .before .diffusivity-at .ensures)
+returns-2 c =
+    let stable-step = c .before .stable-step in
+    let diffusivity-at = c .before .before .diffusivity-at in
+    let first-refusal = c .before .before .before .before .before .first-refusal in
+    let refusal = c .before .before .before .before .before .before .refusal in
+    let refusal-unless = c .before .before .before .before .before .before .before .refusal-unless in
+    let temperature-fits = c .before .before .before .before .before .before .before .before .temperature-fits in
+    let args = c .before .before .before .before .before .before .before .before .before .args in
+    let a = args in
+    let e : first-refusal .result ≡ firstRefusal (particleRefusal (a .self)) (refusalUnless (temperatureFits (a .temp-k)) temperature) = rw (first-refusal .ensures,
+        refusal .ensures, refusal-unless .ensures, temperature-fits .ensures) in
+    rw (← e, c .answered2 .ensures, stable-step .ensures (a .self .«c_s»), diffusivity-at .ensures)
 
 pub dt-stable-spec : {M : Type 1} → statement M
 dt-stable-spec =

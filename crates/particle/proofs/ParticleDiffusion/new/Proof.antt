@@ -28,22 +28,49 @@ no-particle-requires c κs = search needs
 
 returns : tie.Need-returns
 unfolding made newRefusal
-returns c = let a = c .before .before .before .before .before .before .before .args in
-    let e : c .before .before .first-refusal .result ≡ newRefusal (a .params) (a .n-nodes) = rw (c .before .before .first-refusal .ensures, c .before .before .before .refusal-unless2 .ensures, c .before .before .before .before .fits2 .ensures, c .before .before .before .before .before .refusal-unless .ensures, c .before .before .before .before .before .before .count-within .ensures) in
-    rw (← e, ne-eqb _ _ (c .before .if1 .taken), c .no-particle .ensures)
+returns c =
+    let if1 = c .before .if1 in
+    let first-refusal = c .before .before .first-refusal in
+    let refusal-unless2 = c .before .before .before .refusal-unless2 in
+    let fits2 = c .before .before .before .before .fits2 in
+    let refusal-unless = c .before .before .before .before .before .refusal-unless in
+    let count-within = c .before .before .before .before .before .before .count-within in
+    let args = c .before .before .before .before .before .before .before .args in
+    let a = args in
+    let e : first-refusal .result ≡ newRefusal (a .params) (a .n-nodes) = rw (first-refusal .ensures, refusal-unless2 .ensures, fits2 .ensures, refusal-unless .ensures,
+        count-within .ensures) in
+    rw (← e, ne-eqb _ _ (if1 .taken), c .no-particle .ensures)
 
 uniform-requires : tie.Need-uniform-requires
 unfolding newRefusal
-uniform-requires c κs = let a = c .before .before .before .before .before .before .before .args in
-    let valid : c .before .before .first-refusal .result ≡ newRefusal (a .params) (a .n-nodes) = rw (c .before .before .first-refusal .ensures, c .before .before .before .refusal-unless2 .ensures, c .before .before .before .before .fits2 .ensures, c .before .before .before .before .before .refusal-unless .ensures, c .before .before .before .before .before .before .count-within .ensures) in
-    let e : newRefusal (a .params) (a .n-nodes) ≡ 0 = sym valid ∙ c .before .if1 .left in
+uniform-requires c κs =
+    let if1 = c .before .if1 in
+    let first-refusal = c .before .before .first-refusal in
+    let refusal-unless2 = c .before .before .before .refusal-unless2 in
+    let fits2 = c .before .before .before .before .fits2 in
+    let refusal-unless = c .before .before .before .before .before .refusal-unless in
+    let count-within = c .before .before .before .before .before .before .count-within in
+    let args = c .before .before .before .before .before .before .before .args in
+    let a = args in
+    let valid : first-refusal .result ≡ newRefusal (a .params) (a .n-nodes) = rw (first-refusal .ensures, refusal-unless2 .ensures, fits2 .ensures, refusal-unless .ensures,
+        count-within .ensures) in
+    let e : newRefusal (a .params) (a .n-nodes) ≡ 0 = sym valid ∙ if1 .left in
     nodes-valid (a .n-nodes) (neither-refused _ _ e .0) .1
 
 returns-2 : tie.Need-returns-2
 unfolding made newRefusal fresh
-returns-2 c = let a = c .before .before .before .before .before .before .before .before .args in
-    let e : c .before .before .before .first-refusal .result ≡ newRefusal (a .params) (a .n-nodes) = rw (c .before .before .before .first-refusal .ensures, c .before .before .before .before .refusal-unless2 .ensures, c .before .before .before .before .before .fits2 .ensures, c .before .before .before .before .before .before .refusal-unless .ensures, c .before .before .before .before .before .before .before .count-within .ensures) in
-    rw (← e, eq-eqb _ _ (c .before .before .if1 .left), c .uniform .ensures)
+returns-2 c =
+    let if1 = c .before .before .if1 in
+    let first-refusal = c .before .before .before .first-refusal in
+    let refusal-unless2 = c .before .before .before .before .refusal-unless2 in
+    let fits2 = c .before .before .before .before .before .fits2 in
+    let refusal-unless = c .before .before .before .before .before .before .refusal-unless in
+    let count-within = c .before .before .before .before .before .before .before .count-within in
+    let args = c .before .before .before .before .before .before .before .before .args in
+    let a = args in
+    let e : first-refusal .result ≡ newRefusal (a .params) (a .n-nodes) = rw (first-refusal .ensures, refusal-unless2 .ensures, fits2 .ensures, refusal-unless .ensures,
+        count-within .ensures) in
+    rw (← e, eq-eqb _ _ (if1 .left), c .uniform .ensures)
 
 pub new-spec : {M : Type 1} → statement M
 new-spec =

@@ -17,10 +17,18 @@ answered-requires c κs = search needs
 
 returns : tie.Need-returns
 unfolding ocpSurface
-returns c = rw (← c .before .before .refusal .ensures, c .answered .ensures) (refused-outcome _ «0·0» (surfacePotential (c .before .before .before .args .t1)) (c .before .if1 .taken))
+returns c =
+    let if1 = c .before .if1 in
+    let refusal = c .before .before .refusal in
+    let args = c .before .before .before .args in
+    rw (← refusal .ensures, c .answered .ensures) (refused-outcome _ «0·0» (surfacePotential (args .t1)) (if1 .taken))
 
 surface-potential-requires : tie.Need-surface-potential-requires
-surface-potential-requires c κs = nodes-of (c .before .before .before .before .before .args .t1) (sym (c .before .before .before .before .refusal .ensures) ∙ c .before .before .before .if1 .left)
+surface-potential-requires c κs =
+    let if1 = c .before .before .before .if1 in
+    let refusal = c .before .before .before .before .refusal in
+    let args = c .before .before .before .before .before .args in
+    nodes-of (args .t1) (sym (refusal .ensures) ∙ if1 .left)
 
 answered-requires-2 : tie.Need-answered-requires-2
 answered-requires-2 c κs = search needs

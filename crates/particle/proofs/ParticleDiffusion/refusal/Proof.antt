@@ -19,7 +19,11 @@ returns c = rw (← c .before .before .count-within .ensures, ← c .before .ref
 
 fields-fit-requires : tie.Need-fields-fit-requires
 fields-fit-requires c κs =
-    let e : refusalUnless (nodesFit (c .before .before .before .before .before .before .args .t1 .«n_nodes»)) grid ≡ 0 = rw (← c .before .before .before .before .before .count-within .ensures, ← c .before .before .before .before .refusal-unless .ensures) (c .before .before .before .if1 .left) in
+    let if1 = c .before .before .before .if1 in
+    let refusal-unless = c .before .before .before .before .refusal-unless in
+    let count-within = c .before .before .before .before .before .count-within in
+    let args = c .before .before .before .before .before .before .args in
+    let e : refusalUnless (nodesFit (args .t1 .«n_nodes»)) grid ≡ 0 = rw (← count-within .ensures, ← refusal-unless .ensures) (if1 .left) in
     nodes-valid _ e .1
 
 refusal-unless-requires-2 : tie.Need-refusal-unless-requires-2

@@ -21,8 +21,12 @@ diffusivity-at-requires : tie.Need-diffusivity-at-requires
 diffusivity-at-requires c κs = search needs
 
 advance-requires : tie.Need-advance-requires
-advance-requires c κs = let a = c .before .before .before .before .before .args in
-    nodes-of (a .self) (step-particle (a .self) (a .j-n) (a .dt) (a .temp-k) (sym (c .before .before .before .before .step-refusal .ensures) ∙ c .before .before .before .if1 .left))
+advance-requires c κs =
+    let if1 = c .before .before .before .if1 in
+    let step-refusal = c .before .before .before .before .step-refusal in
+    let args = c .before .before .before .before .before .args in
+    let a = args in
+    nodes-of (a .self) (step-particle (a .self) (a .j-n) (a .dt) (a .temp-k) (sym (step-refusal .ensures) ∙ if1 .left))
 
 accepted-requires : tie.Need-accepted-requires
 accepted-requires c κs = search needs

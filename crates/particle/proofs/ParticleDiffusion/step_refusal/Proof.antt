@@ -36,7 +36,18 @@ first-refusal-requires-3 c κs = search needs
 
 returns : tie.Need-returns
 unfolding stepRefusal
-returns c = rw (c .first-refusal3 .ensures, c .before .first-refusal2 .ensures, c .before .before .first-refusal .ensures, c .before .before .before .refusal .ensures, c .before .before .before .before .refusal-unless3 .ensures, c .before .before .before .before .before .temperature-fits .ensures, c .before .before .before .before .before .before .refusal-unless2 .ensures, c .before .before .before .before .before .before .before .interval-fits .ensures, c .before .before .before .before .before .before .before .before .refusal-unless .ensures, c .before .before .before .before .before .before .before .before .before .load-fits .ensures)
+returns c =
+    let first-refusal2 = c .before .first-refusal2 in
+    let first-refusal = c .before .before .first-refusal in
+    let refusal = c .before .before .before .refusal in
+    let refusal-unless3 = c .before .before .before .before .refusal-unless3 in
+    let temperature-fits = c .before .before .before .before .before .temperature-fits in
+    let refusal-unless2 = c .before .before .before .before .before .before .refusal-unless2 in
+    let interval-fits = c .before .before .before .before .before .before .before .interval-fits in
+    let refusal-unless = c .before .before .before .before .before .before .before .before .refusal-unless in
+    let load-fits = c .before .before .before .before .before .before .before .before .before .load-fits in
+    rw (c .first-refusal3 .ensures, first-refusal2 .ensures, first-refusal .ensures, refusal .ensures, refusal-unless3 .ensures, temperature-fits .ensures,
+        refusal-unless2 .ensures, interval-fits .ensures, refusal-unless .ensures, load-fits .ensures)
 
 pub step-refusal-spec : {M : Type 1} → statement M
 step-refusal-spec =

@@ -18,7 +18,11 @@ unfolding socCall
 returns c = rw (← c .before .before .refusal .ensures, c .answered .ensures) (refused-outcome _ «0·0» (stateOfCharge (c .before .before .before .args .t1)) (c .before .if1 .taken))
 
 average-theta-requires : tie.Need-average-theta-requires
-average-theta-requires c κs = anode-nodes (c .before .before .before .before .before .args .t1) (sym (c .before .before .before .before .refusal .ensures) ∙ c .before .before .before .if1 .left)
+average-theta-requires c κs =
+    let if1 = c .before .before .before .if1 in
+    let refusal = c .before .before .before .before .refusal in
+    let args = c .before .before .before .before .before .args in
+    anode-nodes (args .t1) (sym (refusal .ensures) ∙ if1 .left)
 
 clamp-requires : tie.Need-clamp-requires
 clamp-requires c κs = search needs
@@ -28,7 +32,11 @@ answered-requires-2 c κs = search needs
 
 returns-2 : tie.Need-returns-2
 unfolding socCall stateOfCharge
-returns-2 c = rw (← c .before .before .before .before .before .before .before .refusal .ensures, c .answered2 .ensures, c .before .clamp .ensures, c .before .before .average-theta .ensures)
+returns-2 c =
+    let clamp = c .before .clamp in
+    let average-theta = c .before .before .average-theta in
+    let refusal = c .before .before .before .before .before .before .before .refusal in
+    rw (← refusal .ensures, c .answered2 .ensures, clamp .ensures, average-theta .ensures)
 
 pub soc-estimate-spec : {M : Type 1} → statement M
 soc-estimate-spec =
