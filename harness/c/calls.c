@@ -34,11 +34,11 @@ struct report {
     double voltage, current, theta_neg, theta_pos, theta_neg_avg, theta_pos_avg, time_s;
     uint64_t cutoff, sub_steps;
 };
-struct salt {
+struct electrolyte_params {
     double d_e_ref, kappa_ref, t_plus, bruggeman, c_e_init, e_a_de, e_a_kappa;
 };
 struct regions {
-    struct salt salt;
+    struct electrolyte_params params;
     double l_neg, l_sep, l_pos, eps_neg, eps_sep, eps_pos;
     uint64_t n_neg, n_sep, n_pos;
 };
@@ -110,7 +110,7 @@ SIZE(particle, PJ_PARTICLE_BYTES);
 SIZE(config, PJ_CONFIG_BYTES);
 SIZE(cell, PJ_CELL_BYTES);
 SIZE(report, PJ_REPORT_BYTES);
-SIZE(salt, PJ_SALT_BYTES);
+SIZE(electrolyte_params, PJ_ELECTROLYTE_PARAMS_BYTES);
 SIZE(regions, PJ_REGIONS_BYTES);
 SIZE(electrolyte, PJ_ELECTROLYTE_BYTES);
 SIZE(dfn_params, PJ_DFN_PARAMS_BYTES);
@@ -162,14 +162,14 @@ OFFSET(report, theta_pos_avg, PJ_AT_REPORT_THETA_POS_AVG);
 OFFSET(report, time_s, PJ_AT_REPORT_TIME_S);
 OFFSET(report, cutoff, PJ_AT_REPORT_CUTOFF);
 OFFSET(report, sub_steps, PJ_AT_REPORT_SUB_STEPS);
-OFFSET(salt, d_e_ref, PJ_AT_SALT_D_E_REF);
-OFFSET(salt, kappa_ref, PJ_AT_SALT_KAPPA_REF);
-OFFSET(salt, t_plus, PJ_AT_SALT_T_PLUS);
-OFFSET(salt, bruggeman, PJ_AT_SALT_BRUGGEMAN);
-OFFSET(salt, c_e_init, PJ_AT_SALT_C_E_INIT);
-OFFSET(salt, e_a_de, PJ_AT_SALT_E_A_DE);
-OFFSET(salt, e_a_kappa, PJ_AT_SALT_E_A_KAPPA);
-OFFSET(regions, salt, PJ_AT_REGIONS_SALT);
+OFFSET(electrolyte_params, d_e_ref, PJ_AT_ELECTROLYTE_PARAMS_D_E_REF);
+OFFSET(electrolyte_params, kappa_ref, PJ_AT_ELECTROLYTE_PARAMS_KAPPA_REF);
+OFFSET(electrolyte_params, t_plus, PJ_AT_ELECTROLYTE_PARAMS_T_PLUS);
+OFFSET(electrolyte_params, bruggeman, PJ_AT_ELECTROLYTE_PARAMS_BRUGGEMAN);
+OFFSET(electrolyte_params, c_e_init, PJ_AT_ELECTROLYTE_PARAMS_C_E_INIT);
+OFFSET(electrolyte_params, e_a_de, PJ_AT_ELECTROLYTE_PARAMS_E_A_DE);
+OFFSET(electrolyte_params, e_a_kappa, PJ_AT_ELECTROLYTE_PARAMS_E_A_KAPPA);
+OFFSET(regions, params, PJ_AT_REGIONS_PARAMS);
 OFFSET(regions, l_neg, PJ_AT_REGIONS_L_NEG);
 OFFSET(regions, l_sep, PJ_AT_REGIONS_L_SEP);
 OFFSET(regions, l_pos, PJ_AT_REGIONS_L_POS);
@@ -264,7 +264,7 @@ static void expect(int line, int holds, const char *claim)
 static const double T = 298.15;
 static const uint8_t empty[1] = {0};
 
-static uint8_t graphite[PJ_SHEET_BYTES], lfp[PJ_SHEET_BYTES], nmc[PJ_SHEET_BYTES], salt[PJ_SALT_BYTES];
+static uint8_t graphite[PJ_SHEET_BYTES], lfp[PJ_SHEET_BYTES], nmc[PJ_SHEET_BYTES], electrolyte_params[PJ_ELECTROLYTE_PARAMS_BYTES];
 static uint8_t new_particle[PJ_NEW_PARTICLE_BYTES], particle[PJ_PARTICLE_BYTES], config[PJ_CONFIG_BYTES];
 static uint8_t new_cell[PJ_NEW_CELL_BYTES], cell_lfp[PJ_CELL_BYTES], cell_nmc[PJ_CELL_BYTES], cell_of[PJ_CELL_BYTES];
 static uint8_t regions[PJ_REGIONS_BYTES], electrolyte[PJ_ELECTROLYTE_BYTES];
@@ -318,16 +318,16 @@ static void ready_sheets(void)
     }
 }
 
-static void ready_salt(void)
+static void ready_electrolyte_params(void)
 {
-    EXPECT(build(PJ_BUILD_LIPF6_EC_DMC, empty, 0, salt, sizeof salt) == PJ_REFUSAL_NONE);
-    EXPECT_F64(salt, PJ_AT_SALT_D_E_REF, 7.5e-11);
-    EXPECT_F64(salt, PJ_AT_SALT_KAPPA_REF, 1.1);
-    EXPECT_F64(salt, PJ_AT_SALT_T_PLUS, 0.364);
-    EXPECT_F64(salt, PJ_AT_SALT_BRUGGEMAN, 1.5);
-    EXPECT_F64(salt, PJ_AT_SALT_C_E_INIT, 1000.0);
-    EXPECT_F64(salt, PJ_AT_SALT_E_A_DE, 17000.0);
-    EXPECT_F64(salt, PJ_AT_SALT_E_A_KAPPA, 12000.0);
+    EXPECT(build(PJ_BUILD_LIPF6_EC_DMC, empty, 0, electrolyte_params, sizeof electrolyte_params) == PJ_REFUSAL_NONE);
+    EXPECT_F64(electrolyte_params, PJ_AT_ELECTROLYTE_PARAMS_D_E_REF, 7.5e-11);
+    EXPECT_F64(electrolyte_params, PJ_AT_ELECTROLYTE_PARAMS_KAPPA_REF, 1.1);
+    EXPECT_F64(electrolyte_params, PJ_AT_ELECTROLYTE_PARAMS_T_PLUS, 0.364);
+    EXPECT_F64(electrolyte_params, PJ_AT_ELECTROLYTE_PARAMS_BRUGGEMAN, 1.5);
+    EXPECT_F64(electrolyte_params, PJ_AT_ELECTROLYTE_PARAMS_C_E_INIT, 1000.0);
+    EXPECT_F64(electrolyte_params, PJ_AT_ELECTROLYTE_PARAMS_E_A_DE, 17000.0);
+    EXPECT_F64(electrolyte_params, PJ_AT_ELECTROLYTE_PARAMS_E_A_KAPPA, 12000.0);
 }
 
 static void ready_dfn_params(void)
@@ -407,7 +407,7 @@ static void new_cells(void)
 
 static void new_electrolytes(void)
 {
-    memcpy(regions + PJ_AT_REGIONS_SALT, salt, sizeof salt);
+    memcpy(regions + PJ_AT_REGIONS_PARAMS, electrolyte_params, sizeof electrolyte_params);
     pj_put_f64(regions, PJ_AT_REGIONS_L_NEG, 1e-4);
     pj_put_f64(regions, PJ_AT_REGIONS_L_SEP, 2.5e-5);
     pj_put_f64(regions, PJ_AT_REGIONS_L_POS, 8e-5);
@@ -461,13 +461,13 @@ static void numbers(void)
     EXPECT(near(NUMBER(PJ_NUMBER_OCP_SURFACE, particle, sizeof particle, 0, 0), u_graphite));
     EXPECT(near(NUMBER(PJ_NUMBER_OCV, cell_nmc, sizeof cell_nmc, 0, 0), u_nmc - u_graphite));
     EXPECT(near(NUMBER(PJ_NUMBER_SOC_ESTIMATE, cell_nmc, sizeof cell_nmc, 0, 0), 1.0));
-    EXPECT(NUMBER(PJ_NUMBER_D_E, salt, sizeof salt, 0, T) == 7.5e-11);
-    EXPECT(NUMBER(PJ_NUMBER_KAPPA, salt, sizeof salt, 0, T) == 1.1);
-    EXPECT(near(NUMBER(PJ_NUMBER_D_E_EFF, salt, sizeof salt, 0.25, T), 7.5e-11 * 0.125));
-    EXPECT(near(NUMBER(PJ_NUMBER_KAPPA_EFF, salt, sizeof salt, 0.25, T), 1.1 * 0.125));
+    EXPECT(NUMBER(PJ_NUMBER_D_E, electrolyte_params, sizeof electrolyte_params, 0, T) == 7.5e-11);
+    EXPECT(NUMBER(PJ_NUMBER_KAPPA, electrolyte_params, sizeof electrolyte_params, 0, T) == 1.1);
+    EXPECT(near(NUMBER(PJ_NUMBER_D_E_EFF, electrolyte_params, sizeof electrolyte_params, 0.25, T), 7.5e-11 * 0.125));
+    EXPECT(near(NUMBER(PJ_NUMBER_KAPPA_EFF, electrolyte_params, sizeof electrolyte_params, 0.25, T), 1.1 * 0.125));
     EXPECT(NUMBER(PJ_NUMBER_N_TOTAL, electrolyte, sizeof electrolyte, 0, 0) == 3.0);
-    EXPECT(NUMBER(PJ_NUMBER_SALT_AVG, electrolyte, sizeof electrolyte, 0, 0) == 1000.0);
-    EXPECT(NUMBER(PJ_NUMBER_SALT_DT_STABLE, electrolyte, sizeof electrolyte, T, 0) > 0.0);
+    EXPECT(NUMBER(PJ_NUMBER_ELECTROLYTE_AVG, electrolyte, sizeof electrolyte, 0, 0) == 1000.0);
+    EXPECT(NUMBER(PJ_NUMBER_ELECTROLYTE_DT_STABLE, electrolyte, sizeof electrolyte, T, 0) > 0.0);
 }
 
 /* The signs that the header states. */
@@ -618,7 +618,7 @@ static void refusals(void)
     memcpy(bad_salt, electrolyte, sizeof electrolyte);
     pj_put_f64(bad_salt, PJ_AT_ELECTROLYTE_C_E, 1.7e308);
     pj_put_f64(bad_salt, PJ_AT_ELECTROLYTE_C_E + 16, 1.7e308);
-    EXPECT(pj_number(PJ_NUMBER_SALT_AVG, bad_salt, sizeof bad_salt, 0, 0, answer, sizeof answer) == PJ_REFUSAL_NOT_FINITE);
+    EXPECT(pj_number(PJ_NUMBER_ELECTROLYTE_AVG, bad_salt, sizeof bad_salt, 0, 0, answer, sizeof answer) == PJ_REFUSAL_NOT_FINITE);
     EXPECT(pj_solve_dense(entries, 1, right, 1, 1, solution, sizeof solution) == PJ_REFUSAL_SINGULAR);
     EXPECT(pj_solve_dense(entries, 3, right, 2, 2, solution, sizeof solution) == PJ_REFUSAL_LENGTH);
     EXPECT(pj_cell_step(cell_lfp, sizeof cell_lfp, 3.0, 10.0, T, step, sizeof step - 1) == PJ_REFUSAL_LENGTH);
@@ -638,7 +638,7 @@ int main(void)
 #endif
     EXPECT(PJ_LAYOUT_VERSION == 1);
     ready_sheets();
-    ready_salt();
+    ready_electrolyte_params();
     ready_dfn_params();
     new_particles();
     new_cells();

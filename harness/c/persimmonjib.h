@@ -75,7 +75,7 @@ enum pj_bytes {
     PJ_CONFIG_BYTES = 48,
     PJ_CELL_BYTES = 1256,
     PJ_REPORT_BYTES = 72,
-    PJ_SALT_BYTES = 56,
+    PJ_ELECTROLYTE_PARAMS_BYTES = 56,
     PJ_REGIONS_BYTES = 128,
     PJ_ELECTROLYTE_BYTES = 896,
     PJ_DFN_PARAMS_BYTES = 472,
@@ -159,16 +159,16 @@ enum pj_at {
     PJ_AT_REPORT_SUB_STEPS = 64,     /* whole, 1 to 4096 */
 
     /* electrolyte parameters */
-    PJ_AT_SALT_D_E_REF = 0,    /* m^2/s, 1e-16 to 1e-6 */
-    PJ_AT_SALT_KAPPA_REF = 8,  /* S/m, 1e-6 to 100 */
-    PJ_AT_SALT_T_PLUS = 16,    /* 0 to 1 */
-    PJ_AT_SALT_BRUGGEMAN = 24, /* 0 to 4 */
-    PJ_AT_SALT_C_E_INIT = 32,  /* mol/m^3, 1 to 1e5 */
-    PJ_AT_SALT_E_A_DE = 40,    /* J/mol, 0 to 1e5 */
-    PJ_AT_SALT_E_A_KAPPA = 48, /* J/mol, 0 to 1e5 */
+    PJ_AT_ELECTROLYTE_PARAMS_D_E_REF = 0,    /* m^2/s, 1e-16 to 1e-6 */
+    PJ_AT_ELECTROLYTE_PARAMS_KAPPA_REF = 8,  /* S/m, 1e-6 to 100 */
+    PJ_AT_ELECTROLYTE_PARAMS_T_PLUS = 16,    /* 0 to 1 */
+    PJ_AT_ELECTROLYTE_PARAMS_BRUGGEMAN = 24, /* 0 to 4 */
+    PJ_AT_ELECTROLYTE_PARAMS_C_E_INIT = 32,  /* mol/m^3, 1 to 1e5 */
+    PJ_AT_ELECTROLYTE_PARAMS_E_A_DE = 40,    /* J/mol, 0 to 1e5 */
+    PJ_AT_ELECTROLYTE_PARAMS_E_A_KAPPA = 48, /* J/mol, 0 to 1e5 */
 
     /* the regions of an electrolyte */
-    PJ_AT_REGIONS_SALT = 0,
+    PJ_AT_REGIONS_PARAMS = 0,
     PJ_AT_REGIONS_L_NEG = 56,   /* m, 1e-7 to 1e-2 */
     PJ_AT_REGIONS_L_SEP = 64,   /* m, 1e-7 to 1e-2 */
     PJ_AT_REGIONS_L_POS = 72,   /* m, 1e-7 to 1e-2 */
@@ -326,7 +326,8 @@ typedef uint64_t pj_build_call_t;
 #endif
 
 /* pj_number: a number from an image and at most two arguments. The answer is one binary64, a count of nodes too. temp_k is
- * 200 to 400 K, theta any finite number, r 1e-8 to 1e-3 m, porosity 0.01 to 1. An argument marked - is not looked at. */
+ * 200 to 400 K, theta any finite number, r 1e-8 to 1e-3 m, porosity 0.01 to 1. An argument marked - is not looked at;
+ * parameters are an electrolyte's. */
 PJ_CALL_ENUM(pj_number_call) {
     /*                              image        x         y           gives */
     PJ_NUMBER_D_S = 1,           /* sheet        temp_k    -           m^2/s */
@@ -341,13 +342,13 @@ PJ_CALL_ENUM(pj_number_call) {
     PJ_NUMBER_OCP_SURFACE = 10,  /* particle     -         -           V */
     PJ_NUMBER_OCV = 11,          /* cell         -         -           V */
     PJ_NUMBER_SOC_ESTIMATE = 12, /* cell         -         -           0 to 1, of the fixed window 0.20 to 0.80 of the anode */
-    PJ_NUMBER_D_E = 13,          /* salt         -         temp_k      m^2/s */
-    PJ_NUMBER_KAPPA = 14,        /* salt         -         temp_k      S/m */
-    PJ_NUMBER_D_E_EFF = 15,      /* salt         porosity  temp_k      m^2/s */
-    PJ_NUMBER_KAPPA_EFF = 16,    /* salt         porosity  temp_k      S/m */
+    PJ_NUMBER_D_E = 13,          /* parameters   -         temp_k      m^2/s */
+    PJ_NUMBER_KAPPA = 14,        /* parameters   -         temp_k      S/m */
+    PJ_NUMBER_D_E_EFF = 15,      /* parameters   porosity  temp_k      m^2/s */
+    PJ_NUMBER_KAPPA_EFF = 16,    /* parameters   porosity  temp_k      S/m */
     PJ_NUMBER_N_TOTAL = 17,      /* electrolyte  -         -           count of nodes */
-    PJ_NUMBER_SALT_AVG = 18,     /* electrolyte  -         -           mol/m^3, its c_avg */
-    PJ_NUMBER_SALT_DT_STABLE = 19 /* electrolyte temp_k    -           s, its dt_stable; too long where porosities differ */
+    PJ_NUMBER_ELECTROLYTE_AVG = 18, /* electrolyte -         -           mol/m^3, its c_avg */
+    PJ_NUMBER_ELECTROLYTE_DT_STABLE = 19 /* electrolyte temp_k    -           s, its dt_stable; too long where porosities differ */
 };
 
 uint64_t pj_number(pj_number_call_t call, const uint8_t *image, size_t image_len, double x, double y,
@@ -359,7 +360,7 @@ PJ_CALL_ENUM(pj_build_call) {
     PJ_BUILD_GRAPHITE_ANODE = 1, /* empty                             sheet */
     PJ_BUILD_LFP_CATHODE = 2,    /* empty                             sheet; WARNING: see pj_cell_step */
     PJ_BUILD_NMC_CATHODE = 3,    /* empty                             sheet */
-    PJ_BUILD_LIPF6_EC_DMC = 4,   /* empty                             salt */
+    PJ_BUILD_LIPF6_EC_DMC = 4,   /* empty                             an electrolyte's parameters */
     PJ_BUILD_NMC_GRAPHITE = 5,   /* empty                             DFN parameters */
     PJ_BUILD_LFP_GRAPHITE = 6,   /* empty                             DFN parameters */
     PJ_BUILD_PARTICLE = 7,       /* PJ_NEW_PARTICLE_BYTES             particle, all at theta_init */
@@ -411,7 +412,7 @@ uint64_t pj_electrolyte_step(const uint8_t *electrolyte, size_t electrolyte_len,
  * dt_s       s, above 0, at most 86,400
  * answer     DFN cell and DFN report, PJ_DFN_STEP_BYTES
  * WARNINGS, faults of the model that the port keeps: on discharge the anode FILLS and the cathode EMPTIES, overpotentials raise the
- * voltage, and so the voltage rises; the salt moves the wrong way and meets its clamps 100 and 3000 in one step; particles are
+ * voltage, and so the voltage rises; the electrolyte's salt moves the wrong way and meets its clamps 100 and 3000 in one step; particles are
  * clamped as above. Do not set a limit from these rows. */
 uint64_t pj_dfn_step(const uint8_t *cell, size_t cell_len, double current_a, double dt_s,
                      uint8_t *answer, size_t answer_len);

@@ -139,15 +139,15 @@ static void configs(void)
 static void electrolytes(void)
 {
     static const struct field list[] = {
-        {PJ_AT_SALT_D_E_REF, 1e-16, 1e-6}, {PJ_AT_SALT_KAPPA_REF, 1e-6, 100}, {PJ_AT_SALT_T_PLUS, 0, 1}, {PJ_AT_SALT_BRUGGEMAN, 0, 4},
-        {PJ_AT_SALT_C_E_INIT, 1, 1e5}, {PJ_AT_SALT_E_A_DE, 0, 1e5}, {PJ_AT_SALT_E_A_KAPPA, 0, 1e5},
+        {PJ_AT_ELECTROLYTE_PARAMS_D_E_REF, 1e-16, 1e-6}, {PJ_AT_ELECTROLYTE_PARAMS_KAPPA_REF, 1e-6, 100}, {PJ_AT_ELECTROLYTE_PARAMS_T_PLUS, 0, 1}, {PJ_AT_ELECTROLYTE_PARAMS_BRUGGEMAN, 0, 4},
+        {PJ_AT_ELECTROLYTE_PARAMS_C_E_INIT, 1, 1e5}, {PJ_AT_ELECTROLYTE_PARAMS_E_A_DE, 0, 1e5}, {PJ_AT_ELECTROLYTE_PARAMS_E_A_KAPPA, 0, 1e5},
         {PJ_AT_REGIONS_L_NEG, 1e-7, 1e-2}, {PJ_AT_REGIONS_L_SEP, 1e-7, 1e-2}, {PJ_AT_REGIONS_L_POS, 1e-7, 1e-2},
         {PJ_AT_REGIONS_EPS_NEG, 0.01, 1}, {PJ_AT_REGIONS_EPS_SEP, 0.01, 1}, {PJ_AT_REGIONS_EPS_POS, 0.01, 1},
     };
     static const struct count whole[] = {
         {PJ_AT_REGIONS_N_NEG, 1, 32, PJ_REFUSAL_GRID}, {PJ_AT_REGIONS_N_SEP, 1, 32, PJ_REFUSAL_GRID}, {PJ_AT_REGIONS_N_POS, 1, 32, PJ_REFUSAL_GRID}};
     size_t i;
-    expect(__LINE__, "salt", pj_build(PJ_BUILD_LIPF6_EC_DMC, empty, 0, regions, PJ_SALT_BYTES), PJ_REFUSAL_NONE);
+    expect(__LINE__, "salt", pj_build(PJ_BUILD_LIPF6_EC_DMC, empty, 0, regions, PJ_ELECTROLYTE_PARAMS_BYTES), PJ_REFUSAL_NONE);
     for (i = 0; i < 3; i++) {
         pj_put_f64(regions, PJ_AT_REGIONS_L_NEG + 8 * i, 1e-4);
         pj_put_f64(regions, PJ_AT_REGIONS_EPS_NEG + 8 * i, 0.4);
@@ -218,8 +218,8 @@ static uint64_t dfn_run_current(double x) { return pj_run_galvanostatic(dfn, siz
 static uint64_t dfn_run_limit(double x) { return pj_run_galvanostatic(dfn, sizeof dfn, 0.0, 1.0, x, rows, PJ_ROW_DOUBLES, answer, PJ_DFN_RUN_BYTES); }
 static uint64_t theta(double x) { return pj_number(PJ_NUMBER_OCP, new_particle, PJ_SHEET_BYTES, x, 0.0, answer, PJ_NUMBER_BYTES); }
 static uint64_t radius(double x) { return pj_number(PJ_NUMBER_SPHERE_VOLUME, empty, 0, x, 0.0, answer, PJ_NUMBER_BYTES); }
-static uint64_t porosity(double x) { return pj_number(PJ_NUMBER_D_E_EFF, regions, PJ_SALT_BYTES, x, T, answer, PJ_NUMBER_BYTES); }
-static uint64_t salt_k(double x) { return pj_number(PJ_NUMBER_KAPPA, regions, PJ_SALT_BYTES, 0.0, x, answer, PJ_NUMBER_BYTES); }
+static uint64_t porosity(double x) { return pj_number(PJ_NUMBER_D_E_EFF, regions, PJ_ELECTROLYTE_PARAMS_BYTES, x, T, answer, PJ_NUMBER_BYTES); }
+static uint64_t salt_k(double x) { return pj_number(PJ_NUMBER_KAPPA, regions, PJ_ELECTROLYTE_PARAMS_BYTES, 0.0, x, answer, PJ_NUMBER_BYTES); }
 
 static uint64_t clock_s(double x)
 {

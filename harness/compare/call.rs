@@ -84,7 +84,7 @@ impl Function {
                 1..=4 => Record::Sheet,
                 6..=10 => Record::Particle,
                 11 | 12 => Record::Cell,
-                13..=16 => Record::Salt,
+                13..=16 => Record::ElectrolyteParams,
                 17..=19 => Record::Electrolyte,
                 _ => Record::Nothing,
             },
@@ -120,7 +120,7 @@ impl Function {
         let after = match self {
             Function::Number(_) => 8,
             Function::Build(1..=3) => Record::Sheet.bytes(),
-            Function::Build(4) => Record::Salt.bytes(),
+            Function::Build(4) => Record::ElectrolyteParams.bytes(),
             Function::Build(5 | 6) => bytes_of(&DFN_PARAMS),
             Function::CellStep => 72,
             Function::DfnStep => 64,
@@ -268,7 +268,7 @@ fn of_build(call: u64, reader: &mut Reader) -> Answer {
         1 => sheet(Sheet::graphite_anode()),
         2 => sheet(Sheet::lfp_cathode()),
         3 => sheet(Sheet::nmc_cathode()),
-        4 => Answer::of(Record::Salt.parts(), Ok(Params::lipf6_ec_dmc().slots())),
+        4 => Answer::of(Record::ElectrolyteParams.parts(), Ok(Params::lipf6_ec_dmc().slots())),
         5 => Answer::of(&DFN_PARAMS, Ok(dfn::Params::nmc_graphite().slots())),
         6 => Answer::of(&DFN_PARAMS, Ok(dfn::Params::lfp_graphite().slots())),
         7 => {

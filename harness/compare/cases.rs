@@ -501,7 +501,7 @@ fn salt_numbers(draw: &mut Draw, _: u64) -> Case {
             turns.push(Turn::new(draw, Function::Number(call), &[x, temp_k]));
         }
     }
-    listed(draw, Record::Salt, &salt.slots(), None, turns)
+    listed(draw, Record::ElectrolyteParams, &salt.slots(), None, turns)
 }
 
 fn electrolyte_steps(draw: &mut Draw, _: u64) -> Case {

@@ -15,7 +15,7 @@ pub enum Record {
     Config,
     ConfigAndSheets,
     Cell,
-    Salt,
+    ElectrolyteParams,
     Regions,
     Electrolyte,
     DfnParamsAndConfig,
@@ -30,7 +30,7 @@ const RECORDS: [Record; 12] = [
     Record::Config,
     Record::ConfigAndSheets,
     Record::Cell,
-    Record::Salt,
+    Record::ElectrolyteParams,
     Record::Regions,
     Record::Electrolyte,
     Record::DfnParamsAndConfig,
@@ -58,7 +58,7 @@ impl Record {
             Record::Config => &[Words(6)],
             Record::ConfigAndSheets => &[Words(26)],
             Record::Cell => &[Words(17), Places(64), Words(11), Places(64), Words(1)],
-            Record::Salt => &[Words(7)],
+            Record::ElectrolyteParams => &[Words(7)],
             Record::Regions => &[Words(16)],
             Record::Electrolyte => &[Words(16), Places(96)],
             Record::DfnParamsAndConfig => &[Words(26), Places(16), Words(1), Places(16), Words(5)],
@@ -224,7 +224,7 @@ impl Fields {
                 f.particle("cathode.");
                 f.plain("time_s", Meaning::Clock);
             }
-            Record::Salt => f.salt(),
+            Record::ElectrolyteParams => f.salt(),
             Record::Regions => f.regions(),
             Record::Electrolyte => {
                 f.regions();

@@ -58,7 +58,7 @@ fn ready_words(record: Record, words: &[u64]) -> Vec<u64> {
         Record::Config => ready_config(count(0, 3, 64)).slots(),
         Record::ConfigAndSheets => [ready_config(count(0, 3, 64)).slots(), anode.slots(), cathode.slots()].concat(),
         Record::Cell => Cell::graphite_lfp(ready_config(count(0, 3, 64))).expect("ready").slots(),
-        Record::Salt => Params::lipf6_ec_dmc().slots(),
+        Record::ElectrolyteParams => Params::lipf6_ec_dmc().slots(),
         Record::Regions => regions().slots(),
         Record::Electrolyte => Electrolyte::new(regions()).expect("ready").slots(),
         Record::DfnParamsAndConfig => [dfn::Params::nmc_graphite().slots(), dfn_config().slots()].concat(),
