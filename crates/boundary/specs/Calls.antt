@@ -16,6 +16,7 @@ use Rattle.image_rows.specs.Written.{written}
 use Rattle.image_builds.specs.Builds.{readyPut, newReturn, newAfter, buildLength, builtLength}
 use Rattle.cell_calls.specs.Steps as C
 use Rattle.dfn_calls.specs.Steps as P
+use Rattle.image_layout.specs.Layout.{numberBytes, solutionBytes, particleBytes, electrolyteBytes, cellBytes, cellStepBytes, dfnBytes, dfnStepBytes}
 
 -- whether a call is listed: 1 to n
 abbrev pub listed : ℕ → ℕ → Bool
@@ -34,7 +35,7 @@ afterLengths fits n = cond fits n N.badLength
 unfoldable pub numberCall : ℕ → List ℕ → Float → Float → ℕ → Outcome
 numberCall call s x y answer =
     cond (listed call 19)
-    (cond (lengths (length s) (numberLength call) answer 8) (numberOutcome call s x y) (record { refusal = N.badLength; values = [] }))
+    (cond (lengths (length s) (numberLength call) answer numberBytes) (numberOutcome call s x y) (record { refusal = N.badLength; values = [] }))
     (record { refusal = N.sheet; values = [] })
 
 -- ---- records
@@ -54,33 +55,33 @@ buildAfter call s a =
 -- ---- steps
 
 unfoldable pub particleReturn : List ℕ → Float → Float → Float → ℕ → ℕ
-particleReturn s j dt t answer = afterLengths (lengths (length s) 600 answer 600) (C.particleReturn s j dt t)
+particleReturn s j dt t answer = afterLengths (lengths (length s) particleBytes answer particleBytes) (C.particleReturn s j dt t)
 
 unfoldable pub particleAfter : List ℕ → Float → Float → Float → List ℕ → List ℕ
-particleAfter s j dt t a = cond (lengths (length s) 600 (length a) 600) (C.particleAfter s j dt t a) a
+particleAfter s j dt t a = cond (lengths (length s) particleBytes (length a) particleBytes) (C.particleAfter s j dt t a) a
 
 unfoldable pub cellReturn : List ℕ → Float → Float → Float → ℕ → ℕ
-cellReturn s i dt t answer = afterLengths (lengths (length s) 1256 answer 1328) (C.cellReturn s i dt t)
+cellReturn s i dt t answer = afterLengths (lengths (length s) cellBytes answer cellStepBytes) (C.cellReturn s i dt t)
 
 unfoldable pub cellAfter : List ℕ → Float → Float → Float → List ℕ → List ℕ
-cellAfter s i dt t a = cond (lengths (length s) 1256 (length a) 1328) (C.cellAfter s i dt t a) a
+cellAfter s i dt t a = cond (lengths (length s) cellBytes (length a) cellStepBytes) (C.cellAfter s i dt t a) a
 
 unfoldable pub electrolyteReturn : List ℕ → Float → Float → Float → Float → ℕ → ℕ
-electrolyteReturn s jNeg jPos dt t answer = afterLengths (lengths (length s) 896 answer 896) (P.electrolyteReturn s jNeg jPos dt t)
+electrolyteReturn s jNeg jPos dt t answer = afterLengths (lengths (length s) electrolyteBytes answer electrolyteBytes) (P.electrolyteReturn s jNeg jPos dt t)
 
 unfoldable pub electrolyteAfter : List ℕ → Float → Float → Float → Float → List ℕ → List ℕ
-electrolyteAfter s jNeg jPos dt t a = cond (lengths (length s) 896 (length a) 896) (P.electrolyteAfter s jNeg jPos dt t a) a
+electrolyteAfter s jNeg jPos dt t a = cond (lengths (length s) electrolyteBytes (length a) electrolyteBytes) (P.electrolyteAfter s jNeg jPos dt t a) a
 
 unfoldable pub dfnReturn : List ℕ → Float → Float → ℕ → ℕ
-dfnReturn s i dt answer = afterLengths (lengths (length s) 9008 answer 9072) (P.dfnReturn s i dt)
+dfnReturn s i dt answer = afterLengths (lengths (length s) dfnBytes answer dfnStepBytes) (P.dfnReturn s i dt)
 
 unfoldable pub dfnAfter : List ℕ → Float → Float → List ℕ → List ℕ
-dfnAfter s i dt a = cond (lengths (length s) 9008 (length a) 9072) (P.dfnAfter s i dt a) a
+dfnAfter s i dt a = cond (lengths (length s) dfnBytes (length a) dfnStepBytes) (P.dfnAfter s i dt a) a
 
 -- ---- equations
 
 unfoldable pub denseReturn : List Float → List Float → ℕ → ℕ → ℕ
-denseReturn a b n answer = afterLengths (eqb answer 256) (solved a b n .refusal)
+denseReturn a b n answer = afterLengths (eqb answer solutionBytes) (solved a b n .refusal)
 
 unfoldable pub denseAfter : List Float → List Float → ℕ → List ℕ → List ℕ
-denseAfter a b n s = cond (eqb (length s) 256) (written (solved a b n .refusal) (putRow s 0 (solved a b n .x)) s) s
+denseAfter a b n s = cond (eqb (length s) solutionBytes) (written (solved a b n .refusal) (putRow s 0 (solved a b n .x)) s) s

@@ -7,26 +7,27 @@ use lib.Ieee.{Float}
 use Rattle.cell_calls.specs.Runs as C
 use Rattle.dfn_calls.specs.Runs as P
 use Rattle.boundary.specs.Calls.{lengths, afterLengths}
+use Rattle.image_layout.specs.Layout.{cellBytes, cellRunBytes, dfnBytes, dfnRunBytes}
 
 -- ---- a single-particle cell
 
 unfoldable pub dischargeReturn : List ℕ → Float → Float → Float → Float → ℕ → ℕ → ℕ
-dischargeReturn s i dt t limit places answer = afterLengths (lengths (length s) 1256 answer 1272) (C.dischargeReturn s i dt t limit places)
+dischargeReturn s i dt t limit places answer = afterLengths (lengths (length s) cellBytes answer cellRunBytes) (C.dischargeReturn s i dt t limit places)
 
 unfoldable pub dischargeRows : List ℕ → Float → Float → Float → Float → List Float → ℕ → List Float
-dischargeRows s i dt t limit l answer = cond (lengths (length s) 1256 answer 1272) (C.dischargeRows s i dt t limit l) l
+dischargeRows s i dt t limit l answer = cond (lengths (length s) cellBytes answer cellRunBytes) (C.dischargeRows s i dt t limit l) l
 
 unfoldable pub dischargeAfter : List ℕ → Float → Float → Float → Float → ℕ → List ℕ → List ℕ
-dischargeAfter s i dt t limit places a = cond (lengths (length s) 1256 (length a) 1272) (C.dischargeAfter s i dt t limit places a) a
+dischargeAfter s i dt t limit places a = cond (lengths (length s) cellBytes (length a) cellRunBytes) (C.dischargeAfter s i dt t limit places a) a
 
 -- ---- a Doyle-Fuller-Newman cell
 
 unfoldable pub galvanostaticReturn : List ℕ → Float → Float → Float → ℕ → ℕ → ℕ
-galvanostaticReturn s i dt limit places answer = afterLengths (lengths (length s) 9008 answer 9024) (P.galvanostaticReturn s i dt limit places)
+galvanostaticReturn s i dt limit places answer = afterLengths (lengths (length s) dfnBytes answer dfnRunBytes) (P.galvanostaticReturn s i dt limit places)
 
 unfoldable pub galvanostaticRows : List ℕ → Float → Float → Float → List Float → ℕ → List Float
-galvanostaticRows s i dt limit l answer = cond (lengths (length s) 9008 answer 9024) (P.galvanostaticRows s i dt limit l) l
+galvanostaticRows s i dt limit l answer = cond (lengths (length s) dfnBytes answer dfnRunBytes) (P.galvanostaticRows s i dt limit l) l
 
 unfoldable pub galvanostaticAfter : List ℕ → Float → Float → Float → ℕ → List ℕ → List ℕ
 galvanostaticAfter s i dt limit places a =
-    cond (lengths (length s) 9008 (length a) 9024) (P.galvanostaticAfter s i dt limit places a) a
+    cond (lengths (length s) dfnBytes (length a) dfnRunBytes) (P.galvanostaticAfter s i dt limit places a) a

@@ -4,6 +4,16 @@ use image_builds::build_length;
 use image_builds::built_length;
 use image_builds::put_new;
 use image_builds::put_ready;
+use image_layout::CELL_BYTES;
+use image_layout::CELL_RUN_BYTES;
+use image_layout::CELL_STEP_BYTES;
+use image_layout::DFN_BYTES;
+use image_layout::DFN_RUN_BYTES;
+use image_layout::DFN_STEP_BYTES;
+use image_layout::ELECTROLYTE_BYTES;
+use image_layout::NUMBER_BYTES;
+use image_layout::PARTICLE_BYTES;
+use image_layout::SOLUTION_BYTES;
 use image_numbers::number_length;
 use image_numbers::number_of;
 use refusal::Answer;
@@ -36,7 +46,7 @@ pub extern "C" fn pj_number(call: u64, image: &[u8], x: f64, y: f64, answer: &mu
     if !is_listed(call, 19) {
         return refusal::SHEET;
     }
-    if !lengths_fit(image.len(), number_length(call), answer.len(), 8) {
+    if !lengths_fit(image.len(), number_length(call), answer.len(), NUMBER_BYTES) {
         return refusal::LENGTH;
     }
     let outcome = number_of(call, image, x, y);
@@ -85,7 +95,7 @@ pub extern "C" fn pj_particle_step(
     ensures number { λ r. ⌜ r ≡ particleReturn (now (particle .entry)) «j_n» dt «temp_k» (length (now (answer .entry))) ⌝ }
     ensures written { λ _. ⌜ now (answer .exit) ≡ particleAfter (now (particle .entry)) «j_n» dt «temp_k» (now (answer .entry)) ⌝ }
 {
-    if !lengths_fit(particle.len(), 600, answer.len(), 600) {
+    if !lengths_fit(particle.len(), PARTICLE_BYTES, answer.len(), PARTICLE_BYTES) {
         return refusal::LENGTH;
     }
     cell_calls::particle_step(particle, j_n, dt, temp_k, answer)
@@ -103,7 +113,7 @@ pub extern "C" fn pj_cell_step(
     ensures number { λ r. ⌜ r ≡ cellReturn (now (cell .entry)) «current_a» dt «temp_k» (length (now (answer .entry))) ⌝ }
     ensures written { λ _. ⌜ now (answer .exit) ≡ cellAfter (now (cell .entry)) «current_a» dt «temp_k» (now (answer .entry)) ⌝ }
 {
-    if !lengths_fit(cell.len(), 1256, answer.len(), 1328) {
+    if !lengths_fit(cell.len(), CELL_BYTES, answer.len(), CELL_STEP_BYTES) {
         return refusal::LENGTH;
     }
     cell_calls::cell_step(cell, current_a, dt, temp_k, answer)
@@ -122,7 +132,7 @@ pub extern "C" fn pj_electrolyte_step(
     ensures number { λ r. ⌜ r ≡ electrolyteReturn (now (electrolyte .entry)) «j_n_neg» «j_n_pos» dt «temp_k» (length (now (answer .entry))) ⌝ }
     ensures written { λ _. ⌜ now (answer .exit) ≡ electrolyteAfter (now (electrolyte .entry)) «j_n_neg» «j_n_pos» dt «temp_k» (now (answer .entry)) ⌝ }
 {
-    if !lengths_fit(electrolyte.len(), 896, answer.len(), 896) {
+    if !lengths_fit(electrolyte.len(), ELECTROLYTE_BYTES, answer.len(), ELECTROLYTE_BYTES) {
         return refusal::LENGTH;
     }
     dfn_calls::electrolyte_step(electrolyte, j_n_neg, j_n_pos, dt, temp_k, answer)
@@ -134,7 +144,7 @@ pub extern "C" fn pj_dfn_step(cell: &[u8], current_a: f64, dt_s: f64, answer: &m
     ensures number { λ r. ⌜ r ≡ dfnReturn (now (cell .entry)) «current_a» «dt_s» (length (now (answer .entry))) ⌝ }
     ensures written { λ _. ⌜ now (answer .exit) ≡ dfnAfter (now (cell .entry)) «current_a» «dt_s» (now (answer .entry)) ⌝ }
 {
-    if !lengths_fit(cell.len(), 9008, answer.len(), 9072) {
+    if !lengths_fit(cell.len(), DFN_BYTES, answer.len(), DFN_STEP_BYTES) {
         return refusal::LENGTH;
     }
     dfn_calls::dfn_step(cell, current_a, dt_s, answer)
@@ -155,7 +165,7 @@ pub extern "C" fn pj_simulate_discharge(
     ensures rows { λ _. ⌜ now (rows .exit) ≡ dischargeRows (now (cell .entry)) «current_a» dt «temp_k» «max_time_s» (now (rows .entry)) (length (now (answer .entry))) ⌝ }
     ensures written { λ _. ⌜ now (answer .exit) ≡ dischargeAfter (now (cell .entry)) «current_a» dt «temp_k» «max_time_s» (length (now (rows .entry))) (now (answer .entry)) ⌝ }
 {
-    if !lengths_fit(cell.len(), 1256, answer.len(), 1272) {
+    if !lengths_fit(cell.len(), CELL_BYTES, answer.len(), CELL_RUN_BYTES) {
         return refusal::LENGTH;
     }
     cell_calls::simulate_discharge(cell, current_a, dt, temp_k, max_time_s, rows, answer)
@@ -175,7 +185,7 @@ pub extern "C" fn pj_run_galvanostatic(
     ensures rows { λ _. ⌜ now (rows .exit) ≡ galvanostaticRows (now (cell .entry)) «current_a» «dt_s» «max_time_s» (now (rows .entry)) (length (now (answer .entry))) ⌝ }
     ensures written { λ _. ⌜ now (answer .exit) ≡ galvanostaticAfter (now (cell .entry)) «current_a» «dt_s» «max_time_s» (length (now (rows .entry))) (now (answer .entry)) ⌝ }
 {
-    if !lengths_fit(cell.len(), 9008, answer.len(), 9024) {
+    if !lengths_fit(cell.len(), DFN_BYTES, answer.len(), DFN_RUN_BYTES) {
         return refusal::LENGTH;
     }
     dfn_calls::run_galvanostatic(cell, current_a, dt_s, max_time_s, rows, answer)
@@ -187,7 +197,7 @@ pub extern "C" fn pj_solve_dense(a: &[f64], b: &[f64], n: usize, answer: &mut [u
     ensures number { λ r. ⌜ r ≡ denseReturn (now (a .entry)) (now (b .entry)) n (length (now (answer .entry))) ⌝ }
     ensures written { λ _. ⌜ now (answer .exit) ≡ denseAfter (now (a .entry)) (now (b .entry)) n (now (answer .entry)) ⌝ }
 {
-    if answer.len() != 256 {
+    if answer.len() != SOLUTION_BYTES {
         return refusal::LENGTH;
     }
     let out = dense::solve_dense(a, b, n);

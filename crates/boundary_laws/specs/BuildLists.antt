@@ -18,6 +18,7 @@ use Rattle.image_laws.specs.AnswerLengths.{particle-build-length, cell-build-le
 use Rattle.image_laws.specs.ReadBack.{particle-build-read-back, cell-build-read-back, electrolyte-build-read-back, dfn-build-read-back}
 use Rattle.boundary_laws.specs.CallLists.{Calls, Implements, plain-implements}
 use Rattle.boundary_laws.specs.StepLists.{whole}
+use Rattle.image_layout.specs.Layout.{particleBytes, electrolyteBytes, cellBytes, dfnBytes}
 
 -- ---- builds
 -- 7, 11 and 12 of `pj_build`: the image that is handed in
@@ -35,9 +36,9 @@ pub record CellBuild : Type 0 where
 abbrev replaced : {C : Type 0} → ℕ → C → C → C
 replaced n new old = cond (eqb n 0) new old
 
-abbrev pub particleBuilds : Calls 600 particleIn Build
+abbrev pub particleBuilds : Calls particleBytes particleIn Build
 particleBuilds = record {
-  formed = λ q a. B.lengths (length (q .image)) 88 (length a) 600;
+  formed = λ q a. B.lengths (length (q .image)) 88 (length a) particleBytes;
   returned = λ s q a. B.buildReturn 7 (q .image) (length a);
   left = λ s q a. B.buildAfter 7 (q .image) a;
   handed = λ s q a. eqb (B.buildReturn 7 (q .image) (length a)) 0;
@@ -45,9 +46,9 @@ particleBuilds = record {
   next = λ p q. replaced (particleMade (q .image) .refusal) (particleMade (q .image) .particle) p;
 }
 
-abbrev pub cellBuilds : Calls 1256 cellAt CellBuild
+abbrev pub cellBuilds : Calls cellBytes cellAt CellBuild
 cellBuilds = record {
-  formed = λ q a. B.lengths (length (q .image)) (buildLength (q .call)) (length a) 1256;
+  formed = λ q a. B.lengths (length (q .image)) (buildLength (q .call)) (length a) cellBytes;
   returned = λ s q a. B.buildReturn (q .call) (q .image) (length a);
   left = λ s q a. B.buildAfter (q .call) (q .image) a;
   handed = λ s q a. eqb (B.buildReturn (q .call) (q .image) (length a)) 0;
@@ -55,9 +56,9 @@ cellBuilds = record {
   next = λ c q. replaced (cellBuilt (q .call) (q .image) .refusal) (cellBuilt (q .call) (q .image) .solver) c;
 }
 
-abbrev pub electrolyteBuilds : Calls 896 electrolyteAt Build
+abbrev pub electrolyteBuilds : Calls electrolyteBytes electrolyteAt Build
 electrolyteBuilds = record {
-  formed = λ q a. B.lengths (length (q .image)) 128 (length a) 896;
+  formed = λ q a. B.lengths (length (q .image)) 128 (length a) electrolyteBytes;
   returned = λ s q a. B.buildReturn 11 (q .image) (length a);
   left = λ s q a. B.buildAfter 11 (q .image) a;
   handed = λ s q a. eqb (B.buildReturn 11 (q .image) (length a)) 0;
@@ -65,9 +66,9 @@ electrolyteBuilds = record {
   next = λ e q. replaced (electrolyteBuilt (q .image) .refusal) (electrolyteBuilt (q .image) .state) e;
 }
 
-abbrev pub dfnBuilds : Calls 9008 I.cellAt Build
+abbrev pub dfnBuilds : Calls dfnBytes I.cellAt Build
 dfnBuilds = record {
-  formed = λ q a. B.lengths (length (q .image)) 512 (length a) 9008;
+  formed = λ q a. B.lengths (length (q .image)) 512 (length a) dfnBytes;
   returned = λ s q a. B.buildReturn 12 (q .image) (length a);
   left = λ s q a. B.buildAfter 12 (q .image) a;
   handed = λ s q a. eqb (B.buildReturn 12 (q .image) (length a)) 0;
@@ -94,9 +95,9 @@ particle-builds-implement =
       returned-is = λ s q a l. particle-build-returned s q a;
       handed-is = λ s q a. refl;
       accepted-reads = λ s q a h.
-          ap particleIn (whole 600 (particleBuilds .left s q a) (particle-build-length (q .image) a h)) ∙ particle-build-read-back (q .image) a h
+          ap particleIn (whole particleBytes (particleBuilds .left s q a) (particle-build-length (q .image) a h)) ∙ particle-build-read-back (q .image) a h
           ∙ sym (built _ _ (particleIn s) (after-lengths _ _ (sym (particle-build-returned s q a) ∙ h) .1));
-      accepted-fills = λ s q a h. let l = particle-build-length (q .image) a h in ap length (whole 600 (particleBuilds .left s q a) l) ∙ l;
+      accepted-fills = λ s q a h. let l = particle-build-length (q .image) a h in ap length (whole particleBytes (particleBuilds .left s q a) l) ∙ l;
       refused-keeps = λ p q n. unbuilt _ _ p n;
     })
 
@@ -111,9 +112,9 @@ cell-builds-implement =
       returned-is = λ s q a l. cell-build-returned s q a;
       handed-is = λ s q a. refl;
       accepted-reads = λ s q a h.
-          ap cellAt (whole 1256 (cellBuilds .left s q a) (cell-build-length (q .call) (q .image) a (q .least) (q .most) h)) ∙ cell-build-read-back (q .call) (q .image) a (q .least) (q .most) h
+          ap cellAt (whole cellBytes (cellBuilds .left s q a) (cell-build-length (q .call) (q .image) a (q .least) (q .most) h)) ∙ cell-build-read-back (q .call) (q .image) a (q .least) (q .most) h
           ∙ sym (built _ _ (cellAt s) (after-lengths _ _ (sym (cell-build-returned s q a) ∙ h) .1));
-      accepted-fills = λ s q a h. let l = cell-build-length (q .call) (q .image) a (q .least) (q .most) h in ap length (whole 1256 (cellBuilds .left s q a) l) ∙ l;
+      accepted-fills = λ s q a h. let l = cell-build-length (q .call) (q .image) a (q .least) (q .most) h in ap length (whole cellBytes (cellBuilds .left s q a) l) ∙ l;
       refused-keeps = λ c q n. unbuilt _ _ c n;
     })
 
@@ -128,9 +129,9 @@ electrolyte-builds-implement =
       returned-is = λ s q a l. electrolyte-build-returned s q a;
       handed-is = λ s q a. refl;
       accepted-reads = λ s q a h.
-          ap electrolyteAt (whole 896 (electrolyteBuilds .left s q a) (electrolyte-build-length (q .image) a h)) ∙ electrolyte-build-read-back (q .image) a h
+          ap electrolyteAt (whole electrolyteBytes (electrolyteBuilds .left s q a) (electrolyte-build-length (q .image) a h)) ∙ electrolyte-build-read-back (q .image) a h
           ∙ sym (built _ _ (electrolyteAt s) (after-lengths _ _ (sym (electrolyte-build-returned s q a) ∙ h) .1));
-      accepted-fills = λ s q a h. let l = electrolyte-build-length (q .image) a h in ap length (whole 896 (electrolyteBuilds .left s q a) l) ∙ l;
+      accepted-fills = λ s q a h. let l = electrolyte-build-length (q .image) a h in ap length (whole electrolyteBytes (electrolyteBuilds .left s q a) l) ∙ l;
       refused-keeps = λ e q n. unbuilt _ _ e n;
     })
 
@@ -145,8 +146,8 @@ dfn-builds-implement =
       returned-is = λ s q a l. dfn-build-returned s q a;
       handed-is = λ s q a. refl;
       accepted-reads = λ s q a h.
-          ap I.cellAt (whole 9008 (dfnBuilds .left s q a) (dfn-build-length (q .image) a h)) ∙ dfn-build-read-back (q .image) a h
+          ap I.cellAt (whole dfnBytes (dfnBuilds .left s q a) (dfn-build-length (q .image) a h)) ∙ dfn-build-read-back (q .image) a h
           ∙ sym (built _ _ (I.cellAt s) (after-lengths _ _ (sym (dfn-build-returned s q a) ∙ h) .1));
-      accepted-fills = λ s q a h. let l = dfn-build-length (q .image) a h in ap length (whole 9008 (dfnBuilds .left s q a) l) ∙ l;
+      accepted-fills = λ s q a h. let l = dfn-build-length (q .image) a h in ap length (whole dfnBytes (dfnBuilds .left s q a) l) ∙ l;
       refused-keeps = λ d q n. unbuilt _ _ d n;
     })

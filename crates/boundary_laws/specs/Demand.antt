@@ -22,6 +22,7 @@ use Rattle.cell_images.specs.Images.{cellAt}
 use Rattle.boundary_laws.specs.CallLists.{CCall, imageAfter, acceptedCalls, wellFormed}
 use Rattle.boundary_laws.specs.StepLists.{particleSteps, cellSteps, particle-simulates, reportedSubSteps, cell-simulates}
 use Rattle.boundary_laws.specs.Nodes.{nodeOf, nodeAt, mostAt, particle-nodes, cell-nodes, node-below}
+use Rattle.image_layout.specs.Layout.{particleBytes, cellBytes}
 
 -- ---- a particle: lists of `pj_particle_step`
 -- the calls that return 0 keep the demand's two conditions
@@ -29,7 +30,7 @@ abbrev pub ParticleStepConditions : List ℕ → List (CCall PD.Call) → Type 0
 ParticleStepConditions s qs = Each (λ q. StepConditions (PD.numbersOf (particleIn s) q)) (acceptedCalls particleSteps s qs)
 
 -- THEOREM 1. Every node of the last image is within K·M / 2 ^ 49 of the exact one, K the number of calls that return 0.
-pub particle-images-near : (s : List ℕ) (qs : List (CCall PD.Call)) → length s ≡ 600 → particleRefusal (particleIn s) ≡ 0 → ParticleStepConditions s qs
+pub particle-images-near : (s : List ℕ) (qs : List (CCall PD.Call)) → length s ≡ particleBytes → particleRefusal (particleIn s) ≡ 0 → ParticleStepConditions s qs
     → (i : ℕ) → i < particleIn s .«n_nodes»
     → nodeOf (imageAfter particleSteps s qs) i -F PD.exactPlace (particleIn s) (wellFormed particleSteps qs) i
     within nat (length (acceptedCalls particleSteps s qs)) *F val (particleIn s .params .«c_s_max») /F pow2 49
@@ -42,7 +43,7 @@ particle-images-near s qs l h ks i m =
     (PD.particle-near p w h (subst (Each (λ q. StepConditions (PD.numbersOf p q))) (f .calls) ks) i m)
 
 -- after any list the image's particle passes the checks
-pub particle-images-pass : (s : List ℕ) (qs : List (CCall PD.Call)) → length s ≡ 600 → particleRefusal (particleIn s) ≡ 0 → particleRefusal (particleIn (imageAfter particleSteps s qs)) ≡ 0
+pub particle-images-pass : (s : List ℕ) (qs : List (CCall PD.Call)) → length s ≡ particleBytes → particleRefusal (particleIn s) ≡ 0 → particleRefusal (particleIn (imageAfter particleSteps s qs)) ≡ 0
 particle-images-pass s qs l h = rw (particle-simulates qs s l .particle) (PD.after-passes (particleIn s) (wellFormed particleSteps qs) h)
 
 -- ---- a cell: lists of `pj_cell_step`
@@ -51,7 +52,7 @@ CellStepConditions e s qs = Each (λ q. StepConditions (SD.numbersAt e (cellAt s
 
 -- THEOREM 2. Every node of the electrode e in the last image is within K·M / 2 ^ 49 of the exact one, K the sub-steps that the answers report. Nothing is asked
 -- of the other electrode.
-pub cell-images-near : (e : Electrode) (s : List ℕ) (qs : List (CCall SD.Call)) → length s ≡ 1256 → cellRefusal (cellAt s) ≡ 0 → CellStepConditions e s qs
+pub cell-images-near : (e : Electrode) (s : List ℕ) (qs : List (CCall SD.Call)) → length s ≡ cellBytes → cellRefusal (cellAt s) ≡ 0 → CellStepConditions e s qs
     → (i : ℕ) → i < cellAt s .config .«n_nodes»
     → nodeAt e (imageAfter cellSteps s qs) i -F SD.exactPlace e (cellAt s) (wellFormed cellSteps qs) i within nat (reportedSubSteps s qs) *F mostAt e (cellAt s) /F pow2 49
 cell-images-near e s qs l h ks i m =
@@ -61,7 +62,7 @@ cell-images-near e s qs l h ks i m =
     (SD.solver-near e (cellAt s) w h (subst (Each (λ q. StepConditions (SD.numbersAt e (cellAt s) q))) (f .calls) ks) i (rw (nodes-are (cellAt s) h e) m))
 
 -- after any list the image's cell passes the checks
-pub cell-images-pass : (s : List ℕ) (qs : List (CCall SD.Call)) → length s ≡ 1256 → cellRefusal (cellAt s) ≡ 0 → cellRefusal (cellAt (imageAfter cellSteps s qs)) ≡ 0
+pub cell-images-pass : (s : List ℕ) (qs : List (CCall SD.Call)) → length s ≡ cellBytes → cellRefusal (cellAt s) ≡ 0 → cellRefusal (cellAt (imageAfter cellSteps s qs)) ≡ 0
 cell-images-pass s qs l h = rw (cell-simulates qs s l .cell) (SD.after-passes (wellFormed cellSteps qs) (cellAt s) h)
 
 -- THEOREM 3. Two images whose cells are of one make with equal profiles and pass the checks, two lists that keep the conditions at both electrodes; the calls
@@ -76,7 +77,7 @@ pub record RankedImages (s s' : List ℕ) (qs qs' : List (CCall SD.Call)) : Type
       → nodeAt Electrode.anode (imageAfter cellSteps s' qs') i
       ≤F nodeAt Electrode.anode (imageAfter cellSteps s qs) i +F nat 2 *F nat (reportedSubSteps s qs) *F mostAt Electrode.anode (cellAt s) /F pow2 49
 
-pub cell-images-ranked : (s s' : List ℕ) (qs qs' : List (CCall SD.Call)) → length s ≡ 1256 → length s' ≡ 1256 → cellRefusal (cellAt s) ≡ 0 → cellRefusal (cellAt s') ≡ 0
+pub cell-images-ranked : (s s' : List ℕ) (qs qs' : List (CCall SD.Call)) → length s ≡ cellBytes → length s' ≡ cellBytes → cellRefusal (cellAt s) ≡ 0 → cellRefusal (cellAt s') ≡ 0
     → Twins (cellAt s) (cellAt s') → ((e : Electrode) → CellStepConditions e s qs) → ((e : Electrode) → CellStepConditions e s' qs')
     → Both Paired (acceptedCalls cellSteps s qs) (acceptedCalls cellSteps s' qs') → RankedImages s s' qs qs'
 cell-images-ranked s s' qs qs' l l' h h' t ks ks' ps =

@@ -31,6 +31,7 @@ use Rattle.boundary_laws.specs.CallLists.{CCall, imageAfter, acceptedCal
 use Rattle.boundary_laws.specs.StepLists.{cellSteps, reportedSubSteps, cell-simulates}
 use Rattle.boundary_laws.specs.Nodes.{nodeAt, mostAt}
 use Rattle.boundary_laws.specs.Demand.{CellStepConditions, cell-images-near, RankedImages, cell-images-ranked}
+use Rattle.image_layout.specs.Layout.{cellBytes, cellStepBytes}
 
 abbrev pub zeros : ℕ → List ℕ
 zeros n = replicate n 0
@@ -45,15 +46,15 @@ configImage = putConfig (zeros 48) config
 
 -- what `pj_build` 8 leaves in an answer of 1,256 zeros
 unfoldable pub image : List ℕ
-image = B.buildAfter 8 configImage (zeros 1256)
+image = B.buildAfter 8 configImage (zeros cellBytes)
 
 -- the same cell at 3,600 s
 unfoldable pub laterImage : List ℕ
-laterImage = putCell (zeros 1256) later
+laterImage = putCell (zeros cellBytes) later
 
 -- ---- the calls
 abbrev pub step : SD.Call → CCall SD.Call
-step q = record { call = q; answer = zeros 1328 }
+step q = record { call = q; answer = zeros cellStepBytes }
 
 -- refused with 3, refused with 10, accepted, refused with 7, accepted, refused with 3
 abbrev pub calls : List (CCall SD.Call)
@@ -85,19 +86,19 @@ pub build-is : cellBuilt 8 configImage .solver ≡ start
 unfolding cellBuilt
 build-is = ap (λ (c : SpmConfig). S.ready c lfpCathode .solver) config-is ∙ start-is .1
 
-pub build-returns : B.buildReturn 8 configImage (length (zeros 1256)) ≡ 0
+pub build-returns : B.buildReturn 8 configImage (length (zeros cellBytes)) ≡ 0
 unfolding buildLength B.afterLengths
 build-returns =
-    cell-build-return 8 configImage (zeros 1256) (lit≤ tt) (lit≤ tt)
-    ∙ rw config-length (cell-return 8 configImage (zeros 1256) (lit≤ tt) (lit≤ tt) ∙ build-accepted)
+    cell-build-return 8 configImage (zeros cellBytes) (lit≤ tt) (lit≤ tt)
+    ∙ rw config-length (cell-return 8 configImage (zeros cellBytes) (lit≤ tt) (lit≤ tt) ∙ build-accepted)
 
-pub image-length : length image ≡ 1256
+pub image-length : length image ≡ cellBytes
 unfolding image
-image-length = cell-build-length 8 configImage (zeros 1256) (lit≤ tt) (lit≤ tt) build-returns
+image-length = cell-build-length 8 configImage (zeros cellBytes) (lit≤ tt) (lit≤ tt) build-returns
 
 pub image-cell : cellAt image ≡ start
 unfolding image
-image-cell = cell-build-read-back 8 configImage (zeros 1256) (lit≤ tt) (lit≤ tt) build-returns ∙ build-is
+image-cell = cell-build-read-back 8 configImage (zeros cellBytes) (lit≤ tt) (lit≤ tt) build-returns ∙ build-is
 
 -- ---- the later cell's image
 sheets-encodable : EncodableSheet graphiteAnode × EncodableSheet lfpCathode
@@ -112,17 +113,17 @@ later-encodable = record {
   clock = literal _;
 }
 
-later-length : length laterImage ≡ 1256
+later-length : length laterImage ≡ cellBytes
 unfolding laterImage
-later-length = writes-cell (zeros 1256) later later-encodable .size ∙ zeros-length 1256
+later-length = writes-cell (zeros cellBytes) later later-encodable .size ∙ zeros-length cellBytes
 
 later-cell : cellAt laterImage ≡ later
 unfolding laterImage
-later-cell = cell-read-back (zeros 1256) later later-encodable (rw (zeros-length 1256) (le-refl 1256))
+later-cell = cell-read-back (zeros cellBytes) later later-encodable (rw (zeros-length cellBytes) (le-refl cellBytes))
 
 -- ---- the premises
 -- a list of calls from C on the image s of a cell c
-module _ (s : List ℕ) (c : SpmSolver) (l : length s ≡ 1256) (is : cellAt s ≡ c) (qs : List (CCall SD.Call)) (w : List SD.Call) (f : wellFormed cellSteps qs ≡ w) where
+module _ (s : List ℕ) (c : SpmSolver) (l : length s ≡ cellBytes) (is : cellAt s ≡ c) (qs : List (CCall SD.Call)) (w : List SD.Call) (f : wellFormed cellSteps qs ≡ w) where
   accepted-are : acceptedCalls cellSteps s qs ≡ SD.taken c w
   accepted-are = cell-simulates qs s l .calls ∙ ap (λ (x : SpmSolver). SD.taken x (wellFormed cellSteps qs)) is ∙ ap (SD.taken c) f
 

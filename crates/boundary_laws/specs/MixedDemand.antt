@@ -24,6 +24,7 @@ use Rattle.boundary_laws.specs.RunLists.{CellRun}
 use Rattle.boundary_laws.specs.MixedLists.{cellCalls, cell-calls-simulate}
 use Rattle.boundary_laws.specs.Nodes.{nodeAt, mostAt, cell-nodes, node-below}
 use Rattle.boundary_laws.specs.BuiltCells.{cell-build-passes}
+use Rattle.image_layout.specs.Layout.{cellBytes}
 
 -- ---- a run as a list of steps: one for each row
 abbrev pub turnsOf : SpmSolver → CellRun → List SD.Call
@@ -72,7 +73,7 @@ since-is (inr (inr r) ∷ qs) z =
     ∙ since-is qs (record { start = z .start; steps = z .steps ++ turnsOf (cellOf z) r })
 
 -- THE CELL OF THE LAST IMAGE is the cell of the last accepted build after the steps since then
-pub mixed-images-are : (s : List ℕ) (qs : List (CCall (CellBuild ⊎ (SD.Call ⊎ CellRun)))) → length s ≡ 1256 → cellAt (imageAfter cellCalls s qs) ≡ cellOf (sinceBuildIn s qs)
+pub mixed-images-are : (s : List ℕ) (qs : List (CCall (CellBuild ⊎ (SD.Call ⊎ CellRun)))) → length s ≡ cellBytes → cellAt (imageAfter cellCalls s qs) ≡ cellOf (sinceBuildIn s qs)
 unfolding SD.cellAfter
 mixed-images-are s qs l = cell-calls-simulate qs s l .reads ∙ since-is (wellFormed cellCalls qs) (record { start = cellAt s; steps = [] })
 
@@ -97,7 +98,7 @@ mixed-start-passes s qs h = start-passes (wellFormed cellCalls qs) (record { sta
 
 -- THEOREM 2. Where the accepted steps since the last build keep the two conditions at e, every node of e in the last image is within K·M / 2 ^ 49 of the exact
 -- one, K their sub-steps.
-pub mixed-images-near : (e : Electrode) (s : List ℕ) (qs : List (CCall (CellBuild ⊎ (SD.Call ⊎ CellRun)))) → length s ≡ 1256 → cellRefusal (sinceBuildIn s qs .start) ≡ 0
+pub mixed-images-near : (e : Electrode) (s : List ℕ) (qs : List (CCall (CellBuild ⊎ (SD.Call ⊎ CellRun)))) → length s ≡ cellBytes → cellRefusal (sinceBuildIn s qs .start) ≡ 0
     → SD.StepConditionsAt e (sinceBuildIn s qs .start) (sinceBuildIn s qs .steps) → (i : ℕ) → i < sinceBuildIn s qs .start .config .«n_nodes»
     → nodeAt e (imageAfter cellCalls s qs) i -F SD.exactPlace e (sinceBuildIn s qs .start) (sinceBuildIn s qs .steps) i
     within nat (SD.K (sinceBuildIn s qs .start) (sinceBuildIn s qs .steps)) *F mostAt e (sinceBuildIn s qs .start) /F pow2 49

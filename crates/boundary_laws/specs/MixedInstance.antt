@@ -25,6 +25,7 @@ use Rattle.boundary_laws.specs.MixedLists.{cellCalls}
 use Rattle.boundary_laws.specs.Nodes.{nodeAt, mostAt}
 use Rattle.boundary_laws.specs.MixedDemand.{turnsOf, sinceBuild, sinceBuildIn, mixed-images-near}
 use Rattle.boundary_laws.specs.Instance.{zeros, zeros-length, configImage, image, config-length, build-accepted, build-is}
+use Rattle.image_layout.specs.Layout.{cellBytes, cellRunBytes, cellStepBytes}
 
 -- ---- the calls
 abbrev graphiteLfp : CellBuild
@@ -35,12 +36,12 @@ abbrev noRoom : CellRun
 noRoom = record { current = draw three one .current; dt = draw three one .dt; temp = draw three one .temp; limit = one; places = 0 }
 
 abbrev step : SD.Call → CCall (CellBuild ⊎ (SD.Call ⊎ CellRun))
-step q = record { call = inr (inl q); answer = zeros 1328 }
+step q = record { call = inr (inl q); answer = zeros cellStepBytes }
 
 abbrev pub mixedCalls : List (CCall (CellBuild ⊎ (SD.Call ⊎ CellRun)))
 mixedCalls =
-    record { call = inl graphiteLfp; answer = zeros 1255 } ∷ record { call = inl graphiteLfp; answer = zeros 1256 } ∷ step no-current ∷ step (draw three two)
-    ∷ record { call = inr (inr noRoom); answer = zeros 1272 } ∷ step too-long ∷ step (draw three one) ∷ step no-current ∷ []
+    record { call = inl graphiteLfp; answer = zeros 1255 } ∷ record { call = inl graphiteLfp; answer = zeros cellBytes } ∷ step no-current ∷ step (draw three two)
+    ∷ record { call = inr (inr noRoom); answer = zeros cellRunBytes } ∷ step too-long ∷ step (draw three one) ∷ step no-current ∷ []
 
 abbrev mixedFormed : List (CellBuild ⊎ (SD.Call ⊎ CellRun))
 mixedFormed =
@@ -62,12 +63,12 @@ since-build : (c : SpmSolver) → sinceBuild (record { start = c; steps = [] }) 
 unfolding sinceBuild
 since-build c = rw (build-accepted, no-turns)
 
-pub mixed-since : sinceBuildIn (zeros 1256) mixedCalls ≡ record { start = start; steps = discharge }
-mixed-since = ap (sinceBuild (record { start = cellAt (zeros 1256); steps = [] })) formed-calls ∙ since-build (cellAt (zeros 1256)) ∙ ap (λ (c : SpmSolver). record { start = c; steps = discharge }) build-is
+pub mixed-since : sinceBuildIn (zeros cellBytes) mixedCalls ≡ record { start = start; steps = discharge }
+mixed-since = ap (sinceBuild (record { start = cellAt (zeros cellBytes); steps = [] })) formed-calls ∙ since-build (cellAt (zeros cellBytes)) ∙ ap (λ (c : SpmSolver). record { start = c; steps = discharge }) build-is
 
 -- ---- THEOREM 2 for the words of the last image, K = 3
 pub mixed-image-near : (e : Electrode) (i : ℕ) → i < 11
-    → nodeAt e (imageAfter cellCalls (zeros 1256) mixedCalls) i -F SD.exactPlace e start discharge i within nat 3 *F mostAt e start /F pow2 49
+    → nodeAt e (imageAfter cellCalls (zeros cellBytes) mixedCalls) i -F SD.exactPlace e start discharge i within nat 3 *F mostAt e start /F pow2 49
 mixed-image-near e i l =
     rw (mixed-since, discharge-counted) at
-    (mixed-images-near e (zeros 1256) mixedCalls (zeros-length 1256) (rw mixed-since start-passes) (rw mixed-since (discharge-conditions e)) i (rw mixed-since l))
+    (mixed-images-near e (zeros cellBytes) mixedCalls (zeros-length cellBytes) (rw mixed-since start-passes) (rw mixed-since (discharge-conditions e)) i (rw mixed-since l))

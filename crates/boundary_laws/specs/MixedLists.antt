@@ -15,30 +15,31 @@ use Rattle.boundary_laws.specs.CallLists.{Calls, CCall, Simulates, simul
 use Rattle.boundary_laws.specs.StepLists.{ElectrolyteCall, DfnCall, particleSteps, cellSteps, electrolyteSteps, dfnSteps, particle-steps-implement, cell-steps-implement, electrolyte-steps-implement, dfn-steps-implement}
 use Rattle.boundary_laws.specs.BuildLists.{Build, CellBuild, particleBuilds, cellBuilds, electrolyteBuilds, dfnBuilds, particle-builds-implement, cell-builds-implement, electrolyte-builds-implement, dfn-builds-implement}
 use Rattle.boundary_laws.specs.RunLists.{CellRun, DfnRun, cellRuns, dfnRuns, cell-runs-implement, dfn-runs-implement}
+use Rattle.image_layout.specs.Layout.{particleBytes, electrolyteBytes, cellBytes, dfnBytes}
 
 -- ---- lists of all of them
-abbrev pub particleCalls : Calls 600 particleIn (Build ⊎ PD.Call)
+abbrev pub particleCalls : Calls particleBytes particleIn (Build ⊎ PD.Call)
 particleCalls = orElse particleBuilds particleSteps
 
-abbrev pub cellCalls : Calls 1256 cellAt (CellBuild ⊎ (SD.Call ⊎ CellRun))
+abbrev pub cellCalls : Calls cellBytes cellAt (CellBuild ⊎ (SD.Call ⊎ CellRun))
 cellCalls = orElse cellBuilds (orElse cellSteps cellRuns)
 
-abbrev pub electrolyteCalls : Calls 896 electrolyteAt (Build ⊎ ElectrolyteCall)
+abbrev pub electrolyteCalls : Calls electrolyteBytes electrolyteAt (Build ⊎ ElectrolyteCall)
 electrolyteCalls = orElse electrolyteBuilds electrolyteSteps
 
-abbrev pub dfnCalls : Calls 9008 I.cellAt (Build ⊎ (DfnCall ⊎ DfnRun))
+abbrev pub dfnCalls : Calls dfnBytes I.cellAt (Build ⊎ (DfnCall ⊎ DfnRun))
 dfnCalls = orElse dfnBuilds (orElse dfnSteps dfnRuns)
 
 -- ---- THE RECORD OF THE LAST IMAGE is the record after the same calls
-pub particle-calls-simulate : (qs : List (CCall (Build ⊎ PD.Call))) (s : List ℕ) → length s ≡ 600 → Simulates particleCalls s qs
+pub particle-calls-simulate : (qs : List (CCall (Build ⊎ PD.Call))) (s : List ℕ) → length s ≡ particleBytes → Simulates particleCalls s qs
 particle-calls-simulate = simulates particleCalls (both-implement particleBuilds particleSteps particle-builds-implement particle-steps-implement)
 
-pub cell-calls-simulate : (qs : List (CCall (CellBuild ⊎ (SD.Call ⊎ CellRun)))) (s : List ℕ) → length s ≡ 1256 → Simulates cellCalls s qs
+pub cell-calls-simulate : (qs : List (CCall (CellBuild ⊎ (SD.Call ⊎ CellRun)))) (s : List ℕ) → length s ≡ cellBytes → Simulates cellCalls s qs
 cell-calls-simulate =
     simulates cellCalls (both-implement cellBuilds (orElse cellSteps cellRuns) cell-builds-implement (both-implement cellSteps cellRuns cell-steps-implement cell-runs-implement))
 
-pub electrolyte-calls-simulate : (qs : List (CCall (Build ⊎ ElectrolyteCall))) (s : List ℕ) → length s ≡ 896 → Simulates electrolyteCalls s qs
+pub electrolyte-calls-simulate : (qs : List (CCall (Build ⊎ ElectrolyteCall))) (s : List ℕ) → length s ≡ electrolyteBytes → Simulates electrolyteCalls s qs
 electrolyte-calls-simulate = simulates electrolyteCalls (both-implement electrolyteBuilds electrolyteSteps electrolyte-builds-implement electrolyte-steps-implement)
 
-pub dfn-calls-simulate : (qs : List (CCall (Build ⊎ (DfnCall ⊎ DfnRun)))) (s : List ℕ) → length s ≡ 9008 → Simulates dfnCalls s qs
+pub dfn-calls-simulate : (qs : List (CCall (Build ⊎ (DfnCall ⊎ DfnRun)))) (s : List ℕ) → length s ≡ dfnBytes → Simulates dfnCalls s qs
 dfn-calls-simulate = simulates dfnCalls (both-implement dfnBuilds (orElse dfnSteps dfnRuns) dfn-builds-implement (both-implement dfnSteps dfnRuns dfn-steps-implement dfn-runs-implement))

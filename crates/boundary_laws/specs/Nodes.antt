@@ -21,11 +21,12 @@ use Rattle.solver_laws.specs.Electrodes.{Electrode, electrode-passes, nodes-are
 use Rattle.codec.specs.Words.{floatAt, placesAt}
 use Rattle.sheet_images.specs.Images.{particleAt}
 use Rattle.cell_images.specs.Images.{cellAt}
+use Rattle.image_layout.specs.Layout.{cellAnodeProfile, cellCathodeProfile}
 
 -- the word of an electrode's first node; a particle's is 11
 abbrev pub firstNode : Electrode → ℕ
-firstNode Electrode.anode = 17
-firstNode Electrode.cathode = 92
+firstNode Electrode.anode = cellAnodeProfile
+firstNode Electrode.cathode = cellCathodeProfile
 
 -- node i of a particle's image, and of an electrode in a cell's
 abbrev pub nodeOf : List ℕ → ℕ → Fraction
@@ -48,7 +49,7 @@ particle-node s i l = row-place s 11 i l
 electrode-node : (e : Electrode) (s : List ℕ) (i : ℕ) → i < 64 → placeOf (L.particleAt e (cellAt s)) i ≡ floatAt s (firstNode e + i)
 unfolding cellAt particleAt
 electrode-node Electrode.anode s i l = row-place s 17 i l
-electrode-node Electrode.cathode s i l = row-place s 92 i l
+electrode-node Electrode.cathode s i l = row-place s cellCathodeProfile i l
 
 -- the nodes of the particle p that the image t holds
 pub particle-nodes : (t : List ℕ) (p : ParticleDiffusion) → particleIn t ≡ p → (i : ℕ) → i < 64 → val (placeOf p i) ≡ nodeOf t i

@@ -32,6 +32,7 @@ use Rattle.boundary_laws.specs.StepLists.{particleSteps, particle-simula
 use Rattle.boundary_laws.specs.Nodes.{nodeOf}
 use Rattle.boundary_laws.specs.Demand.{ParticleStepConditions, particle-images-near}
 use Rattle.boundary_laws.specs.Instance.{zeros, zeros-length, calls}
+use Rattle.image_layout.specs.Layout.{particleBytes}
 
 -- ---- the image
 -- the sheet's and 11, 88 bytes
@@ -40,13 +41,13 @@ sheetImage = putWord (putSheet (zeros 88) 0 graphiteAnode) 10 11
 
 -- what `pj_build` 7 leaves in an answer of 600 zeros
 unfoldable pub particleImage : List ℕ
-particleImage = B.buildAfter 7 sheetImage (zeros 600)
+particleImage = B.buildAfter 7 sheetImage (zeros particleBytes)
 
 -- the calls: accepted, refused with 3, refused with 10, accepted, refused with 4, accepted
 abbrev pub particleCallList : List (CCall PD.Call)
 particleCallList =
-    record { call = draw; answer = zeros 600 } ∷ record { call = no-flux; answer = zeros 600 } ∷ record { call = draw; answer = zeros 599 }
-    ∷ record { call = draw; answer = zeros 600 } ∷ record { call = no-time; answer = zeros 600 } ∷ record { call = draw; answer = zeros 600 } ∷ []
+    record { call = draw; answer = zeros particleBytes } ∷ record { call = no-flux; answer = zeros particleBytes } ∷ record { call = draw; answer = zeros 599 }
+    ∷ record { call = draw; answer = zeros particleBytes } ∷ record { call = no-time; answer = zeros particleBytes } ∷ record { call = draw; answer = zeros particleBytes } ∷ []
 
 -- ---- the build is accepted, and its particle is the one that `new` gives
 graphite-sheet : EncodableSheet graphiteAnode
@@ -77,17 +78,17 @@ made-accepted : P.made graphiteAnode 11 .refusal ≡ 0
 unfolding P.made P.newRefusal firstRefusal refusalUnless graphiteAnode le ofBits
 made-accepted = refl
 
-pub particle-build-returns : B.buildReturn 7 sheetImage (length (zeros 600)) ≡ 0
+pub particle-build-returns : B.buildReturn 7 sheetImage (length (zeros particleBytes)) ≡ 0
 unfolding B.buildReturn buildLength builtLength newReturn B.afterLengths
 particle-build-returns = rw image-bytes (ap (λ (a : ParticleAnswer). a .refusal) made-is ∙ made-accepted)
 
-pub particle-image-length : length particleImage ≡ 600
+pub particle-image-length : length particleImage ≡ particleBytes
 unfolding particleImage
-particle-image-length = particle-build-length sheetImage (zeros 600) particle-build-returns
+particle-image-length = particle-build-length sheetImage (zeros particleBytes) particle-build-returns
 
 pub particle-image-is : particleIn particleImage ≡ start
 unfolding particleImage
-particle-image-is = particle-build-read-back sheetImage (zeros 600) particle-build-returns ∙ ap (λ (a : ParticleAnswer). a .particle) made-is
+particle-image-is = particle-build-read-back sheetImage (zeros particleBytes) particle-build-returns ∙ ap (λ (a : ParticleAnswer). a .particle) made-is
 
 -- ---- the premises
 formed-calls : wellFormed particleSteps particleCallList ≡ discharge

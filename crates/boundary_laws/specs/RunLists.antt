@@ -26,6 +26,7 @@ use Rattle.image_laws.specs.DfnRuns.{dfn-run-idle}
 use Rattle.image_laws.specs.AnswerLengths.{discharge-length, galvanostatic-length}
 use Rattle.image_laws.specs.ReadBack.{discharge-read-back, galvanostatic-read-back}
 use Rattle.boundary_laws.specs.CallLists.{Calls, Implements}
+use Rattle.image_layout.specs.Layout.{cellBytes, cellRunBytes, dfnBytes, dfnRunBytes}
 
 -- ---- runs: the rows that are lent count only by their number of places
 pub record CellRun : Type 0 where
@@ -48,22 +49,22 @@ discharge c q = DR.discharged (DR.runSettings (q .current) (q .dt) (q .temp) (q 
 abbrev pub galvanostatic : DfnSolver → DfnRun → GR.RunOutcome
 galvanostatic d q = GR.galvanostatic d (f64 (q .bits)) (q .dt) (q .limit) (q .places)
 
-abbrev pub cellRuns : Calls 1256 cellAt CellRun
+abbrev pub cellRuns : Calls cellBytes cellAt CellRun
 cellRuns = record {
-  formed = λ q a. eqb (length a) 1272;
+  formed = λ q a. eqb (length a) cellRunBytes;
   returned = λ s q a. BR.dischargeReturn s (q .current) (q .dt) (q .temp) (q .limit) (q .places) (length a);
   left = λ s q a. BR.dischargeAfter s (q .current) (q .dt) (q .temp) (q .limit) (q .places) a;
-  handed = λ s q a. B.lengths (length s) 1256 (length a) 1272 && writesAnswer (discharge (cellAt s) q .ended .refusal) (discharge (cellAt s) q .rows);
+  handed = λ s q a. B.lengths (length s) cellBytes (length a) cellRunBytes && writesAnswer (discharge (cellAt s) q .ended .refusal) (discharge (cellAt s) q .rows);
   refusal = λ c q. discharge c q .ended .refusal;
   next = λ c q. discharge c q .solver;
 }
 
-abbrev pub dfnRuns : Calls 9008 I.cellAt DfnRun
+abbrev pub dfnRuns : Calls dfnBytes I.cellAt DfnRun
 dfnRuns = record {
-  formed = λ q a. eqb (length a) 9024;
+  formed = λ q a. eqb (length a) dfnRunBytes;
   returned = λ s q a. BR.galvanostaticReturn s (f64 (q .bits)) (q .dt) (q .limit) (q .places) (length a);
   left = λ s q a. BR.galvanostaticAfter s (f64 (q .bits)) (q .dt) (q .limit) (q .places) a;
-  handed = λ s q a. B.lengths (length s) 9008 (length a) 9024 && writesAnswer (galvanostatic (I.cellAt s) q .ended .refusal) (galvanostatic (I.cellAt s) q .rows);
+  handed = λ s q a. B.lengths (length s) dfnBytes (length a) dfnRunBytes && writesAnswer (galvanostatic (I.cellAt s) q .ended .refusal) (galvanostatic (I.cellAt s) q .rows);
   refusal = λ d q. galvanostatic d q .ended .refusal;
   next = λ d q. galvanostatic d q .cell;
 }
@@ -78,28 +79,28 @@ no-row refusal rows h = go (eqb refusal 0) (eqb rows 0) refl h
     go false false e h = absurd (subst T h tt)
     go true y e h = absurd (subst T h tt)
 
-module _ (s : List ℕ) (q : CellRun) (a : List ℕ) (l : length s ≡ 1256) where
-  module _ (e : eqb (length a) 1272 ≡ false) where
+module _ (s : List ℕ) (q : CellRun) (a : List ℕ) (l : length s ≡ cellBytes) where
+  module _ (e : eqb (length a) cellRunBytes ≡ false) where
     cell-run-malformed : (cellRuns .returned s q a ≡ N.badLength) × (cellRuns .handed s q a ≡ false)
     unfolding BR.dischargeReturn B.afterLengths
-    cell-run-malformed = (rw (eq-eqb (length s) 1256 l, e), rw (eq-eqb (length s) 1256 l, e))
+    cell-run-malformed = (rw (eq-eqb (length s) cellBytes l, e), rw (eq-eqb (length s) cellBytes l, e))
 
-  module _ (e : eqb (length a) 1272 ≡ true) where
+  module _ (e : eqb (length a) cellRunBytes ≡ true) where
     cell-run-returns : cellRuns .returned s q a ≡ cellRuns .refusal (cellAt s) q
     unfolding BR.dischargeReturn CR.dischargeReturn B.afterLengths
-    cell-run-returns = rw (eq-eqb (length s) 1256 l, e)
+    cell-run-returns = rw (eq-eqb (length s) cellBytes l, e)
 
     cell-run-handed : cellRuns .handed s q a ≡ writesAnswer (discharge (cellAt s) q .ended .refusal) (discharge (cellAt s) q .rows)
-    cell-run-handed = rw (eq-eqb (length s) 1256 l, e)
+    cell-run-handed = rw (eq-eqb (length s) cellBytes l, e)
 
-    cell-run-reads : cellRuns .handed s q a ≡ true → cellAt (take 1256 (cellRuns .left s q a)) ≡ cellRuns .next (cellAt s) q
+    cell-run-reads : cellRuns .handed s q a ≡ true → cellAt (take cellBytes (cellRuns .left s q a)) ≡ cellRuns .next (cellAt s) q
     cell-run-reads h =
-        discharge-read-back s (q .current) (q .dt) (q .temp) (q .limit) (q .places) a l (eqb-true (length a) 1272 e) (rw (sym cell-run-handed ∙ h) tt) .cell
+        discharge-read-back s (q .current) (q .dt) (q .temp) (q .limit) (q .places) a l (eqb-true (length a) cellRunBytes e) (rw (sym cell-run-handed ∙ h) tt) .cell
 
-    cell-run-fills : cellRuns .handed s q a ≡ true → length (take 1256 (cellRuns .left s q a)) ≡ 1256
+    cell-run-fills : cellRuns .handed s q a ≡ true → length (take cellBytes (cellRuns .left s q a)) ≡ cellBytes
     cell-run-fills h =
-        let n = discharge-length s (q .current) (q .dt) (q .temp) (q .limit) (q .places) a l (eqb-true (length a) 1272 e) (rw (sym cell-run-handed ∙ h) tt) in
-        length-take-le 1256 (cellRuns .left s q a) (rw n (lit≤ tt))
+        let n = discharge-length s (q .current) (q .dt) (q .temp) (q .limit) (q .places) a l (eqb-true (length a) cellRunBytes e) (rw (sym cell-run-handed ∙ h) tt) in
+        length-take-le cellBytes (cellRuns .left s q a) (rw n (lit≤ tt))
 
     cell-run-keeps : cellRuns .handed s q a ≡ false → cellRuns .next (cellAt s) q ≡ cellAt s
     cell-run-keeps h =
@@ -109,27 +110,27 @@ module _ (s : List ℕ) (q : CellRun) (a : List ℕ) (l : length s ≡ 1256) whe
 pub cell-runs-implement : Implements cellRuns
 cell-runs-implement = record { malformed = cell-run-malformed; returns = cell-run-returns; reads = cell-run-reads; fills = cell-run-fills; keeps = cell-run-keeps }
 
-module _ (s : List ℕ) (q : DfnRun) (a : List ℕ) (l : length s ≡ 9008) where
-  module _ (e : eqb (length a) 9024 ≡ false) where
+module _ (s : List ℕ) (q : DfnRun) (a : List ℕ) (l : length s ≡ dfnBytes) where
+  module _ (e : eqb (length a) dfnRunBytes ≡ false) where
     dfn-run-malformed : (dfnRuns .returned s q a ≡ N.badLength) × (dfnRuns .handed s q a ≡ false)
     unfolding BR.galvanostaticReturn B.afterLengths
-    dfn-run-malformed = (rw (eq-eqb (length s) 9008 l, e), rw (eq-eqb (length s) 9008 l, e))
+    dfn-run-malformed = (rw (eq-eqb (length s) dfnBytes l, e), rw (eq-eqb (length s) dfnBytes l, e))
 
-  module _ (e : eqb (length a) 9024 ≡ true) where
+  module _ (e : eqb (length a) dfnRunBytes ≡ true) where
     dfn-run-returns : dfnRuns .returned s q a ≡ dfnRuns .refusal (I.cellAt s) q
     unfolding BR.galvanostaticReturn PR.galvanostaticReturn B.afterLengths
-    dfn-run-returns = rw (eq-eqb (length s) 9008 l, e)
+    dfn-run-returns = rw (eq-eqb (length s) dfnBytes l, e)
 
     dfn-run-handed : dfnRuns .handed s q a ≡ writesAnswer (galvanostatic (I.cellAt s) q .ended .refusal) (galvanostatic (I.cellAt s) q .rows)
-    dfn-run-handed = rw (eq-eqb (length s) 9008 l, e)
+    dfn-run-handed = rw (eq-eqb (length s) dfnBytes l, e)
 
-    dfn-run-reads : dfnRuns .handed s q a ≡ true → I.cellAt (take 9008 (dfnRuns .left s q a)) ≡ dfnRuns .next (I.cellAt s) q
-    dfn-run-reads h = galvanostatic-read-back s (q .bits) (q .dt) (q .limit) (q .places) a l (eqb-true (length a) 9024 e) (rw (sym dfn-run-handed ∙ h) tt) .cell
+    dfn-run-reads : dfnRuns .handed s q a ≡ true → I.cellAt (take dfnBytes (dfnRuns .left s q a)) ≡ dfnRuns .next (I.cellAt s) q
+    dfn-run-reads h = galvanostatic-read-back s (q .bits) (q .dt) (q .limit) (q .places) a l (eqb-true (length a) dfnRunBytes e) (rw (sym dfn-run-handed ∙ h) tt) .cell
 
-    dfn-run-fills : dfnRuns .handed s q a ≡ true → length (take 9008 (dfnRuns .left s q a)) ≡ 9008
+    dfn-run-fills : dfnRuns .handed s q a ≡ true → length (take dfnBytes (dfnRuns .left s q a)) ≡ dfnBytes
     dfn-run-fills h =
-        let n = galvanostatic-length s (q .bits) (q .dt) (q .limit) (q .places) a l (eqb-true (length a) 9024 e) (rw (sym dfn-run-handed ∙ h) tt) in
-        length-take-le 9008 (dfnRuns .left s q a) (rw n (lit≤ tt))
+        let n = galvanostatic-length s (q .bits) (q .dt) (q .limit) (q .places) a l (eqb-true (length a) dfnRunBytes e) (rw (sym dfn-run-handed ∙ h) tt) in
+        length-take-le dfnBytes (dfnRuns .left s q a) (rw n (lit≤ tt))
 
     dfn-run-keeps : dfnRuns .handed s q a ≡ false → dfnRuns .next (I.cellAt s) q ≡ I.cellAt s
     dfn-run-keeps h =

@@ -33,6 +33,7 @@ use Rattle.image_laws.specs.DfnRuns.{dfn-step-refused}
 use Rattle.image_laws.specs.AnswerLengths.{particle-step-length, cell-step-length, electrolyte-step-length, dfn-step-length}
 use Rattle.image_laws.specs.ReadBack.{particle-step-read-back, cell-step-read-back, sub-steps-read-back, electrolyte-step-read-back, dfn-step-read-back}
 use Rattle.boundary_laws.specs.CallLists.{Calls, CCall, imageAfter, acceptedCalls, reported, wellFormed, recordAfter, accepted, total, Implements, simulates, reported-is, image-stays, plain-implements}
+use Rattle.image_layout.specs.Layout.{cellSubSteps, particleBytes, electrolyteBytes, cellBytes, cellStepBytes, dfnBytes, dfnStepBytes}
 
 -- ---- the calls
 -- of an electrolyte
@@ -51,9 +52,9 @@ abbrev pub current : DfnCall → Float
 current q = f64 (q .bits)
 
 -- ---- what C sees of a step, by the definitions that the contract of the call cites; and the step, by the definition that the contract of `step` cites
-abbrev pub particleSteps : Calls 600 particleIn PD.Call
+abbrev pub particleSteps : Calls particleBytes particleIn PD.Call
 particleSteps = record {
-  formed = λ q a. eqb (length a) 600;
+  formed = λ q a. eqb (length a) particleBytes;
   returned = λ s q a. B.particleReturn s (q .flux) (q .dt) (q .temp) (length a);
   left = λ s q a. B.particleAfter s (q .flux) (q .dt) (q .temp) a;
   handed = λ s q a. eqb (B.particleReturn s (q .flux) (q .dt) (q .temp) (length a)) 0;
@@ -61,9 +62,9 @@ particleSteps = record {
   next = λ p q. PD.answer p q .particle;
 }
 
-abbrev pub cellSteps : Calls 1256 cellAt SD.Call
+abbrev pub cellSteps : Calls cellBytes cellAt SD.Call
 cellSteps = record {
-  formed = λ q a. eqb (length a) 1328;
+  formed = λ q a. eqb (length a) cellStepBytes;
   returned = λ s q a. B.cellReturn s (q .current) (q .dt) (q .temp) (length a);
   left = λ s q a. B.cellAfter s (q .current) (q .dt) (q .temp) a;
   handed = λ s q a. eqb (B.cellReturn s (q .current) (q .dt) (q .temp) (length a)) 0;
@@ -71,9 +72,9 @@ cellSteps = record {
   next = λ c q. SD.answer c q .solver;
 }
 
-abbrev pub electrolyteSteps : Calls 896 electrolyteAt ElectrolyteCall
+abbrev pub electrolyteSteps : Calls electrolyteBytes electrolyteAt ElectrolyteCall
 electrolyteSteps = record {
-  formed = λ q a. eqb (length a) 896;
+  formed = λ q a. eqb (length a) electrolyteBytes;
   returned = λ s q a. B.electrolyteReturn s (q .j_neg) (q .j_pos) (q .dt) (q .temp) (length a);
   left = λ s q a. B.electrolyteAfter s (q .j_neg) (q .j_pos) (q .dt) (q .temp) a;
   handed = λ s q a. eqb (B.electrolyteReturn s (q .j_neg) (q .j_pos) (q .dt) (q .temp) (length a)) 0;
@@ -81,9 +82,9 @@ electrolyteSteps = record {
   next = λ e q. E.stepped e (q .j_neg) (q .j_pos) (q .dt) (q .temp) .state;
 }
 
-abbrev pub dfnSteps : Calls 9008 I.cellAt DfnCall
+abbrev pub dfnSteps : Calls dfnBytes I.cellAt DfnCall
 dfnSteps = record {
-  formed = λ q a. eqb (length a) 9072;
+  formed = λ q a. eqb (length a) dfnStepBytes;
   returned = λ s q a. B.dfnReturn s (current q) (q .dt) (length a);
   left = λ s q a. B.dfnAfter s (current q) (q .dt) a;
   handed = λ s q a. eqb (B.dfnReturn s (current q) (q .dt) (length a)) 0;
@@ -100,9 +101,9 @@ positive : (k : ℕ) → (k ≡ 0 → ⊥) → 0 < k
 positive zero n = absurd (n refl)
 positive (suc k) n = zero-lt-suc k
 
-particle-returned : (s : List ℕ) (q : PD.Call) (a : List ℕ) → length s ≡ 600 → particleSteps .returned s q a ≡ B.afterLengths (eqb (length a) 600) (PD.answer (particleIn s) q .refusal)
+particle-returned : (s : List ℕ) (q : PD.Call) (a : List ℕ) → length s ≡ particleBytes → particleSteps .returned s q a ≡ B.afterLengths (eqb (length a) particleBytes) (PD.answer (particleIn s) q .refusal)
 unfolding B.particleReturn CS.particleReturn
-particle-returned s q a l = rw (eq-eqb (length s) 600 l)
+particle-returned s q a l = rw (eq-eqb (length s) particleBytes l)
 
 pub particle-steps-implement : Implements particleSteps
 particle-steps-implement =
@@ -111,16 +112,16 @@ particle-steps-implement =
       returned-is = particle-returned;
       handed-is = λ s q a. refl;
       accepted-reads = λ s q a h.
-          ap particleIn (whole 600 (particleSteps .left s q a) (particle-step-length s (q .flux) (q .dt) (q .temp) a h)) ∙ particle-step-read-back s (q .flux) (q .dt) (q .temp) a h;
+          ap particleIn (whole particleBytes (particleSteps .left s q a) (particle-step-length s (q .flux) (q .dt) (q .temp) a h)) ∙ particle-step-read-back s (q .flux) (q .dt) (q .temp) a h;
       accepted-fills = λ s q a h.
           let l = particle-step-length s (q .flux) (q .dt) (q .temp) a h in
-          ap length (whole 600 (particleSteps .left s q a) l) ∙ l;
+          ap length (whole particleBytes (particleSteps .left s q a) l) ∙ l;
       refused-keeps = λ p q n. PC.step-refused p (q .flux) (q .dt) (q .temp) n;
     })
 
-cell-returned : (s : List ℕ) (q : SD.Call) (a : List ℕ) → length s ≡ 1256 → cellSteps .returned s q a ≡ B.afterLengths (eqb (length a) 1328) (SD.answer (cellAt s) q .refusal)
+cell-returned : (s : List ℕ) (q : SD.Call) (a : List ℕ) → length s ≡ cellBytes → cellSteps .returned s q a ≡ B.afterLengths (eqb (length a) cellStepBytes) (SD.answer (cellAt s) q .refusal)
 unfolding B.cellReturn CS.cellReturn
-cell-returned s q a l = rw (eq-eqb (length s) 1256 l)
+cell-returned s q a l = rw (eq-eqb (length s) cellBytes l)
 
 pub cell-steps-implement : Implements cellSteps
 cell-steps-implement =
@@ -129,14 +130,14 @@ cell-steps-implement =
       returned-is = cell-returned;
       handed-is = λ s q a. refl;
       accepted-reads = λ s q a h. cell-step-read-back s (q .current) (q .dt) (q .temp) a h;
-      accepted-fills = λ s q a h. length-take-le 1256 (cellSteps .left s q a) (rw (cell-step-length s (q .current) (q .dt) (q .temp) a h) (lit≤ tt));
+      accepted-fills = λ s q a h. length-take-le cellBytes (cellSteps .left s q a) (rw (cell-step-length s (q .current) (q .dt) (q .temp) a h) (lit≤ tt));
       refused-keeps = λ c q n. SC.step-refused c (q .current) (q .dt) (q .temp) n .0;
     })
 
-electrolyte-returned : (s : List ℕ) (q : ElectrolyteCall) (a : List ℕ) → length s ≡ 896
-    → electrolyteSteps .returned s q a ≡ B.afterLengths (eqb (length a) 896) (electrolyteSteps .refusal (electrolyteAt s) q)
+electrolyte-returned : (s : List ℕ) (q : ElectrolyteCall) (a : List ℕ) → length s ≡ electrolyteBytes
+    → electrolyteSteps .returned s q a ≡ B.afterLengths (eqb (length a) electrolyteBytes) (electrolyteSteps .refusal (electrolyteAt s) q)
 unfolding B.electrolyteReturn PS.electrolyteReturn
-electrolyte-returned s q a l = rw (eq-eqb (length s) 896 l)
+electrolyte-returned s q a l = rw (eq-eqb (length s) electrolyteBytes l)
 
 pub electrolyte-steps-implement : Implements electrolyteSteps
 electrolyte-steps-implement =
@@ -145,17 +146,17 @@ electrolyte-steps-implement =
       returned-is = electrolyte-returned;
       handed-is = λ s q a. refl;
       accepted-reads = λ s q a h.
-          ap electrolyteAt (whole 896 (electrolyteSteps .left s q a) (electrolyte-step-length s (q .j_neg) (q .j_pos) (q .dt) (q .temp) a h))
+          ap electrolyteAt (whole electrolyteBytes (electrolyteSteps .left s q a) (electrolyte-step-length s (q .j_neg) (q .j_pos) (q .dt) (q .temp) a h))
           ∙ electrolyte-step-read-back s (q .j_neg) (q .j_pos) (q .dt) (q .temp) a h;
       accepted-fills = λ s q a h.
           let l = electrolyte-step-length s (q .j_neg) (q .j_pos) (q .dt) (q .temp) a h in
-          ap length (whole 896 (electrolyteSteps .left s q a) l) ∙ l;
+          ap length (whole electrolyteBytes (electrolyteSteps .left s q a) l) ∙ l;
       refused-keeps = λ e q n. step-kept e (q .j_neg) (q .j_pos) (q .dt) (q .temp) (positive _ n);
     })
 
-dfn-returned : (s : List ℕ) (q : DfnCall) (a : List ℕ) → length s ≡ 9008 → dfnSteps .returned s q a ≡ B.afterLengths (eqb (length a) 9072) (dfnSteps .refusal (I.cellAt s) q)
+dfn-returned : (s : List ℕ) (q : DfnCall) (a : List ℕ) → length s ≡ dfnBytes → dfnSteps .returned s q a ≡ B.afterLengths (eqb (length a) dfnStepBytes) (dfnSteps .refusal (I.cellAt s) q)
 unfolding B.dfnReturn PS.dfnReturn
-dfn-returned s q a l = rw (eq-eqb (length s) 9008 l)
+dfn-returned s q a l = rw (eq-eqb (length s) dfnBytes l)
 
 pub dfn-steps-implement : Implements dfnSteps
 dfn-steps-implement =
@@ -164,7 +165,7 @@ dfn-steps-implement =
       returned-is = dfn-returned;
       handed-is = λ s q a. refl;
       accepted-reads = λ s q a h. dfn-step-read-back s (q .bits) (q .dt) a h;
-      accepted-fills = λ s q a h. length-take-le 9008 (dfnSteps .left s q a) (rw (dfn-step-length s (q .bits) (q .dt) a h) (lit≤ tt));
+      accepted-fills = λ s q a h. length-take-le dfnBytes (dfnSteps .left s q a) (rw (dfn-step-length s (q .bits) (q .dt) a h) (lit≤ tt));
       refused-keeps = λ d q n. dfn-step-refused d (current q) (q .dt) n;
     })
 
@@ -181,11 +182,11 @@ particle-accepted p (q ∷ qs) r = rw (particle-accepted p qs (PD.answer r q .pa
 
 pub record ParticleSimulates (s : List ℕ) (qs : List (CCall PD.Call)) : Type 0 where
   pub particle : particleIn (imageAfter particleSteps s qs) ≡ DF.after (PD.steps (particleIn s)) (particleIn s) (wellFormed particleSteps qs)
-  pub size : length (imageAfter particleSteps s qs) ≡ 600
+  pub size : length (imageAfter particleSteps s qs) ≡ particleBytes
   pub calls : acceptedCalls particleSteps s qs ≡ PD.taken (particleIn s) (wellFormed particleSteps qs)
 
 -- THE PARTICLE OF THE LAST IMAGE is the particle after the same steps
-pub particle-simulates : (qs : List (CCall PD.Call)) (s : List ℕ) → length s ≡ 600 → ParticleSimulates s qs
+pub particle-simulates : (qs : List (CCall PD.Call)) (s : List ℕ) → length s ≡ particleBytes → ParticleSimulates s qs
 particle-simulates qs s l =
     let f = simulates particleSteps particle-steps-implement qs s l in
     let p = particleIn s in
@@ -212,16 +213,16 @@ cell-total (q ∷ qs) c = rw (cell-total qs (SD.answer c q .solver))
 
 -- the sub-steps that the answers report, in word 165
 abbrev pub reportedSubSteps : List ℕ → List (CCall SD.Call) → ℕ
-reportedSubSteps s qs = reported cellSteps (λ a. wordAt a 165) s qs
+reportedSubSteps s qs = reported cellSteps (λ a. wordAt a cellSubSteps) s qs
 
 pub record CellSimulates (s : List ℕ) (qs : List (CCall SD.Call)) : Type 0 where
   pub cell : cellAt (imageAfter cellSteps s qs) ≡ SD.cellAfter (cellAt s) (wellFormed cellSteps qs)
-  pub size : length (imageAfter cellSteps s qs) ≡ 1256
+  pub size : length (imageAfter cellSteps s qs) ≡ cellBytes
   pub calls : acceptedCalls cellSteps s qs ≡ SD.taken (cellAt s) (wellFormed cellSteps qs)
   pub count : reportedSubSteps s qs ≡ SD.K (cellAt s) (wellFormed cellSteps qs)
 
 -- THE CELL OF THE LAST IMAGE is the cell after the same steps, and the answers report its sub-steps
-pub cell-simulates : (qs : List (CCall SD.Call)) (s : List ℕ) → length s ≡ 1256 → CellSimulates s qs
+pub cell-simulates : (qs : List (CCall SD.Call)) (s : List ℕ) → length s ≡ cellBytes → CellSimulates s qs
 cell-simulates qs s l =
     let f = simulates cellSteps cell-steps-implement qs s l in
     let w = wellFormed cellSteps qs in
@@ -230,22 +231,22 @@ cell-simulates qs s l =
       size = f .fills;
       calls = f .calls ∙ cell-accepted w (cellAt s);
       count =
-          reported-is cellSteps cell-steps-implement (λ a. wordAt a 165) subSteps (λ s q a h. sub-steps-read-back s (q .current) (q .dt) (q .temp) a h)
+          reported-is cellSteps cell-steps-implement (λ a. wordAt a cellSubSteps) subSteps (λ s q a h. sub-steps-read-back s (q .current) (q .dt) (q .temp) a h)
           (λ c q n. SC.step-refused c (q .current) (q .dt) (q .temp) n .1) qs s l
           ∙ cell-total w (cellAt s);
     }
 
 -- ---- on an image of another length every call is refused, and the image stays
-particle-refused : (s : List ℕ) (q : PD.Call) (a : List ℕ) → eqb (length s) 600 ≡ false → particleSteps .handed s q a ≡ false
+particle-refused : (s : List ℕ) (q : PD.Call) (a : List ℕ) → eqb (length s) particleBytes ≡ false → particleSteps .handed s q a ≡ false
 unfolding B.particleReturn B.afterLengths
 particle-refused s q a n = rw n
 
-pub particle-image-stays : (qs : List (CCall PD.Call)) (s : List ℕ) → eqb (length s) 600 ≡ false → imageAfter particleSteps s qs ≡ s
+pub particle-image-stays : (qs : List (CCall PD.Call)) (s : List ℕ) → eqb (length s) particleBytes ≡ false → imageAfter particleSteps s qs ≡ s
 particle-image-stays = image-stays particleSteps particle-refused
 
-cell-refused : (s : List ℕ) (q : SD.Call) (a : List ℕ) → eqb (length s) 1256 ≡ false → cellSteps .handed s q a ≡ false
+cell-refused : (s : List ℕ) (q : SD.Call) (a : List ℕ) → eqb (length s) cellBytes ≡ false → cellSteps .handed s q a ≡ false
 unfolding B.cellReturn B.afterLengths
 cell-refused s q a n = rw n
 
-pub cell-image-stays : (qs : List (CCall SD.Call)) (s : List ℕ) → eqb (length s) 1256 ≡ false → imageAfter cellSteps s qs ≡ s
+pub cell-image-stays : (qs : List (CCall SD.Call)) (s : List ℕ) → eqb (length s) cellBytes ≡ false → imageAfter cellSteps s qs ≡ s
 cell-image-stays = image-stays cellSteps cell-refused

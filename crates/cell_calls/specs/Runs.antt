@@ -8,6 +8,7 @@ use Rattle.runs.specs.RunAnswers.{writesAnswer}
 use Rattle.discharge_run.specs.Discharge as S
 use Rattle.cell_images.specs.Images.{cellAt, putCell}
 use Rattle.image_rows.specs.Written.{putEnding}
+use Rattle.image_layout.specs.Layout.{cellEnding}
 
 abbrev discharge : List ℕ → Float → Float → Float → Float → ℕ → S.RunOutcome
 discharge s i dt t limit places = S.discharged (S.runSettings i dt t limit) (cellAt s) places
@@ -24,7 +25,7 @@ dischargeAfter s i dt t limit places a =
     (writesAnswer (discharge s i dt t limit places .ended .refusal) (discharge s i dt t limit places .rows))
     (putEnding
     (putCell a (discharge s i dt t limit places .solver))
-    157
+    cellEnding
     (discharge s i dt t limit places .ended .ending)
     (discharge s i dt t limit places .rows))
     a

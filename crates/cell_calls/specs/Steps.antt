@@ -13,6 +13,7 @@ use Rattle.solver.specs.declared.SpmStepAnswer.{SpmStepAnswer}
 use Rattle.solver.specs.Step as S
 use Rattle.cell_images.specs.Images.{cellAt, putCell, putReport}
 use Rattle.sheet_images.specs.Images.{particleAt, putParticle, putConfig}
+use Rattle.image_layout.specs.Layout.{cellAnode, cellCathode, cellClock}
 
 -- ---- a particle
 
@@ -44,8 +45,8 @@ abbrev pub putStepped : List ℕ → SpmParts → List Float → List Float → 
 putStepped a q neg pos time state subSteps =
     putReport
     (putFloat
-    (putParticle (putParticle (putConfig a (q .config)) 6 (particleOf (q .neg) (q .«n_neg») neg)) 81 (particleOf (q .pos) (q .«n_pos») pos))
-    156
+    (putParticle (putParticle (putConfig a (q .config)) cellAnode (particleOf (q .neg) (q .«n_neg») neg)) cellCathode (particleOf (q .pos) (q .«n_pos») pos))
+    cellClock
     time)
     state
     subSteps

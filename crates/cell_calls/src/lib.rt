@@ -1,5 +1,11 @@
 // Steps and runs of a particle and of a single-particle cell on their images: each writes its answer's image and returns 0
 // or the number of a refusal.
+use image_layout::CELL_ANODE;
+use image_layout::CELL_ANODE_PROFILE;
+use image_layout::CELL_CATHODE;
+use image_layout::CELL_CATHODE_PROFILE;
+use image_layout::CELL_CLOCK;
+use image_layout::CELL_ENDING;
 use image_rows::fill_64;
 use image_rows::put_ending;
 use sheet_images::put_config;
@@ -38,9 +44,9 @@ fn put_stepped<'a>(
     ensures { λ _. ⌜ now (answer .exit) ≡ putStepped (now (answer .entry)) q (now («c_neg» .entry)) (now («c_pos» .entry)) «time_s» state «sub_steps» ⌝ }
 {
     put_config(answer, q.config);
-    put_parts(answer, 6, q.neg, q.n_neg, c_neg);
-    put_parts(answer, 81, q.pos, q.n_pos, c_pos);
-    codec::write_f64(answer, 156, time_s);
+    put_parts(answer, CELL_ANODE, q.neg, q.n_neg, c_neg);
+    put_parts(answer, CELL_CATHODE, q.pos, q.n_pos, c_pos);
+    codec::write_f64(answer, CELL_CLOCK, time_s);
     cell_images::put_report(answer, state, sub_steps);
 }
 
@@ -51,9 +57,9 @@ pub fn cell_step(cell: &[u8], current_a: f64, dt: f64, temp_k: f64, answer: &mut
 {
     let q = cell_images::parts_at(cell);
     let mut c_neg = [0.0; 64];
-    fill_64(cell, 17, &mut c_neg);
+    fill_64(cell, CELL_ANODE_PROFILE, &mut c_neg);
     let mut c_pos = [0.0; 64];
-    fill_64(cell, 92, &mut c_pos);
+    fill_64(cell, CELL_CATHODE_PROFILE, &mut c_pos);
     let out = solver::step_in_place(q, &mut c_neg, &mut c_pos, current_a, dt, temp_k);
     let refusal = out.refusal;
     if refusal == 0 {
@@ -99,7 +105,7 @@ pub fn simulate_discharge(
     if (refusal == 0) | (made != 0) {
         let after = run.solver;
         cell_images::put_cell(answer, after);
-        put_ending(answer, 157, runs::ending_number(ending), made);
+        put_ending(answer, CELL_ENDING, runs::ending_number(ending), made);
     }
     refusal
 }

@@ -8,20 +8,21 @@ use Rattle.codec.specs.Words.{putWord, floatAt, putFloat, putRow, putPlaces}
 use Rattle.sheet_images.specs.Images.{particleAt, putParticle, configAt, putConfig}
 use Rattle.solver.specs.declared.SpmSolver.{SpmSolver}
 use Rattle.solver_report.specs.declared.SpmState.{SpmState}
+use Rattle.image_layout.specs.Layout.{cellAnode, cellCathode, cellClock, cellReport, cellCutoff, cellSubSteps}
 
 -- ---- a cell: configuration, anode, cathode, clock
 
 unfoldable pub cellAt : List ℕ → SpmSolver
 cellAt s = record {
   config = configAt s;
-  anode = particleAt s 6;
-  cathode = particleAt s 81;
-  «time_s» = floatAt s 156;
+  anode = particleAt s cellAnode;
+  cathode = particleAt s cellCathode;
+  «time_s» = floatAt s cellClock;
 }
 
 unfoldable pub putCell : List ℕ → SpmSolver → List ℕ
 putCell s cell =
-    putFloat (putParticle (putParticle (putConfig s (cell .config)) 6 (cell .anode)) 81 (cell .cathode)) 156 (cell .«time_s»)
+    putFloat (putParticle (putParticle (putConfig s (cell .config)) cellAnode (cell .anode)) cellCathode (cell .cathode)) cellClock (cell .«time_s»)
 
 -- ---- after the cell: the report of a step with its count of sub-steps
 
@@ -30,4 +31,4 @@ stateNumbers r =
     r .voltage ∷ r .current ∷ r .«theta_neg» ∷ r .«theta_pos» ∷ r .«theta_neg_avg» ∷ r .«theta_pos_avg» ∷ r .«time_s» ∷ []
 
 unfoldable pub putReport : List ℕ → SpmState → ℕ → List ℕ
-putReport s r subSteps = putWord (putWord (putRow s 157 (stateNumbers r)) 164 (cond (r .cutoff) 1 0)) 165 subSteps
+putReport s r subSteps = putWord (putWord (putRow s cellReport (stateNumbers r)) cellCutoff (cond (r .cutoff) 1 0)) cellSubSteps subSteps

@@ -8,6 +8,7 @@ use Rattle.runs.specs.RunAnswers.{writesAnswer}
 use Rattle.galvanostatic_run.specs.Galvanostatic as D
 use Rattle.image_rows.specs.Written.{putEnding}
 use Rattle.dfn_images.specs.Images.{cellAt, putCell}
+use Rattle.image_layout.specs.Layout.{dfnEnding}
 
 abbrev galvanostatic : List ℕ → Float → Float → Float → ℕ → D.RunOutcome
 galvanostatic s i dt limit places = D.galvanostatic (cellAt s) i dt limit places
@@ -24,7 +25,7 @@ galvanostaticAfter s i dt limit places a =
     (writesAnswer (galvanostatic s i dt limit places .ended .refusal) (galvanostatic s i dt limit places .rows))
     (putEnding
     (putCell a (galvanostatic s i dt limit places .cell))
-    1126
+    dfnEnding
     (galvanostatic s i dt limit places .ended .ending)
     (galvanostatic s i dt limit places .rows))
     a

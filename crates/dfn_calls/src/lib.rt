@@ -1,13 +1,18 @@
 // Steps of an electrolyte, steps and runs of a Doyle-Fuller-Newman cell on their images: each writes its answer's image and
 // returns 0 or the number of a refusal.
 use dfn::DfnStep;
+use dfn_images::put_last;
+use dfn_images::put_places;
 use dfn_parameters::DfnConfig;
 use dfn_parameters::DfnParams;
+use image_layout::DFN_ANODE;
+use image_layout::DFN_CATHODE;
+use image_layout::DFN_CLOCK;
+use image_layout::DFN_ELECTROLYTE;
+use image_layout::DFN_ENDING;
 use image_rows::fill_33;
 use image_rows::fill_512;
 use image_rows::put_ending;
-use dfn_images::put_last;
-use dfn_images::put_places;
 ghost use mathlib.Core.Path.{_≡_};
 ghost use lib.ListN.{length};
 ghost use Rattle.dfn_calls.specs.Steps.{electrolyteReturn, electrolyteAfter, putStepped, dfnReturn, dfnAfter};
@@ -70,13 +75,13 @@ pub fn dfn_step(cell: &[u8], current_a: f64, dt_s: f64, answer: &mut [u8]) -> u6
 {
     let p = parameter_images::params_at(cell);
     let g = parameter_images::config_at(cell);
-    let t = codec::read_f64(cell, 1121);
+    let t = codec::read_f64(cell, DFN_CLOCK);
     let mut neg = [0.0; 512];
-    fill_512(cell, 64, &mut neg);
+    fill_512(cell, DFN_ANODE, &mut neg);
     let mut pos = [0.0; 512];
-    fill_512(cell, 576, &mut pos);
+    fill_512(cell, DFN_CATHODE, &mut pos);
     let mut c_e = [0.0; 33];
-    fill_33(cell, 1088, &mut c_e);
+    fill_33(cell, DFN_ELECTROLYTE, &mut c_e);
     let out = dfn::step_in_place(p, g, t, &mut neg, &mut pos, &mut c_e, current_a, dt_s);
     let refusal = out.refusal;
     if refusal == 0 {
@@ -112,7 +117,7 @@ pub fn run_galvanostatic(
     if (refusal == 0) | (made != 0) {
         let after = run.cell;
         dfn_images::put_cell(answer, after);
-        put_ending(answer, 1126, runs::ending_number(ending), made);
+        put_ending(answer, DFN_ENDING, runs::ending_number(ending), made);
     }
     refusal
 }

@@ -10,6 +10,7 @@ use Rattle.dfn_parameters.specs.declared.DfnConfig.{DfnConfig}
 use Rattle.dfn.specs.declared.DfnSolver.{DfnSolver}
 use Rattle.dfn.specs.declared.DfnStep.{DfnStep}
 use Rattle.parameter_images.specs.Images.{paramsAt, putParams, configAt, putConfig}
+use Rattle.image_layout.specs.Layout.{dfnAnode, dfnCathode, dfnElectrolyte, dfnClock, dfnVoltage, dfnCurrent, dfnThetaNeg, dfnThetaPos, dfnReport, dfnCutoff, dfnNewton}
 
 -- ---- the cell: parameters, grid, the particles of anode and cathode, the electrolyte, the clock, what the last step reported
 
@@ -17,23 +18,23 @@ unfoldable pub cellAt : List ℕ → DfnSolver
 cellAt s = record {
   params = paramsAt s;
   config = configAt s;
-  «c_s_neg» = placesAt 512 s 64;
-  «c_s_pos» = placesAt 512 s 576;
-  «c_e» = placesAt 33 s 1088;
-  «time_s» = floatAt s 1121;
-  voltage = floatAt s 1122;
-  current = floatAt s 1123;
-  «theta_neg_surf» = floatAt s 1124;
-  «theta_pos_surf» = floatAt s 1125;
+  «c_s_neg» = placesAt 512 s dfnAnode;
+  «c_s_pos» = placesAt 512 s dfnCathode;
+  «c_e» = placesAt 33 s dfnElectrolyte;
+  «time_s» = floatAt s dfnClock;
+  voltage = floatAt s dfnVoltage;
+  current = floatAt s dfnCurrent;
+  «theta_neg_surf» = floatAt s dfnThetaNeg;
+  «theta_pos_surf» = floatAt s dfnThetaPos;
 }
 
 -- parameters, configuration, both electrodes, the electrolyte
 abbrev pub putCellPlaces : List ℕ → DfnParams → DfnConfig → List Float → List Float → List Float → List ℕ
-putCellPlaces s p g neg pos e = putRow (putRow (putRow (putConfig (putParams s p) g) 64 neg) 576 pos) 1088 e
+putCellPlaces s p g neg pos e = putRow (putRow (putRow (putConfig (putParams s p) g) dfnAnode neg) dfnCathode pos) dfnElectrolyte e
 
 -- clock, voltage, current, stoichiometries of the surfaces
 abbrev pub putLast : List ℕ → Float → Float → Float → Float → Float → List ℕ
-putLast s time v i neg pos = putRow s 1121 (time ∷ v ∷ i ∷ neg ∷ pos ∷ [])
+putLast s time v i neg pos = putRow s dfnClock (time ∷ v ∷ i ∷ neg ∷ pos ∷ [])
 
 unfoldable pub putCell : List ℕ → DfnSolver → List ℕ
 putCell s d =
@@ -46,4 +47,4 @@ abbrev pub reportNumbers : DfnStep → List Float
 reportNumbers r = r .voltage ∷ r .current ∷ r .«time_s» ∷ r .«theta_neg» ∷ r .«theta_pos» ∷ r .«delta_c_e_max» ∷ []
 
 unfoldable pub putReport : List ℕ → DfnStep → List ℕ
-putReport s r = putWord (putWord (putRow s 1126 (reportNumbers r)) 1132 (cond (r .cutoff) 1 0)) 1133 (r .«newton_iter»)
+putReport s r = putWord (putWord (putRow s dfnReport (reportNumbers r)) dfnCutoff (cond (r .cutoff) 1 0)) dfnNewton (r .«newton_iter»)

@@ -5,6 +5,17 @@ use dfn::DfnSolver;
 use dfn::DfnStep;
 use dfn_parameters::DfnConfig;
 use dfn_parameters::DfnParams;
+use image_layout::DFN_ANODE;
+use image_layout::DFN_CATHODE;
+use image_layout::DFN_CLOCK;
+use image_layout::DFN_CURRENT;
+use image_layout::DFN_CUTOFF;
+use image_layout::DFN_ELECTROLYTE;
+use image_layout::DFN_NEWTON;
+use image_layout::DFN_REPORT;
+use image_layout::DFN_THETA_NEG;
+use image_layout::DFN_THETA_POS;
+use image_layout::DFN_VOLTAGE;
 use image_rows::fill_33;
 use image_rows::fill_512;
 use image_rows::write_places;
@@ -27,15 +38,15 @@ pub fn cell_at(s: &[u8]) -> DfnSolver
         c_s_neg: [0.0; 512],
         c_s_pos: [0.0; 512],
         c_e: [0.0; 33],
-        time_s: codec::read_f64(s, 1121),
-        voltage: codec::read_f64(s, 1122),
-        current: codec::read_f64(s, 1123),
-        theta_neg_surf: codec::read_f64(s, 1124),
-        theta_pos_surf: codec::read_f64(s, 1125),
+        time_s: codec::read_f64(s, DFN_CLOCK),
+        voltage: codec::read_f64(s, DFN_VOLTAGE),
+        current: codec::read_f64(s, DFN_CURRENT),
+        theta_neg_surf: codec::read_f64(s, DFN_THETA_NEG),
+        theta_pos_surf: codec::read_f64(s, DFN_THETA_POS),
     };
-    fill_512(s, 64, &mut cell.c_s_neg);
-    fill_512(s, 576, &mut cell.c_s_pos);
-    fill_33(s, 1088, &mut cell.c_e);
+    fill_512(s, DFN_ANODE, &mut cell.c_s_neg);
+    fill_512(s, DFN_CATHODE, &mut cell.c_s_pos);
+    fill_33(s, DFN_ELECTROLYTE, &mut cell.c_e);
     cell
 }
 
@@ -52,9 +63,9 @@ pub fn put_places<'a>(
 {
     put_params(s, p);
     put_config(s, g);
-    write_places(s, 64, neg);
-    write_places(s, 576, pos);
-    write_places(s, 1088, c_e);
+    write_places(s, DFN_ANODE, neg);
+    write_places(s, DFN_CATHODE, pos);
+    write_places(s, DFN_ELECTROLYTE, c_e);
 }
 
 // Writes a cell's last five words: clock, voltage, current, stoichiometries of the surfaces.
@@ -69,7 +80,7 @@ pub fn put_last(
     ensures { λ _. ⌜ now (s .exit) ≡ putLast (now (s .entry)) «time_s» voltage current «theta_neg» «theta_pos» ⌝ }
 {
     let x = [time_s, voltage, current, theta_neg, theta_pos];
-    write_places(s, 1121, &x);
+    write_places(s, DFN_CLOCK, &x);
 }
 
 pub fn put_cell(s: &mut [u8], d: DfnSolver)
@@ -98,7 +109,7 @@ pub fn put_report(s: &mut [u8], r: DfnStep)
         r.theta_pos,
         r.delta_c_e_max,
     ];
-    write_places(s, 1126, &x);
-    write_word(s, 1132, flag(r.cutoff));
-    write_word(s, 1133, r.newton_iter as u64);
+    write_places(s, DFN_REPORT, &x);
+    write_word(s, DFN_CUTOFF, flag(r.cutoff));
+    write_word(s, DFN_NEWTON, r.newton_iter as u64);
 }

@@ -167,19 +167,19 @@ fn run_rows(w: RunSettings, first: RunState, out: &mut [f64], total: usize) -> D
     ensures rows { λ r. ⌜ now (out .exit) ≡ allRows w first total (now (out .entry)) ⌝ }
 {
     let mut run = first;
-    if run.over != 0 {
+    if run.over != GOING {
         return finished(run);
     }
     let mut i = 0;
     while i < total {
         run = turn(w, run);
-        if run.over == 4 {
+        if run.over == REFUSED {
             return finished(run);
         }
         let state = run.state;
         put_row(out, i * 8, row_of(state));
         i += 1;
-        if run.over != 0 {
+        if run.over != GOING {
             return finished(run);
         }
     }

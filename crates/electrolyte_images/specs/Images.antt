@@ -6,6 +6,7 @@ use lib.Ieee.{Float}
 use Rattle.codec.specs.Words.{wordAt, putWord, floatAt, placesAt, putRow, putPlaces}
 use Rattle.electrolyte_parameters.specs.declared.ElectrolyteParams.{ElectrolyteParams}
 use Rattle.electrolyte.specs.declared.ElectrolyteState.{ElectrolyteState}
+use Rattle.image_layout.specs.Layout.{electrolyteRegions, electrolyteNodesNeg, electrolyteNodesSep, electrolyteNodesPos, electrolyteProfile}
 
 -- ---- the electrolyte's seven parameters
 
@@ -29,24 +30,24 @@ putElectrolyteParams s p =
 unfoldable pub electrolyteAt : List ℕ → ElectrolyteState
 electrolyteAt s = record {
   params = electrolyteParamsAt s;
-  «l_neg» = floatAt s 7;
+  «l_neg» = floatAt s electrolyteRegions;
   «l_sep» = floatAt s 8;
   «l_pos» = floatAt s 9;
   «eps_neg» = floatAt s 10;
   «eps_sep» = floatAt s 11;
   «eps_pos» = floatAt s 12;
-  «n_neg» = wordAt s 13;
-  «n_sep» = wordAt s 14;
-  «n_pos» = wordAt s 15;
-  «c_e» = placesAt 96 s 16;
+  «n_neg» = wordAt s electrolyteNodesNeg;
+  «n_sep» = wordAt s electrolyteNodesSep;
+  «n_pos» = wordAt s electrolyteNodesPos;
+  «c_e» = placesAt 96 s electrolyteProfile;
 }
 
 abbrev pub regionNumbers : ElectrolyteState → List Float
 regionNumbers e = e .«l_neg» ∷ e .«l_sep» ∷ e .«l_pos» ∷ e .«eps_neg» ∷ e .«eps_sep» ∷ e .«eps_pos» ∷ []
 
 unfoldable pub putRegions : List ℕ → List Float → ℕ → ℕ → ℕ → List ℕ
-putRegions s x nNeg nSep nPos = putWord (putWord (putWord (putRow s 7 x) 13 nNeg) 14 nSep) 15 nPos
+putRegions s x nNeg nSep nPos = putWord (putWord (putWord (putRow s electrolyteRegions x) electrolyteNodesNeg nNeg) electrolyteNodesSep nSep) electrolyteNodesPos nPos
 
 unfoldable pub putElectrolyte : List ℕ → ElectrolyteState → List ℕ
 putElectrolyte s e =
-    putRow (putRegions (putElectrolyteParams s (e .params)) (regionNumbers e) (e .«n_neg») (e .«n_sep») (e .«n_pos»)) 16 (e .«c_e»)
+    putRow (putRegions (putElectrolyteParams s (e .params)) (regionNumbers e) (e .«n_neg») (e .«n_sep») (e .«n_pos»)) electrolyteProfile (e .«c_e»)

@@ -3,6 +3,11 @@ use codec::read_word;
 use codec::write_word;
 use electrolyte::ElectrolyteState;
 use electrolyte_parameters::ElectrolyteParams;
+use image_layout::ELECTROLYTE_NODES_NEG;
+use image_layout::ELECTROLYTE_NODES_POS;
+use image_layout::ELECTROLYTE_NODES_SEP;
+use image_layout::ELECTROLYTE_PROFILE;
+use image_layout::ELECTROLYTE_REGIONS;
 use image_rows::read_places;
 use image_rows::write_places;
 ghost use mathlib.Core.Path.{_≡_};
@@ -46,9 +51,9 @@ pub fn electrolyte_at(s: &[u8]) -> ElectrolyteState
 {
     let params = electrolyte_params_at(s);
     let mut x = [0.0; 6];
-    read_places(s, 7, &mut x);
+    read_places(s, ELECTROLYTE_REGIONS, &mut x);
     let mut c_e = [0.0; 96];
-    read_places(s, 16, &mut c_e);
+    read_places(s, ELECTROLYTE_PROFILE, &mut c_e);
     ElectrolyteState {
         params,
         l_neg: x[0],
@@ -57,9 +62,9 @@ pub fn electrolyte_at(s: &[u8]) -> ElectrolyteState
         eps_neg: x[3],
         eps_sep: x[4],
         eps_pos: x[5],
-        n_neg: read_word(s, 13) as usize,
-        n_sep: read_word(s, 14) as usize,
-        n_pos: read_word(s, 15) as usize,
+        n_neg: read_word(s, ELECTROLYTE_NODES_NEG) as usize,
+        n_sep: read_word(s, ELECTROLYTE_NODES_SEP) as usize,
+        n_pos: read_word(s, ELECTROLYTE_NODES_POS) as usize,
         c_e,
     }
 }
@@ -68,10 +73,10 @@ pub fn electrolyte_at(s: &[u8]) -> ElectrolyteState
 fn put_regions(s: &mut [u8], x: [f64; 6], n_neg: usize, n_sep: usize, n_pos: usize)
     ensures { λ _. ⌜ now (s .exit) ≡ putRegions (now (s .entry)) x «n_neg» «n_sep» «n_pos» ⌝ }
 {
-    write_places(s, 7, &x);
-    write_word(s, 13, n_neg as u64);
-    write_word(s, 14, n_sep as u64);
-    write_word(s, 15, n_pos as u64);
+    write_places(s, ELECTROLYTE_REGIONS, &x);
+    write_word(s, ELECTROLYTE_NODES_NEG, n_neg as u64);
+    write_word(s, ELECTROLYTE_NODES_SEP, n_sep as u64);
+    write_word(s, ELECTROLYTE_NODES_POS, n_pos as u64);
 }
 
 pub fn put_electrolyte(s: &mut [u8], e: ElectrolyteState)
@@ -80,5 +85,5 @@ pub fn put_electrolyte(s: &mut [u8], e: ElectrolyteState)
     let x = [e.l_neg, e.l_sep, e.l_pos, e.eps_neg, e.eps_sep, e.eps_pos];
     put_electrolyte_params(s, e.params);
     put_regions(s, x, e.n_neg, e.n_sep, e.n_pos);
-    write_places(s, 16, &e.c_e);
+    write_places(s, ELECTROLYTE_PROFILE, &e.c_e);
 }

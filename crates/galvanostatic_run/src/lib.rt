@@ -137,13 +137,13 @@ fn run_rows(w: RunSettings, first: RunState, out: &mut [f64], total: usize) -> D
     let mut i = 0;
     while i < total {
         run = turn(w, run);
-        if run.over == 4 {
+        if run.over == REFUSED {
             return finished(run);
         }
         let row = run.row;
         put_row(out, i * 8, row);
         i += 1;
-        if run.over != 0 {
+        if run.over != GOING {
             return finished(run);
         }
     }

@@ -25,6 +25,7 @@ use Rattle.parameter_images.specs.Images.{paramsAt, putParams}
 use Rattle.parameter_images.specs.Images as G
 use Rattle.dfn_images.specs.Images as I
 use Rattle.image_rows.specs.Written.{written}
+use Rattle.image_layout.specs.Layout.{newCellAnode, electrolyteRegions, particleNodes, electrolyteNodesNeg, electrolyteNodesSep, electrolyteNodesPos, newCellCathode, configBytes, electrolyteParamsBytes, sheetBytes, newParticleBytes, regionsBytes, newCellBytes, dfnParamsBytes, newDfnBytes, particleBytes, electrolyteBytes, cellBytes, dfnBytes}
 
 -- ---- ready records: 1 graphite_anode, 2 lfp_cathode, 3 nmc_cathode, 4 lipf6_ec_dmc, 5 nmc_graphite, 6 lfp_graphite
 
@@ -42,19 +43,19 @@ readyPut call a =
 
 -- 7: a sheet, a count of nodes
 unfoldable pub particleMade : List ℕ → ParticleAnswer
-particleMade s = P.made (sheetAt s 0) (wordAt s 10)
+particleMade s = P.made (sheetAt s 0) (wordAt s particleNodes)
 
 -- 8 graphite_lfp, 9 graphite_nmc: a configuration; 10: a configuration and two sheets
 unfoldable pub cellBuilt : ℕ → List ℕ → SpmBuildAnswer
 cellBuilt call s =
     cond (eqb call 8) (S.ready (configAt s) lfpCathode)
-    (cond (eqb call 9) (S.ready (configAt s) nmcCathode) (S.built (configAt s) (sheetAt s 6) (sheetAt s 16)))
+    (cond (eqb call 9) (S.ready (configAt s) nmcCathode) (S.built (configAt s) (sheetAt s newCellAnode) (sheetAt s newCellCathode)))
 
 -- 11: an electrolyte's image without its places
 unfoldable pub electrolyteBuilt : List ℕ → ElectrolyteAnswer
 electrolyteBuilt s =
     E.built
-    (unfilled (electrolyteParamsAt s) (floatAt s 7) (floatAt s 8) (floatAt s 9) (floatAt s 10) (floatAt s 11) (floatAt s 12) (wordAt s 13) (wordAt s 14) (wordAt s 15))
+    (unfilled (electrolyteParamsAt s) (floatAt s electrolyteRegions) (floatAt s 8) (floatAt s 9) (floatAt s 10) (floatAt s 11) (floatAt s 12) (wordAt s electrolyteNodesNeg) (wordAt s electrolyteNodesSep) (wordAt s electrolyteNodesPos))
 
 -- 12: parameters and grid
 unfoldable pub dfnMade : List ℕ → DfnBuildAnswer
@@ -76,10 +77,10 @@ newAfter call s a =
 
 unfoldable pub buildLength : ℕ → ℕ
 buildLength call =
-    cond (leb call 6) 0 (cond (eqb call 7) 88 (cond (leb call 9) 48 (cond (eqb call 10) 208 (cond (eqb call 11) 128 512))))
+    cond (leb call 6) 0 (cond (eqb call 7) newParticleBytes (cond (leb call 9) configBytes (cond (eqb call 10) newCellBytes (cond (eqb call 11) regionsBytes newDfnBytes))))
 
 unfoldable pub builtLength : ℕ → ℕ
 builtLength call =
-    cond (leb call 3) 80
-    (cond (eqb call 4) 56
-    (cond (leb call 6) 472 (cond (eqb call 7) 600 (cond (leb call 10) 1256 (cond (eqb call 11) 896 9008)))))
+    cond (leb call 3) sheetBytes
+    (cond (eqb call 4) electrolyteParamsBytes
+    (cond (leb call 6) dfnParamsBytes (cond (eqb call 7) particleBytes (cond (leb call 10) cellBytes (cond (eqb call 11) electrolyteBytes dfnBytes)))))

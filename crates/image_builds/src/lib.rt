@@ -9,6 +9,21 @@ use electrolyte_images::electrolyte_at;
 use electrolyte_images::put_electrolyte;
 use electrolyte_images::put_electrolyte_params;
 use electrolyte_parameters::ElectrolyteParams;
+use image_layout::CELL_BYTES;
+use image_layout::CONFIG_BYTES;
+use image_layout::DFN_BYTES;
+use image_layout::DFN_PARAMS_BYTES;
+use image_layout::ELECTROLYTE_BYTES;
+use image_layout::ELECTROLYTE_PARAMS_BYTES;
+use image_layout::NEW_CELL_ANODE;
+use image_layout::NEW_CELL_BYTES;
+use image_layout::NEW_CELL_CATHODE;
+use image_layout::NEW_DFN_BYTES;
+use image_layout::NEW_PARTICLE_BYTES;
+use image_layout::PARTICLE_BYTES;
+use image_layout::PARTICLE_NODES;
+use image_layout::REGIONS_BYTES;
+use image_layout::SHEET_BYTES;
 use parameter_images::params_at;
 use parameter_images::put_params;
 use particle::ParticleDiffusion;
@@ -65,7 +80,7 @@ fn built_cell(call: u64, image: &[u8]) -> SpmBuildAnswer
     match call {
         8 => SpmSolver::graphite_lfp(config),
         9 => SpmSolver::graphite_nmc(config),
-        _ => SpmSolver::new(config, sheet_at(image, 6), sheet_at(image, 16)),
+        _ => SpmSolver::new(config, sheet_at(image, NEW_CELL_ANODE), sheet_at(image, NEW_CELL_CATHODE)),
     }
 }
 
@@ -92,7 +107,7 @@ fn new_particle(image: &[u8], answer: &mut [u8]) -> u64
     ensures number { λ r. ⌜ r ≡ particleMade (now (image .entry)) .refusal ⌝ }
     ensures written { λ _. ⌜ now (answer .exit) ≡ written (particleMade (now (image .entry)) .refusal) (putParticle (now (answer .entry)) 0 (particleMade (now (image .entry)) .particle)) (now (answer .entry)) ⌝ }
 {
-    let new = ParticleDiffusion::new(sheet_at(image, 0), read_word(image, 10) as usize);
+    let new = ParticleDiffusion::new(sheet_at(image, 0), read_word(image, PARTICLE_NODES) as usize);
     let refusal = new.refusal;
     if refusal == 0 {
         let made = new.particle;
@@ -165,15 +180,15 @@ pub fn build_length(call: u64) -> usize
     if call <= 6 {
         0
     } else if call == 7 {
-        88
+        NEW_PARTICLE_BYTES
     } else if call <= 9 {
-        48
+        CONFIG_BYTES
     } else if call == 10 {
-        208
+        NEW_CELL_BYTES
     } else if call == 11 {
-        128
+        REGIONS_BYTES
     } else {
-        512
+        NEW_DFN_BYTES
     }
 }
 
@@ -182,18 +197,18 @@ pub fn built_length(call: u64) -> usize
     ensures { λ r. ⌜ r ≡ builtLength call ⌝ }
 {
     if call <= 3 {
-        80
+        SHEET_BYTES
     } else if call == 4 {
-        56
+        ELECTROLYTE_PARAMS_BYTES
     } else if call <= 6 {
-        472
+        DFN_PARAMS_BYTES
     } else if call == 7 {
-        600
+        PARTICLE_BYTES
     } else if call <= 10 {
-        1256
+        CELL_BYTES
     } else if call == 11 {
-        896
+        ELECTROLYTE_BYTES
     } else {
-        9008
+        DFN_BYTES
     }
 }

@@ -27,67 +27,68 @@ use Rattle.image_laws.specs.ElectrolyteSteps.{electrolyte-answer}
 use Rattle.image_laws.specs.DfnSteps.{dfn-answer}
 use Rattle.image_laws.specs.DfnRuns.{dfn-run-answer}
 use Rattle.image_laws.specs.DfnBuilds.{electrolyte-built, dfn-built}
+use Rattle.image_layout.specs.Layout.{particleBytes, electrolyteBytes, cellBytes, cellRunBytes, cellStepBytes, dfnBytes, dfnRunBytes, dfnStepBytes}
 
 -- ---- steps
-pub particle-step-length : (s : List ℕ) (j dt t : Float) (a : List ℕ) → B.particleReturn s j dt t (length a) ≡ 0 → length (B.particleAfter s j dt t a) ≡ 600
+pub particle-step-length : (s : List ℕ) (j dt t : Float) (a : List ℕ) → B.particleReturn s j dt t (length a) ≡ 0 → length (B.particleAfter s j dt t a) ≡ particleBytes
 unfolding B.particleReturn B.particleAfter
 particle-step-length s j dt t a h =
-    let c = accepted s a 600 600 (CS.particleReturn s j dt t) (CS.particleAfter s j dt t a) h in
-    ap length (c .writes) ∙ particle-answer s j dt t a (c .refusal) (rw (c .answer) (le-refl 600)) .size ∙ c .answer
+    let c = accepted s a particleBytes particleBytes (CS.particleReturn s j dt t) (CS.particleAfter s j dt t a) h in
+    ap length (c .writes) ∙ particle-answer s j dt t a (c .refusal) (rw (c .answer) (le-refl particleBytes)) .size ∙ c .answer
 
-pub cell-step-length : (s : List ℕ) (i dt t : Float) (a : List ℕ) → B.cellReturn s i dt t (length a) ≡ 0 → length (B.cellAfter s i dt t a) ≡ 1328
+pub cell-step-length : (s : List ℕ) (i dt t : Float) (a : List ℕ) → B.cellReturn s i dt t (length a) ≡ 0 → length (B.cellAfter s i dt t a) ≡ cellStepBytes
 unfolding B.cellReturn B.cellAfter
 cell-step-length s i dt t a h =
-    let c = accepted s a 1256 1328 (CS.cellReturn s i dt t) (CS.cellAfter s i dt t a) h in
+    let c = accepted s a cellBytes cellStepBytes (CS.cellReturn s i dt t) (CS.cellAfter s i dt t a) h in
     ap length (c .writes) ∙ cell-answer s i dt t a (c .refusal) (c .answer) .size ∙ c .answer
 
 pub electrolyte-step-length : (s : List ℕ) (jNeg jPos dt t : Float) (a : List ℕ) → B.electrolyteReturn s jNeg jPos dt t (length a) ≡ 0
-    → length (B.electrolyteAfter s jNeg jPos dt t a) ≡ 896
+    → length (B.electrolyteAfter s jNeg jPos dt t a) ≡ electrolyteBytes
 unfolding B.electrolyteReturn B.electrolyteAfter
 electrolyte-step-length s jNeg jPos dt t a h =
-    let c = accepted s a 896 896 (PS.electrolyteReturn s jNeg jPos dt t) (PS.electrolyteAfter s jNeg jPos dt t a) h in
-    ap length (c .writes) ∙ electrolyte-answer s jNeg jPos dt t a (c .refusal) (rw (c .answer) (le-refl 896)) .size ∙ c .answer
+    let c = accepted s a electrolyteBytes electrolyteBytes (PS.electrolyteReturn s jNeg jPos dt t) (PS.electrolyteAfter s jNeg jPos dt t a) h in
+    ap length (c .writes) ∙ electrolyte-answer s jNeg jPos dt t a (c .refusal) (rw (c .answer) (le-refl electrolyteBytes)) .size ∙ c .answer
 
-pub dfn-step-length : (s : List ℕ) (bits : ℕ) (dt : Float) (a : List ℕ) → B.dfnReturn s (f64 bits) dt (length a) ≡ 0 → length (B.dfnAfter s (f64 bits) dt a) ≡ 9072
+pub dfn-step-length : (s : List ℕ) (bits : ℕ) (dt : Float) (a : List ℕ) → B.dfnReturn s (f64 bits) dt (length a) ≡ 0 → length (B.dfnAfter s (f64 bits) dt a) ≡ dfnStepBytes
 unfolding B.dfnReturn B.dfnAfter
 dfn-step-length s bits dt a h =
-    let c = accepted s a 9008 9072 (PS.dfnReturn s (f64 bits) dt) (PS.dfnAfter s (f64 bits) dt a) h in
+    let c = accepted s a dfnBytes dfnStepBytes (PS.dfnReturn s (f64 bits) dt) (PS.dfnAfter s (f64 bits) dt a) h in
     ap length (c .writes) ∙ dfn-answer s (f64 bits) dt a (literal bits) (c .refusal) (c .answer) .size ∙ c .answer
 
 -- ---- runs
-pub discharge-length : (s : List ℕ) (i dt t limit : Float) (places : ℕ) (a : List ℕ) → length s ≡ 1256 → length a ≡ 1272
+pub discharge-length : (s : List ℕ) (i dt t limit : Float) (places : ℕ) (a : List ℕ) → length s ≡ cellBytes → length a ≡ cellRunBytes
     → T (writesAnswer (DR.discharged (DR.runSettings i dt t limit) (cellAt s) places .ended .refusal) (DR.discharged (DR.runSettings i dt t limit) (cellAt s) places .rows))
-    → length (BR.dischargeAfter s i dt t limit places a) ≡ 1272
+    → length (BR.dischargeAfter s i dt t limit places a) ≡ cellRunBytes
 unfolding BR.dischargeAfter
-discharge-length s i dt t limit places a m n h = rw (eq-eqb (length s) 1256 m, eq-eqb (length a) 1272 n) (run-answer s i dt t limit places a n h .size ∙ n)
+discharge-length s i dt t limit places a m n h = rw (eq-eqb (length s) cellBytes m, eq-eqb (length a) cellRunBytes n) (run-answer s i dt t limit places a n h .size ∙ n)
 
-pub galvanostatic-length : (s : List ℕ) (bits : ℕ) (dt limit : Float) (places : ℕ) (a : List ℕ) → length s ≡ 9008 → length a ≡ 9024
+pub galvanostatic-length : (s : List ℕ) (bits : ℕ) (dt limit : Float) (places : ℕ) (a : List ℕ) → length s ≡ dfnBytes → length a ≡ dfnRunBytes
     → T (writesAnswer (GR.galvanostatic (I.cellAt s) (f64 bits) dt limit places .ended .refusal) (GR.galvanostatic (I.cellAt s) (f64 bits) dt limit places .rows))
-    → length (BR.galvanostaticAfter s (f64 bits) dt limit places a) ≡ 9024
+    → length (BR.galvanostaticAfter s (f64 bits) dt limit places a) ≡ dfnRunBytes
 unfolding BR.galvanostaticAfter
 galvanostatic-length s bits dt limit places a m n h =
-    rw (eq-eqb (length s) 9008 m, eq-eqb (length a) 9024 n) (dfn-run-answer s (f64 bits) dt limit places a n (literal bits) h .size ∙ n)
+    rw (eq-eqb (length s) dfnBytes m, eq-eqb (length a) dfnRunBytes n) (dfn-run-answer s (f64 bits) dt limit places a n (literal bits) h .size ∙ n)
 
 -- ---- builds
-pub particle-build-length : (s a : List ℕ) → B.buildReturn 7 s (length a) ≡ 0 → length (B.buildAfter 7 s a) ≡ 600
+pub particle-build-length : (s a : List ℕ) → B.buildReturn 7 s (length a) ≡ 0 → length (B.buildAfter 7 s a) ≡ particleBytes
 unfolding B.buildReturn B.buildAfter buildLength builtLength
 particle-build-length s a h =
-    let c = accepted s a 88 600 (newReturn 7 s) (newAfter 7 s a) h in
-    ap length (c .writes) ∙ particle-built s a (c .refusal) (rw (c .answer) (le-refl 600)) .size ∙ c .answer
+    let c = accepted s a 88 particleBytes (newReturn 7 s) (newAfter 7 s a) h in
+    ap length (c .writes) ∙ particle-built s a (c .refusal) (rw (c .answer) (le-refl particleBytes)) .size ∙ c .answer
 
-pub cell-build-length : (call : ℕ) (s a : List ℕ) → 8 ≤ call → call ≤ 10 → B.buildReturn call s (length a) ≡ 0 → length (B.buildAfter call s a) ≡ 1256
+pub cell-build-length : (call : ℕ) (s a : List ℕ) → 8 ≤ call → call ≤ 10 → B.buildReturn call s (length a) ≡ 0 → length (B.buildAfter call s a) ≡ cellBytes
 cell-build-length call s a m n h =
-    let c = accepted s a (buildLength call) 1256 (newReturn call s) (newAfter call s a) (sym (cell-build-return call s a m n) ∙ h) in
-    ap length (cell-build-after call s a m n ∙ c .writes) ∙ cell-built call s a m n (c .refusal) (rw (c .answer) (le-refl 1256)) .size ∙ c .answer
+    let c = accepted s a (buildLength call) cellBytes (newReturn call s) (newAfter call s a) (sym (cell-build-return call s a m n) ∙ h) in
+    ap length (cell-build-after call s a m n ∙ c .writes) ∙ cell-built call s a m n (c .refusal) (rw (c .answer) (le-refl cellBytes)) .size ∙ c .answer
 
-pub electrolyte-build-length : (s a : List ℕ) → B.buildReturn 11 s (length a) ≡ 0 → length (B.buildAfter 11 s a) ≡ 896
+pub electrolyte-build-length : (s a : List ℕ) → B.buildReturn 11 s (length a) ≡ 0 → length (B.buildAfter 11 s a) ≡ electrolyteBytes
 unfolding B.buildReturn B.buildAfter buildLength builtLength
 electrolyte-build-length s a h =
-    let c = accepted s a 128 896 (newReturn 11 s) (newAfter 11 s a) h in
-    ap length (c .writes) ∙ electrolyte-built s a (c .refusal) (rw (c .answer) (le-refl 896)) .size ∙ c .answer
+    let c = accepted s a 128 electrolyteBytes (newReturn 11 s) (newAfter 11 s a) h in
+    ap length (c .writes) ∙ electrolyte-built s a (c .refusal) (rw (c .answer) (le-refl electrolyteBytes)) .size ∙ c .answer
 
-pub dfn-build-length : (s a : List ℕ) → B.buildReturn 12 s (length a) ≡ 0 → length (B.buildAfter 12 s a) ≡ 9008
+pub dfn-build-length : (s a : List ℕ) → B.buildReturn 12 s (length a) ≡ 0 → length (B.buildAfter 12 s a) ≡ dfnBytes
 unfolding B.buildReturn B.buildAfter buildLength builtLength
 dfn-build-length s a h =
-    let c = accepted s a 512 9008 (newReturn 12 s) (newAfter 12 s a) h in
-    ap length (c .writes) ∙ dfn-built s a (c .refusal) (rw (c .answer) (le-refl 9008)) .size ∙ c .answer
+    let c = accepted s a 512 dfnBytes (newReturn 12 s) (newAfter 12 s a) h in
+    ap length (c .writes) ∙ dfn-built s a (c .refusal) (rw (c .answer) (le-refl dfnBytes)) .size ∙ c .answer

@@ -36,6 +36,7 @@ use Rattle.image_laws.specs.Encodable.{EncodableRow, allFit, closed-row,
 use Rattle.image_laws.specs.Layout.{Holds, holds-alone}
 use Rattle.image_laws.specs.CellImages.{EncodableSheet, EncodableParticle, configNumbers, EncodableCell, particleIn, particle-layout, cell-layout}
 use Rattle.image_laws.specs.CellEncodable.{sheetAt-row, sheet-encodable, configAt-row}
+use Rattle.image_layout.specs.Layout.{particleBytes, cellBytes}
 
 -- ---- a particle
 pub fresh-encodable : (p : ElectrodeParams) (n : ℕ) → EncodableSheet p → n ≤ 64 → EncodableParticle (P.fresh p n)
@@ -64,7 +65,7 @@ module _ (s a : List ℕ) (h : newReturn 7 s ≡ 0) where
   unfolding newReturn particleMade
   new-particle = made-encodable (sheetAt s 0) (wordAt s 10) (sheetAt-row s 0) h
 
-  pub particle-built : 600 ≤ length a → Holds 75 particleIn a (newAfter 7 s a) (particleMade s .particle)
+  pub particle-built : particleBytes ≤ length a → Holds 75 particleIn a (newAfter 7 s a) (particleMade s .particle)
   unfolding newReturn newAfter written
   particle-built l = rw (eq-eqb (particleMade s .refusal) 0 h) (holds-alone particle-layout a (particleMade s .particle) new-particle l)
 
@@ -121,7 +122,7 @@ module _ (call : ℕ) (s a : List ℕ) (m : 8 ≤ call) (n : call ≤ 10) where
   not-particle = ne-eqb call 7 (λ (e : call ≡ 7). omega (arith, m, e))
 
   -- the boundary's build, by its lengths
-  pub cell-build-return : B.buildReturn call s (length a) ≡ afterLengths (lengths (length s) (buildLength call) (length a) 1256) (newReturn call s)
+  pub cell-build-return : B.buildReturn call s (length a) ≡ afterLengths (lengths (length s) (buildLength call) (length a) cellBytes) (newReturn call s)
   unfolding B.buildReturn builtLength
   cell-build-return =
       rw (
@@ -134,7 +135,7 @@ module _ (call : ℕ) (s a : List ℕ) (m : 8 ≤ call) (n : call ≤ 10) where
         le-leb call 10 n,
       )
 
-  pub cell-build-after : B.buildAfter call s a ≡ cond (lengths (length s) (buildLength call) (length a) 1256) (newAfter call s a) a
+  pub cell-build-after : B.buildAfter call s a ≡ cond (lengths (length s) (buildLength call) (length a) cellBytes) (newAfter call s a) a
   unfolding B.buildAfter builtLength
   cell-build-after =
       rw (
@@ -159,5 +160,5 @@ module _ (call : ℕ) (s a : List ℕ) (m : 8 ≤ call) (n : call ≤ 10) where
     unfolding newAfter written
     answer-is = rw (not-particle, le-leb call 10 n, eq-eqb (cellBuilt call s .refusal) 0 (sym cell-return ∙ h))
 
-    pub cell-built : 1256 ≤ length a → Holds 157 cellAt a (newAfter call s a) (cellBuilt call s .solver)
+    pub cell-built : cellBytes ≤ length a → Holds 157 cellAt a (newAfter call s a) (cellBuilt call s .solver)
     cell-built l = rw answer-is (holds-alone cell-layout a (cellBuilt call s .solver) new-cell l)

@@ -36,6 +36,7 @@ use Rattle.cell_images.specs.Images.{cellAt}
 use Rattle.image_laws.specs.Accepted.{accepted}
 use Rattle.image_laws.specs.Encodable.{EncodableRow, []ᵉ, _∷ᵉ_, first-encodable, float-encodable, places-encodable, places-count}
 use Rattle.image_laws.specs.CellImages.{EncodableSheet, EncodableParticle, configNumbers, EncodableCell}
+use Rattle.image_layout.specs.Layout.{cellCathode, cellClock}
 
 -- ---- what is read
 -- the chemistry of a sheet that fits
@@ -79,7 +80,7 @@ cellAt-encodable s h =
     let a = electrode-passes (cellAt s) h Electrode.anode in
     let c = electrode-passes (cellAt s) h Electrode.cathode in
     let n : configAt s .«n_nodes» ≤ 64 = subst (λ (k : ℕ). k ≤ 64) (nodes-are (cellAt s) h Electrode.anode) (nodes-of (particleAt s 6) a .1) in
-    record { config = record { nodes = omega (arith, n); numbers = configAt-row s }; anode = particleAt-encodable s 6 a; cathode = particleAt-encodable s 81 c; clock = float-encodable s 156 }
+    record { config = record { nodes = omega (arith, n); numbers = configAt-row s }; anode = particleAt-encodable s 6 a; cathode = particleAt-encodable s cellCathode c; clock = float-encodable s cellClock }
 
 -- ---- what a step makes: each new place is a sum or one of the two bounds
 node-encodable : (v : SubStepParams) → T (fits binary64 (v .c_max)) → (c : ℕ → Float) (i : ℕ) → T (fits binary64 (node v c i))

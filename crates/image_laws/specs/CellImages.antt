@@ -19,6 +19,7 @@ use Rattle.image_laws.specs.Words.{word-read-back, float-read-back}
 use Rattle.image_laws.specs.Encodable.{EncodableRow}
 use Rattle.image_laws.specs.Rows.{Writes, SameWords, same-part, same-below, same-float, writes-then, writes-word, writes-float, writes-places, place-read-back, row-read-back, row-same}
 use Rattle.image_laws.specs.Layout.{Layout}
+use Rattle.image_layout.specs.Layout.{cellCathode, cellClock, cellBytes}
 
 -- ---- what an image can hold: words of 64 bits, numbers of binary64, profiles of 64 places
 pub record EncodableSheet (p : ElectrodeParams) : Type 0 where
@@ -157,8 +158,8 @@ cell-same s s' p =
     rw (
       config-same s s' (same-part (lit≤ tt) (lit≤ tt) p),
       particle-same s s' 6 (same-part (lit≤ tt) (lit≤ tt) p),
-      particle-same s s' 81 (same-part (lit≤ tt) (lit≤ tt) p),
-      same-float p 156 (lit≤ tt) (lit≤ tt),
+      particle-same s s' cellCathode (same-part (lit≤ tt) (lit≤ tt) p),
+      same-float p cellClock (lit≤ tt) (lit≤ tt),
     )
 
 module _ (s : List ℕ) (c : SpmSolver) (k : EncodableCell c) where
@@ -169,37 +170,37 @@ module _ (s : List ℕ) (c : SpmSolver) (k : EncodableCell c) where
   s2 = putParticle s1 6 (c .anode)
 
   abbrev s3 : List ℕ
-  s3 = putParticle s2 81 (c .cathode)
+  s3 = putParticle s2 cellCathode (c .cathode)
 
   w1 : Writes 0 6 s s1
   w1 = writes-config s (c .config)
 
-  w2 : Writes 6 81 s1 s2
+  w2 : Writes 6 cellCathode s1 s2
   w2 = writes-particle s1 6 (c .anode) (k .anode .long)
 
-  w3 : Writes 81 156 s2 s3
-  w3 = writes-particle s2 81 (c .cathode) (k .cathode .long)
+  w3 : Writes cellCathode cellClock s2 s3
+  w3 = writes-particle s2 cellCathode (c .cathode) (k .cathode .long)
 
-  w4 : Writes 156 157 s3 (putCell s c)
+  w4 : Writes cellClock 157 s3 (putCell s c)
   unfolding putCell
-  w4 = writes-float s3 156 (c .«time_s»)
+  w4 = writes-float s3 cellClock (c .«time_s»)
 
   pub writes-cell : Writes 0 157 s (putCell s c)
   writes-cell =
       writes-then (lit≤ tt) (lit≤ tt) (writes-then (lit≤ tt) (lit≤ tt) (writes-then (lit≤ tt) (lit≤ tt) w1 w2) w3) w4
 
   -- THE CELL THAT IS WRITTEN is read
-  pub cell-read-back : 1256 ≤ length s → cellAt (putCell s c) ≡ c
+  pub cell-read-back : cellBytes ≤ length s → cellAt (putCell s c) ≡ c
   unfolding cellAt putCell
   cell-read-back h =
-      let u = putFloat s3 156 (c .«time_s») in
+      let u = putFloat s3 cellClock (c .«time_s») in
       let config : configAt u ≡ c .config =
       config-same s3 u (same-below (lit≤ tt) w4) ∙ config-same s2 s3 (same-below (lit≤ tt) w3) ∙ config-same s1 s2 (same-below (lit≤ tt) w2) ∙ config-read-back s (c .config) (omega (arith, h)) (k .config) in
       let anode : particleAt u 6 ≡ c .anode =
       particle-same s3 u 6 (same-below (lit≤ tt) w4) ∙ particle-same s2 s3 6 (same-below (lit≤ tt) w3) ∙ particle-read-back s1 6 (c .anode) (rw (w1 .size) (omega (arith, h))) (k .anode) in
-      let cathode : particleAt u 81 ≡ c .cathode =
-      particle-same s3 u 81 (same-below (lit≤ tt) w4) ∙ particle-read-back s2 81 (c .cathode) (rw (w2 .size, w1 .size) (omega (arith, h))) (k .cathode) in
-      rw (config, anode, cathode, float-read-back s3 156 (c .«time_s») (rw (w3 .size, w2 .size, w1 .size) (omega (arith, h))) (k .clock))
+      let cathode : particleAt u cellCathode ≡ c .cathode =
+      particle-same s3 u cellCathode (same-below (lit≤ tt) w4) ∙ particle-read-back s2 cellCathode (c .cathode) (rw (w2 .size, w1 .size) (omega (arith, h))) (k .cathode) in
+      rw (config, anode, cathode, float-read-back s3 cellClock (c .«time_s») (rw (w3 .size, w2 .size, w1 .size) (omega (arith, h))) (k .clock))
 
 -- ---- both as records that an answer begins with
 abbrev pub particleIn : List ℕ → ParticleDiffusion

@@ -29,6 +29,7 @@ use Rattle.image_laws.specs.CellImages.{EncodableCell, writes-cell, cell
 use Rattle.image_laws.specs.Reports.{writes-ending, ending-read-back, rows-read-back}
 use Rattle.image_laws.specs.CellEncodable.{cellAt-encodable, step-encodable}
 use Rattle.image_laws.specs.Turns.{run-keeps, run-rows, ending-most}
+use Rattle.image_layout.specs.Layout.{cellRunBytes}
 
 -- ---- what a run makes of its cell
 module _ (w : RunSettings) where
@@ -86,7 +87,7 @@ module _ (w : RunSettings) where
   run-passes s places h = let m = run-tests s places h in rw (is-true (gridFits s) (m .0), is-true (cellFits s) (m .1))
 
 -- ---- the answer
-module _ (s : List ℕ) (i dt t limit : Float) (places : ℕ) (a : List ℕ) (l : length a ≡ 1272)
+module _ (s : List ℕ) (i dt t limit : Float) (places : ℕ) (a : List ℕ) (l : length a ≡ cellRunBytes)
     (h : T (writesAnswer (discharged (runSettings i dt t limit) (cellAt s) places .ended .refusal) (discharged (runSettings i dt t limit) (cellAt s) places .rows))) where
   abbrev run : RunOutcome
   run = discharged (runSettings i dt t limit) (cellAt s) places
@@ -108,7 +109,7 @@ module _ (s : List ℕ) (i dt t limit : Float) (places : ℕ) (a : List ℕ) (l 
       rw answer-is
       (holds cell-layout a (run .solver) run-cell (rw l (lit≤ tt)) (putEnding new 157 (run .ended .ending) (run .rows)) 159 (writes-ending new 157 (run .ended .ending) (run .rows)))
 
-  room : 1272 ≤ length new
+  room : cellRunBytes ≤ length new
   room = rw (writes-cell a (run .solver) run-cell .size ∙ l) (lit≤ tt)
 
   pub run-ending-answer : wordAt (dischargeAfter s i dt t limit places a) 157 ≡ discharged (runSettings i dt t limit) (cellAt s) places .ended .ending

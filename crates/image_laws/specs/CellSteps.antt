@@ -29,6 +29,7 @@ use Rattle.image_laws.specs.Layout.{Holds, holds, holds-alone}
 use Rattle.image_laws.specs.CellImages.{EncodableParticle, EncodableCell, writes-cell, particleIn, particle-layout, cell-layout}
 use Rattle.image_laws.specs.Reports.{cellReportAt, writes-cell-report, report-row-read-back, sub-steps-word-read-back}
 use Rattle.image_laws.specs.CellEncodable.{particleAt-encodable, cellAt-encodable, step-encodable, particle-step-encodable}
+use Rattle.image_layout.specs.Layout.{cellSubSteps, particleBytes, cellStepBytes}
 
 -- ---- a particle
 module _ (s : List ℕ) (j dt t : Float) (a : List ℕ) (h : particleReturn s j dt t ≡ 0) where
@@ -40,7 +41,7 @@ module _ (s : List ℕ) (j dt t : Float) (a : List ℕ) (h : particleReturn s j 
   stepped-particle : EncodableParticle (P.stepped (particleAt s 0) j dt t .particle)
   stepped-particle = particle-step-encodable (particleAt s 0) j dt t (particleAt-encodable s 0 particle-passes)
 
-  pub particle-answer : 600 ≤ length a → Holds 75 particleIn a (particleAfter s j dt t a) (P.stepped (particleAt s 0) j dt t .particle)
+  pub particle-answer : particleBytes ≤ length a → Holds 75 particleIn a (particleAfter s j dt t a) (P.stepped (particleAt s 0) j dt t .particle)
   unfolding particleAfter written
   particle-answer l = rw (eq-eqb (particleReturn s j dt t) 0 h) (holds-alone particle-layout a (P.stepped (particleAt s 0) j dt t .particle) stepped-particle l)
 
@@ -67,7 +68,7 @@ step-tells c i dt t = go (S.stepped c i dt t) (leads c i dt t)
     go r (Leads.refused k) z = absurd (omega (arith, z))
     go r (Leads.moved h g f) z = record { passes = S.input-cell c i dt t h; few = count-most _ g; report = report-encodable c i dt t }
 
-module _ (s : List ℕ) (i dt t : Float) (a : List ℕ) (h : cellReturn s i dt t ≡ 0) (l : length a ≡ 1328) where
+module _ (s : List ℕ) (i dt t : Float) (a : List ℕ) (h : cellReturn s i dt t ≡ 0) (l : length a ≡ cellStepBytes) where
   abbrev after : SpmStepAnswer
   after = S.stepped (cellAt s) i dt t
 
@@ -85,7 +86,7 @@ module _ (s : List ℕ) (i dt t : Float) (a : List ℕ) (h : cellReturn s i dt t
   unfolding cellAfter written
   answer-is = rw (eq-eqb (cellReturn s i dt t) 0 h)
 
-  room : 1328 ≤ length new
+  room : cellStepBytes ≤ length new
   room = rw (writes-cell a (after .solver) stepped-cell .size ∙ l) (lit≤ tt)
 
   pub cell-answer : Holds 157 cellAt a (cellAfter s i dt t a) (S.stepped (cellAt s) i dt t .solver)
@@ -93,10 +94,10 @@ module _ (s : List ℕ) (i dt t : Float) (a : List ℕ) (h : cellReturn s i dt t
       rw answer-is
       (holds cell-layout a (after .solver) stepped-cell (rw l (lit≤ tt)) (putReport new (after .state) (after .«sub_steps»)) 166 (writes-cell-report new (after .state) (after .«sub_steps»)))
 
-  pub sub-steps-answer : wordAt (cellAfter s i dt t a) 165 ≡ S.stepped (cellAt s) i dt t .«sub_steps»
+  pub sub-steps-answer : wordAt (cellAfter s i dt t a) cellSubSteps ≡ S.stepped (cellAt s) i dt t .«sub_steps»
   sub-steps-answer =
       let m = tells .few in
-      ap (λ (b : List ℕ). wordAt b 165) answer-is ∙ sub-steps-word-read-back new (after .state) (after .«sub_steps») room (omega (arith, m))
+      ap (λ (b : List ℕ). wordAt b cellSubSteps) answer-is ∙ sub-steps-word-read-back new (after .state) (after .«sub_steps») room (omega (arith, m))
 
   pub report-answer : T (fits binary64 i) → cellReportAt (cellAfter s i dt t a) ≡ S.stepped (cellAt s) i dt t .state
   report-answer f = ap cellReportAt answer-is ∙ report-row-read-back new (after .state) (after .«sub_steps») room (tells .report f)

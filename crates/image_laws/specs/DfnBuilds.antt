@@ -37,6 +37,7 @@ use Rattle.image_laws.specs.ElectrolyteImages.{electrolyteParamsNumbers,
 use Rattle.image_laws.specs.DfnImages.{EncodableParams, EncodableGrid, EncodableDfn, dfn-layout}
 use Rattle.image_laws.specs.ElectrolyteSteps.{electrolyteParamsAt-encodable}
 use Rattle.image_laws.specs.DfnEncodable.{paramsAt-encodable, gridAt-encodable}
+use Rattle.image_layout.specs.Layout.{electrolyteBytes, dfnBytes}
 
 -- ---- an electrolyte
 module _ (e : ElectrolyteState) (hs : EncodableRow (electrolyteParamsNumbers (e .params))) (hr : EncodableRow (regionNumbers e)) where
@@ -69,7 +70,7 @@ module _ (s a : List ℕ) (h : newReturn 11 s ≡ 0) where
       electrolyte-encodable _ (electrolyteParamsAt-encodable s)
       (float-encodable s 7 ∷ᵉ float-encodable s 8 ∷ᵉ float-encodable s 9 ∷ᵉ float-encodable s 10 ∷ᵉ float-encodable s 11 ∷ᵉ float-encodable s 12 ∷ᵉ []ᵉ) h
 
-  pub electrolyte-built : 896 ≤ length a → Holds 112 electrolyteAt a (newAfter 11 s a) (electrolyteBuilt s .state)
+  pub electrolyte-built : electrolyteBytes ≤ length a → Holds 112 electrolyteAt a (newAfter 11 s a) (electrolyteBuilt s .state)
   unfolding newReturn newAfter written
   electrolyte-built l = rw (eq-eqb (electrolyteBuilt s .refusal) 0 h) (holds-alone electrolyte-layout a (electrolyteBuilt s .state) new-electrolyte l)
 
@@ -111,6 +112,6 @@ module _ (s a : List ℕ) (h : newReturn 12 s ≡ 0) where
   unfolding newReturn dfnMade
   new-dfn = dfn-encodable s h
 
-  pub dfn-built : 9008 ≤ length a → Holds 1126 cellAt a (newAfter 12 s a) (dfnMade s .cell)
+  pub dfn-built : dfnBytes ≤ length a → Holds 1126 cellAt a (newAfter 12 s a) (dfnMade s .cell)
   unfolding newReturn newAfter written
   dfn-built l = rw (eq-eqb (dfnMade s .refusal) 0 h) (holds-alone dfn-layout a (dfnMade s .cell) new-dfn l)

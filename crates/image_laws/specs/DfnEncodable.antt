@@ -32,6 +32,7 @@ use Rattle.dfn_calls.specs.Steps.{electrolyteAfter}
 use Rattle.image_laws.specs.Encodable.{EncodableRow, []ᵉ, _∷ᵉ_, first-encodable, placesBy-encodable, clamp-fits, max-fits, abs-fits, literal, float-encodable, places-encodable, places-count}
 use Rattle.image_laws.specs.DfnImages.{EncodableParams, EncodableGrid, EncodableDfn}
 use Rattle.binary64.specs.Literals.{«0·0», «5·0»}
+use Rattle.image_layout.specs.Layout.{dfnCathode, dfnElectrolyte, dfnClock, dfnVoltage, dfnCurrent, dfnThetaNeg, dfnThetaPos}
 
 -- ---- a Doyle-Fuller-Newman cell that passes the checks
 numbers-of : (x : List Float) (n : ℕ) (a : List Float) (m : ℕ) (c : List Float) → EncodableRow x → EncodableRow (paramsNumbers (paramsOf x n a m c))
@@ -66,11 +67,11 @@ dfnAt-encodable s h =
       grid = gridAt-encodable s (m .nodes);
       neg-long = places-count 512 s 64;
       neg-places = places-encodable 512 s 64;
-      pos-long = places-count 512 s 576;
-      pos-places = places-encodable 512 s 576;
-      electrolyte-long = places-count 33 s 1088;
-      electrolyte-places = places-encodable 33 s 1088;
-      last = float-encodable s 1121 ∷ᵉ float-encodable s 1122 ∷ᵉ float-encodable s 1123 ∷ᵉ float-encodable s 1124 ∷ᵉ float-encodable s 1125 ∷ᵉ []ᵉ;
+      pos-long = places-count 512 s dfnCathode;
+      pos-places = places-encodable 512 s dfnCathode;
+      electrolyte-long = places-count 33 s dfnElectrolyte;
+      electrolyte-places = places-encodable 33 s dfnElectrolyte;
+      last = float-encodable s dfnClock ∷ᵉ float-encodable s dfnVoltage ∷ᵉ float-encodable s dfnCurrent ∷ᵉ float-encodable s dfnThetaNeg ∷ᵉ float-encodable s dfnThetaPos ∷ᵉ []ᵉ;
     }
 
 -- ---- and a step of it

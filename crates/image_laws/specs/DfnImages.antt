@@ -17,6 +17,7 @@ use Rattle.image_laws.specs.Words.{word-read-back, float-read-back}
 use Rattle.image_laws.specs.Encodable.{EncodableRow}
 use Rattle.image_laws.specs.Rows.{Writes, SameWords, same-part, same-below, same-float, writes-then, writes-word, writes-float, writes-places, place-read-back, row-read-back, row-same}
 use Rattle.image_laws.specs.Layout.{Layout}
+use Rattle.image_layout.specs.Layout.{dfnCathode, dfnElectrolyte, dfnClock, dfnVoltage, dfnCurrent, dfnThetaNeg, dfnThetaPos, dfnBytes}
 
 -- ---- parameters: 25 numbers, and for each electrode a count and 16 coefficients
 pub record EncodableParams (p : DfnParams) : Type 0 where
@@ -202,13 +203,13 @@ dfn-same s s' p =
       params-same s s' (same-part (lit≤ tt) (lit≤ tt) p),
       grid-same s s' (same-part (lit≤ tt) (lit≤ tt) p),
       row-same 512 s s' 64 (same-part (lit≤ tt) (lit≤ tt) p),
-      row-same 512 s s' 576 (same-part (lit≤ tt) (lit≤ tt) p),
-      row-same 33 s s' 1088 (same-part (lit≤ tt) (lit≤ tt) p),
-      same-float p 1121 (lit≤ tt) (lit≤ tt),
-      same-float p 1122 (lit≤ tt) (lit≤ tt),
-      same-float p 1123 (lit≤ tt) (lit≤ tt),
-      same-float p 1124 (lit≤ tt) (lit≤ tt),
-      same-float p 1125 (lit≤ tt) (lit≤ tt),
+      row-same 512 s s' dfnCathode (same-part (lit≤ tt) (lit≤ tt) p),
+      row-same 33 s s' dfnElectrolyte (same-part (lit≤ tt) (lit≤ tt) p),
+      same-float p dfnClock (lit≤ tt) (lit≤ tt),
+      same-float p dfnVoltage (lit≤ tt) (lit≤ tt),
+      same-float p dfnCurrent (lit≤ tt) (lit≤ tt),
+      same-float p dfnThetaNeg (lit≤ tt) (lit≤ tt),
+      same-float p dfnThetaPos (lit≤ tt) (lit≤ tt),
     )
 
 module _ (s : List ℕ) (d : DfnSolver) (k : EncodableDfn d) where
@@ -222,13 +223,13 @@ module _ (s : List ℕ) (d : DfnSolver) (k : EncodableDfn d) where
   d3 = putRow d2 64 (d .«c_s_neg»)
 
   abbrev d4 : List ℕ
-  d4 = putRow d3 576 (d .«c_s_pos»)
+  d4 = putRow d3 dfnCathode (d .«c_s_pos»)
 
   abbrev d5 : List ℕ
-  d5 = putRow d4 1088 (d .«c_e»)
+  d5 = putRow d4 dfnElectrolyte (d .«c_e»)
 
   abbrev d6 : List ℕ
-  d6 = putRow d5 1121 (lastNumbers d)
+  d6 = putRow d5 dfnClock (lastNumbers d)
 
   w1 : Writes 0 59 s d1
   w1 = writes-params s (d .params) (k .params)
@@ -236,22 +237,22 @@ module _ (s : List ℕ) (d : DfnSolver) (k : EncodableDfn d) where
   w2 : Writes 59 64 d1 d2
   w2 = writes-grid d1 (d .config)
 
-  w3 : Writes 64 576 d2 d3
+  w3 : Writes 64 dfnCathode d2 d3
   w3 = writes-row 512 d2 64 (d .«c_s_neg») (k .neg-long)
 
-  w4 : Writes 576 1088 d3 d4
-  w4 = writes-row 512 d3 576 (d .«c_s_pos») (k .pos-long)
+  w4 : Writes dfnCathode dfnElectrolyte d3 d4
+  w4 = writes-row 512 d3 dfnCathode (d .«c_s_pos») (k .pos-long)
 
-  w5 : Writes 1088 1121 d4 d5
-  w5 = writes-row 33 d4 1088 (d .«c_e») (k .electrolyte-long)
+  w5 : Writes dfnElectrolyte dfnClock d4 d5
+  w5 = writes-row 33 d4 dfnElectrolyte (d .«c_e») (k .electrolyte-long)
 
-  w6 : Writes 1121 1126 d5 d6
-  w6 = writes-places 5 d5 1121 (lastNumbers d)
+  w6 : Writes dfnClock 1126 d5 d6
+  w6 = writes-places 5 d5 dfnClock (lastNumbers d)
 
-  w56 : Writes 1088 1126 d4 d6
+  w56 : Writes dfnElectrolyte 1126 d4 d6
   w56 = writes-then (lit≤ tt) (lit≤ tt) w5 w6
 
-  w46 : Writes 576 1126 d3 d6
+  w46 : Writes dfnCathode 1126 d3 d6
   w46 = writes-then (lit≤ tt) (lit≤ tt) w4 w56
 
   w36 : Writes 64 1126 d2 d6
@@ -265,7 +266,7 @@ module _ (s : List ℕ) (d : DfnSolver) (k : EncodableDfn d) where
   writes-dfn = writes-then (lit≤ tt) (lit≤ tt) w1 w26
 
   -- THE CELL THAT IS WRITTEN is read
-  pub dfn-read-back : 9008 ≤ length s → cellAt (putCell s d) ≡ d
+  pub dfn-read-back : dfnBytes ≤ length s → cellAt (putCell s d) ≡ d
   unfolding cellAt putCell
   dfn-read-back h =
       let l2 : length d2 ≡ length s = w2 .size ∙ w1 .size in
@@ -276,11 +277,11 @@ module _ (s : List ℕ) (d : DfnSolver) (k : EncodableDfn d) where
       let grid : configAt d6 ≡ d .config = grid-same d2 d6 (same-below (lit≤ tt) w36) ∙ grid-read-back d1 (d .config) (rw (w1 .size) (omega (arith, h))) (k .grid) in
       let neg : placesAt 512 d6 64 ≡ d .«c_s_neg» =
       row-same 512 d3 d6 64 (same-below (lit≤ tt) w46) ∙ row-read-back 512 d2 64 (d .«c_s_neg») (k .neg-long) (rw l2 (omega (arith, h))) (k .neg-places) in
-      let pos : placesAt 512 d6 576 ≡ d .«c_s_pos» =
-      row-same 512 d4 d6 576 (same-below (lit≤ tt) w56) ∙ row-read-back 512 d3 576 (d .«c_s_pos») (k .pos-long) (rw l3 (omega (arith, h))) (k .pos-places) in
-      let cE : placesAt 33 d6 1088 ≡ d .«c_e» = row-same 33 d5 d6 1088 (same-below (lit≤ tt) w6) ∙ row-read-back 33 d4 1088 (d .«c_e») (k .electrolyte-long) (rw l4 (omega (arith, h))) (k .electrolyte-places) in
-      let at : (i j : ℕ) → i < 5 → j ≡ 1121 + i → floatAt d6 j ≡ getD (lastNumbers d) i nan = place-read-back d5 1121 (lastNumbers d) (rw l5 (omega (arith, h))) (k .last) in
-      rw (params, grid, neg, pos, cE, at 0 1121 (lit≤ tt) refl, at 1 1122 (lit≤ tt) refl, at 2 1123 (lit≤ tt) refl, at 3 1124 (lit≤ tt) refl, at 4 1125 (lit≤ tt) refl)
+      let pos : placesAt 512 d6 dfnCathode ≡ d .«c_s_pos» =
+      row-same 512 d4 d6 dfnCathode (same-below (lit≤ tt) w56) ∙ row-read-back 512 d3 dfnCathode (d .«c_s_pos») (k .pos-long) (rw l3 (omega (arith, h))) (k .pos-places) in
+      let cE : placesAt 33 d6 dfnElectrolyte ≡ d .«c_e» = row-same 33 d5 d6 dfnElectrolyte (same-below (lit≤ tt) w6) ∙ row-read-back 33 d4 dfnElectrolyte (d .«c_e») (k .electrolyte-long) (rw l4 (omega (arith, h))) (k .electrolyte-places) in
+      let at : (i j : ℕ) → i < 5 → j ≡ dfnClock + i → floatAt d6 j ≡ getD (lastNumbers d) i nan = place-read-back d5 dfnClock (lastNumbers d) (rw l5 (omega (arith, h))) (k .last) in
+      rw (params, grid, neg, pos, cE, at 0 dfnClock (lit≤ tt) refl, at 1 dfnVoltage (lit≤ tt) refl, at 2 dfnCurrent (lit≤ tt) refl, at 3 dfnThetaNeg (lit≤ tt) refl, at 4 dfnThetaPos (lit≤ tt) refl)
 
 pub dfn-layout : Layout 1126 cellAt putCell EncodableDfn
 dfn-layout = record { same = dfn-same; writes = writes-dfn; read-back = dfn-read-back }

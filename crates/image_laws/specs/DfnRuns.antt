@@ -30,6 +30,7 @@ use Rattle.image_laws.specs.Reports.{writes-ending, ending-read-back, ro
 use Rattle.image_laws.specs.DfnImages.{EncodableDfn, writes-dfn, dfn-layout}
 use Rattle.image_laws.specs.Turns.{run-keeps, run-rows, ending-most}
 use Rattle.image_laws.specs.DfnEncodable.{dfnAt-encodable, dfn-step-encodable}
+use Rattle.image_layout.specs.Layout.{dfnRunBytes}
 
 -- ---- a refused step leaves the cell
 pub dfn-step-refused : (d : DfnSolver) (i dt : Float) → (D.stepped d i dt .refusal ≡ 0 → ⊥) → D.stepped d i dt .cell ≡ d
@@ -112,7 +113,7 @@ module _ (d : DfnSolver) (i dt limit : Float) (places : ℕ) where
   run-passes h = DC.step-cell d i dt (neither-refused _ _ (neither-refused _ _ (neither-refused _ _ h .1) .1) .0)
 
 -- ---- the answer
-module _ (s : List ℕ) (i dt limit : Float) (places : ℕ) (a : List ℕ) (l : length a ≡ 9024) (f : T (fits binary64 i))
+module _ (s : List ℕ) (i dt limit : Float) (places : ℕ) (a : List ℕ) (l : length a ≡ dfnRunBytes) (f : T (fits binary64 i))
     (h : T (writesAnswer (galvanostatic (cellAt s) i dt limit places .ended .refusal) (galvanostatic (cellAt s) i dt limit places .rows))) where
   abbrev run : RunOutcome
   run = galvanostatic (cellAt s) i dt limit places
@@ -132,7 +133,7 @@ module _ (s : List ℕ) (i dt limit : Float) (places : ℕ) (a : List ℕ) (l : 
       rw answer-is
       (holds dfn-layout a (run .cell) run-cell (rw l (lit≤ tt)) (putEnding new 1126 (run .ended .ending) (run .rows)) 1128 (writes-ending new 1126 (run .ended .ending) (run .rows)))
 
-  room : 9024 ≤ length new
+  room : dfnRunBytes ≤ length new
   room = rw (writes-dfn a (run .cell) run-cell .size ∙ l) (lit≤ tt)
 
   pub dfn-run-ending-answer : wordAt (galvanostaticAfter s i dt limit places a) 1126 ≡ galvanostatic (cellAt s) i dt limit places .ended .ending

@@ -18,8 +18,9 @@ use Rattle.image_laws.specs.Layout.{Holds, holds}
 use Rattle.image_laws.specs.Reports.{dfnReportAt, writes-dfn-report, dfn-report-row-read-back}
 use Rattle.image_laws.specs.DfnImages.{EncodableDfn, writes-dfn, dfn-layout}
 use Rattle.image_laws.specs.DfnEncodable.{dfnAt-encodable, dfn-step-encodable, dfn-report-encodable}
+use Rattle.image_layout.specs.Layout.{dfnStepBytes}
 
-module _ (s : List ℕ) (i dt : Float) (a : List ℕ) (f : T (fits binary64 i)) (h : dfnReturn s i dt ≡ 0) (l : length a ≡ 9072) where
+module _ (s : List ℕ) (i dt : Float) (a : List ℕ) (f : T (fits binary64 i)) (h : dfnReturn s i dt ≡ 0) (l : length a ≡ dfnStepBytes) where
   abbrev after : DfnStepAnswer
   after = D.stepped (cellAt s) i dt
 

@@ -15,6 +15,7 @@ use Rattle.image_laws.specs.Words.{word-read-back}
 use Rattle.image_laws.specs.Encodable.{EncodableRow}
 use Rattle.image_laws.specs.Rows.{Writes, SameWords, same-part, same-below, same-float, writes-then, writes-word, writes-places, place-read-back, row-read-back, row-same}
 use Rattle.image_laws.specs.Layout.{Layout}
+use Rattle.image_layout.specs.Layout.{electrolyteBytes}
 
 -- ---- the parameters: seven numbers
 abbrev pub electrolyteParamsNumbers : ElectrolyteParams → List Float
@@ -97,7 +98,7 @@ module _ (s : List ℕ) (e : ElectrolyteState) (k : EncodableElectrolyte e) wher
   unfolding putElectrolyte putRegions
   writes-electrolyte = writes-then (lit≤ tt) (lit≤ tt) (writes-then (lit≤ tt) (lit≤ tt) v1 v2) v36
 
-  pub electrolyte-read-back : 896 ≤ length s → electrolyteAt (putElectrolyte s e) ≡ e
+  pub electrolyte-read-back : electrolyteBytes ≤ length s → electrolyteAt (putElectrolyte s e) ≡ e
   unfolding electrolyteAt putElectrolyte putRegions
   electrolyte-read-back h =
       let l2 : length e2 ≡ length s = v2 .size ∙ v1 .size in

@@ -27,6 +27,7 @@ use Rattle.image_laws.specs.Accepted.{inputs-pass, accepted}
 use Rattle.image_laws.specs.Encodable.{EncodableRow, []ᵉ, _∷ᵉ_, first-encodable, max-fits, float-encodable, places-encodable, places-count}
 use Rattle.image_laws.specs.Layout.{Holds, holds-alone}
 use Rattle.image_laws.specs.ElectrolyteImages.{electrolyteParamsNumbers, EncodableElectrolyte, electrolyte-layout}
+use Rattle.image_layout.specs.Layout.{electrolyteBytes}
 
 -- ---- an electrolyte of an image
 pub electrolyteParamsAt-encodable : (s : List ℕ) → EncodableRow (electrolyteParamsNumbers (electrolyteParamsAt s))
@@ -84,6 +85,6 @@ module _ (s : List ℕ) (jNeg jPos dt t : Float) (a : List ℕ) (h : electrolyte
   stepped-electrolyte : EncodableElectrolyte after
   stepped-electrolyte = electrolyte-step-encodable (electrolyteAt s) jNeg jPos dt t (electrolyteAt-encodable s electrolyte-passes)
 
-  pub electrolyte-answer : 896 ≤ length a → Holds 112 electrolyteAt a (electrolyteAfter s jNeg jPos dt t a) (E.stepped (electrolyteAt s) jNeg jPos dt t .state)
+  pub electrolyte-answer : electrolyteBytes ≤ length a → Holds 112 electrolyteAt a (electrolyteAfter s jNeg jPos dt t a) (E.stepped (electrolyteAt s) jNeg jPos dt t .state)
   unfolding electrolyteAfter written
   electrolyte-answer l = rw (eq-eqb (electrolyteReturn s jNeg jPos dt t) 0 h) (holds-alone electrolyte-layout a after stepped-electrolyte l)

@@ -52,71 +52,72 @@ use Rattle.image_laws.specs.DfnBuilds.{electrolyte-built, dfn-built}
 use Rattle.image_laws.specs.ReadyRecords.{sheet-ready, electrolyte-params-ready, params-ready}
 use Rattle.image_laws.specs.Numbers.{number-answered}
 use Rattle.image_laws.specs.Dense.{solved-encodable, doubles-encodable}
+use Rattle.image_layout.specs.Layout.{cellSubSteps, particleBytes, electrolyteBytes, cellBytes, cellRunBytes, cellStepBytes, dfnBytes, dfnRunBytes, dfnStepBytes}
 
 -- ---- steps
 pub particle-step-read-back : (s : List ℕ) (j dt t : Float) (a : List ℕ) → B.particleReturn s j dt t (length a) ≡ 0
     → particleAt (B.particleAfter s j dt t a) 0 ≡ P.stepped (particleAt s 0) j dt t .particle
 unfolding B.particleReturn B.particleAfter
 particle-step-read-back s j dt t a h =
-    let c = accepted s a 600 600 (CS.particleReturn s j dt t) (CS.particleAfter s j dt t a) h in
-    ap particleIn (c .writes) ∙ particle-answer s j dt t a (c .refusal) (rw (c .answer) (le-refl 600)) .whole
+    let c = accepted s a particleBytes particleBytes (CS.particleReturn s j dt t) (CS.particleAfter s j dt t a) h in
+    ap particleIn (c .writes) ∙ particle-answer s j dt t a (c .refusal) (rw (c .answer) (le-refl particleBytes)) .whole
 
 pub cell-step-read-back : (s : List ℕ) (i dt t : Float) (a : List ℕ) → B.cellReturn s i dt t (length a) ≡ 0
-    → cellAt (take 1256 (B.cellAfter s i dt t a)) ≡ S.stepped (cellAt s) i dt t .solver
+    → cellAt (take cellBytes (B.cellAfter s i dt t a)) ≡ S.stepped (cellAt s) i dt t .solver
 unfolding B.cellReturn B.cellAfter
 cell-step-read-back s i dt t a h =
-    let c = accepted s a 1256 1328 (CS.cellReturn s i dt t) (CS.cellAfter s i dt t a) h in
-    ap (λ (b : List ℕ). cellAt (take 1256 b)) (c .writes) ∙ cell-answer s i dt t a (c .refusal) (c .answer) .first
+    let c = accepted s a cellBytes cellStepBytes (CS.cellReturn s i dt t) (CS.cellAfter s i dt t a) h in
+    ap (λ (b : List ℕ). cellAt (take cellBytes b)) (c .writes) ∙ cell-answer s i dt t a (c .refusal) (c .answer) .first
 
 pub cell-report-read-back : (s : List ℕ) (bits : ℕ) (dt t : Float) (a : List ℕ) → B.cellReturn s (f64 bits) dt t (length a) ≡ 0
     → cellReportAt (B.cellAfter s (f64 bits) dt t a) ≡ S.stepped (cellAt s) (f64 bits) dt t .state
 unfolding B.cellReturn B.cellAfter
 cell-report-read-back s bits dt t a h =
-    let c = accepted s a 1256 1328 (CS.cellReturn s (f64 bits) dt t) (CS.cellAfter s (f64 bits) dt t a) h in
+    let c = accepted s a cellBytes cellStepBytes (CS.cellReturn s (f64 bits) dt t) (CS.cellAfter s (f64 bits) dt t a) h in
     ap cellReportAt (c .writes) ∙ report-answer s (f64 bits) dt t a (c .refusal) (c .answer) (literal bits)
 
 pub sub-steps-read-back : (s : List ℕ) (i dt t : Float) (a : List ℕ) → B.cellReturn s i dt t (length a) ≡ 0
-    → wordAt (B.cellAfter s i dt t a) 165 ≡ S.stepped (cellAt s) i dt t .«sub_steps»
+    → wordAt (B.cellAfter s i dt t a) cellSubSteps ≡ S.stepped (cellAt s) i dt t .«sub_steps»
 unfolding B.cellReturn B.cellAfter
 sub-steps-read-back s i dt t a h =
-    let c = accepted s a 1256 1328 (CS.cellReturn s i dt t) (CS.cellAfter s i dt t a) h in
-    ap (λ (b : List ℕ). wordAt b 165) (c .writes) ∙ sub-steps-answer s i dt t a (c .refusal) (c .answer)
+    let c = accepted s a cellBytes cellStepBytes (CS.cellReturn s i dt t) (CS.cellAfter s i dt t a) h in
+    ap (λ (b : List ℕ). wordAt b cellSubSteps) (c .writes) ∙ sub-steps-answer s i dt t a (c .refusal) (c .answer)
 
 pub electrolyte-step-read-back : (s : List ℕ) (jNeg jPos dt t : Float) (a : List ℕ) → B.electrolyteReturn s jNeg jPos dt t (length a) ≡ 0
     → electrolyteAt (B.electrolyteAfter s jNeg jPos dt t a) ≡ E.stepped (electrolyteAt s) jNeg jPos dt t .state
 unfolding B.electrolyteReturn B.electrolyteAfter
 electrolyte-step-read-back s jNeg jPos dt t a h =
-    let c = accepted s a 896 896 (PS.electrolyteReturn s jNeg jPos dt t) (PS.electrolyteAfter s jNeg jPos dt t a) h in
-    ap electrolyteAt (c .writes) ∙ electrolyte-answer s jNeg jPos dt t a (c .refusal) (rw (c .answer) (le-refl 896)) .whole
+    let c = accepted s a electrolyteBytes electrolyteBytes (PS.electrolyteReturn s jNeg jPos dt t) (PS.electrolyteAfter s jNeg jPos dt t a) h in
+    ap electrolyteAt (c .writes) ∙ electrolyte-answer s jNeg jPos dt t a (c .refusal) (rw (c .answer) (le-refl electrolyteBytes)) .whole
 
 pub dfn-step-read-back : (s : List ℕ) (bits : ℕ) (dt : Float) (a : List ℕ) → B.dfnReturn s (f64 bits) dt (length a) ≡ 0
-    → I.cellAt (take 9008 (B.dfnAfter s (f64 bits) dt a)) ≡ D.stepped (I.cellAt s) (f64 bits) dt .cell
+    → I.cellAt (take dfnBytes (B.dfnAfter s (f64 bits) dt a)) ≡ D.stepped (I.cellAt s) (f64 bits) dt .cell
 unfolding B.dfnReturn B.dfnAfter
 dfn-step-read-back s bits dt a h =
-    let c = accepted s a 9008 9072 (PS.dfnReturn s (f64 bits) dt) (PS.dfnAfter s (f64 bits) dt a) h in
-    ap (λ (b : List ℕ). I.cellAt (take 9008 b)) (c .writes) ∙ dfn-answer s (f64 bits) dt a (literal bits) (c .refusal) (c .answer) .first
+    let c = accepted s a dfnBytes dfnStepBytes (PS.dfnReturn s (f64 bits) dt) (PS.dfnAfter s (f64 bits) dt a) h in
+    ap (λ (b : List ℕ). I.cellAt (take dfnBytes b)) (c .writes) ∙ dfn-answer s (f64 bits) dt a (literal bits) (c .refusal) (c .answer) .first
 
 pub dfn-report-read-back : (s : List ℕ) (bits : ℕ) (dt : Float) (a : List ℕ) → B.dfnReturn s (f64 bits) dt (length a) ≡ 0
     → dfnReportAt (B.dfnAfter s (f64 bits) dt a) ≡ D.stepped (I.cellAt s) (f64 bits) dt .report
 unfolding B.dfnReturn B.dfnAfter
 dfn-report-read-back s bits dt a h =
-    let c = accepted s a 9008 9072 (PS.dfnReturn s (f64 bits) dt) (PS.dfnAfter s (f64 bits) dt a) h in
+    let c = accepted s a dfnBytes dfnStepBytes (PS.dfnReturn s (f64 bits) dt) (PS.dfnAfter s (f64 bits) dt a) h in
     ap dfnReportAt (c .writes) ∙ dfn-report-answer s (f64 bits) dt a (literal bits) (c .refusal) (c .answer)
 
 -- ---- runs: the cell, the ending and the count of rows, where the run returns 0 or has written a row. Lengths from C are below 2 ^ 64.
 pub record DischargeReadBack (s : List ℕ) (i dt t limit : Float) (places : ℕ) (a : List ℕ) : Type 0 where
-  pub cell : cellAt (take 1256 (BR.dischargeAfter s i dt t limit places a)) ≡ DR.discharged (DR.runSettings i dt t limit) (cellAt s) places .solver
+  pub cell : cellAt (take cellBytes (BR.dischargeAfter s i dt t limit places a)) ≡ DR.discharged (DR.runSettings i dt t limit) (cellAt s) places .solver
   pub ending : wordAt (BR.dischargeAfter s i dt t limit places a) 157 ≡ DR.discharged (DR.runSettings i dt t limit) (cellAt s) places .ended .ending
   pub rows : places < 2 ^ 64 → wordAt (BR.dischargeAfter s i dt t limit places a) 158 ≡ DR.discharged (DR.runSettings i dt t limit) (cellAt s) places .rows
 
-pub discharge-read-back : (s : List ℕ) (i dt t limit : Float) (places : ℕ) (a : List ℕ) → length s ≡ 1256 → length a ≡ 1272
+pub discharge-read-back : (s : List ℕ) (i dt t limit : Float) (places : ℕ) (a : List ℕ) → length s ≡ cellBytes → length a ≡ cellRunBytes
     → T (writesAnswer (DR.discharged (DR.runSettings i dt t limit) (cellAt s) places .ended .refusal) (DR.discharged (DR.runSettings i dt t limit) (cellAt s) places .rows))
     → DischargeReadBack s i dt t limit places a
 unfolding BR.dischargeAfter
 discharge-read-back s i dt t limit places a m n h =
-    let e : BR.dischargeAfter s i dt t limit places a ≡ CR.dischargeAfter s i dt t limit places a = rw (eq-eqb (length s) 1256 m, eq-eqb (length a) 1272 n) in
+    let e : BR.dischargeAfter s i dt t limit places a ≡ CR.dischargeAfter s i dt t limit places a = rw (eq-eqb (length s) cellBytes m, eq-eqb (length a) cellRunBytes n) in
     record {
-      cell = ap (λ (b : List ℕ). cellAt (take 1256 b)) e ∙ run-answer s i dt t limit places a n h .first;
+      cell = ap (λ (b : List ℕ). cellAt (take cellBytes b)) e ∙ run-answer s i dt t limit places a n h .first;
       ending = ap (λ (b : List ℕ). wordAt b 157) e ∙ run-ending-answer s i dt t limit places a n h;
       rows = λ l. ap (λ (b : List ℕ). wordAt b 158) e ∙ run-rows-answer s i dt t limit places a n h l;
     }
@@ -126,23 +127,23 @@ pub accepted-discharge-read-back : (s : List ℕ) (i dt t limit : Float) (places
 unfolding BR.dischargeReturn CR.dischargeReturn
 accepted-discharge-read-back s i dt t limit places a h =
     let r = DR.discharged (DR.runSettings i dt t limit) (cellAt s) places in
-    let c = accepted s a 1256 1272 (r .ended .refusal) a h in
+    let c = accepted s a cellBytes cellRunBytes (r .ended .refusal) a h in
     discharge-read-back s i dt t limit places a (c .image) (c .answer) (no-refusal (r .ended .refusal) (r .rows) (c .refusal))
 
 pub record GalvanostaticReadBack (s : List ℕ) (i dt limit : Float) (places : ℕ) (a : List ℕ) : Type 0 where
-  pub cell : I.cellAt (take 9008 (BR.galvanostaticAfter s i dt limit places a)) ≡ GR.galvanostatic (I.cellAt s) i dt limit places .cell
+  pub cell : I.cellAt (take dfnBytes (BR.galvanostaticAfter s i dt limit places a)) ≡ GR.galvanostatic (I.cellAt s) i dt limit places .cell
   pub ending : wordAt (BR.galvanostaticAfter s i dt limit places a) 1126 ≡ GR.galvanostatic (I.cellAt s) i dt limit places .ended .ending
   pub rows : places < 2 ^ 64 → wordAt (BR.galvanostaticAfter s i dt limit places a) 1127 ≡ GR.galvanostatic (I.cellAt s) i dt limit places .rows
 
-pub galvanostatic-read-back : (s : List ℕ) (bits : ℕ) (dt limit : Float) (places : ℕ) (a : List ℕ) → length s ≡ 9008 → length a ≡ 9024
+pub galvanostatic-read-back : (s : List ℕ) (bits : ℕ) (dt limit : Float) (places : ℕ) (a : List ℕ) → length s ≡ dfnBytes → length a ≡ dfnRunBytes
     → T (writesAnswer (GR.galvanostatic (I.cellAt s) (f64 bits) dt limit places .ended .refusal) (GR.galvanostatic (I.cellAt s) (f64 bits) dt limit places .rows))
     → GalvanostaticReadBack s (f64 bits) dt limit places a
 unfolding BR.galvanostaticAfter
 galvanostatic-read-back s bits dt limit places a m n h =
     let i = f64 bits in
-    let e : BR.galvanostaticAfter s i dt limit places a ≡ PR.galvanostaticAfter s i dt limit places a = rw (eq-eqb (length s) 9008 m, eq-eqb (length a) 9024 n) in
+    let e : BR.galvanostaticAfter s i dt limit places a ≡ PR.galvanostaticAfter s i dt limit places a = rw (eq-eqb (length s) dfnBytes m, eq-eqb (length a) dfnRunBytes n) in
     record {
-      cell = ap (λ (b : List ℕ). I.cellAt (take 9008 b)) e ∙ dfn-run-answer s i dt limit places a n (literal bits) h .first;
+      cell = ap (λ (b : List ℕ). I.cellAt (take dfnBytes b)) e ∙ dfn-run-answer s i dt limit places a n (literal bits) h .first;
       ending = ap (λ (b : List ℕ). wordAt b 1126) e ∙ dfn-run-ending-answer s i dt limit places a n (literal bits) h;
       rows = λ l. ap (λ (b : List ℕ). wordAt b 1127) e ∙ dfn-run-rows-answer s i dt limit places a n (literal bits) h l;
     }
@@ -152,32 +153,32 @@ pub accepted-galvanostatic-read-back : (s : List ℕ) (bits : ℕ) (dt limit : F
 unfolding BR.galvanostaticReturn PR.galvanostaticReturn
 accepted-galvanostatic-read-back s bits dt limit places a h =
     let r = GR.galvanostatic (I.cellAt s) (f64 bits) dt limit places in
-    let c = accepted s a 9008 9024 (r .ended .refusal) a h in
+    let c = accepted s a dfnBytes dfnRunBytes (r .ended .refusal) a h in
     galvanostatic-read-back s bits dt limit places a (c .image) (c .answer) (no-refusal (r .ended .refusal) (r .rows) (c .refusal))
 
 -- ---- builds: 7 a particle, 8 to 10 a single-particle cell, 11 an electrolyte, 12 a Doyle-Fuller-Newman cell
 pub particle-build-read-back : (s a : List ℕ) → B.buildReturn 7 s (length a) ≡ 0 → particleAt (B.buildAfter 7 s a) 0 ≡ particleMade s .particle
 unfolding B.buildReturn B.buildAfter buildLength builtLength
 particle-build-read-back s a h =
-    let c = accepted s a 88 600 (newReturn 7 s) (newAfter 7 s a) h in
-    ap particleIn (c .writes) ∙ particle-built s a (c .refusal) (rw (c .answer) (le-refl 600)) .whole
+    let c = accepted s a 88 particleBytes (newReturn 7 s) (newAfter 7 s a) h in
+    ap particleIn (c .writes) ∙ particle-built s a (c .refusal) (rw (c .answer) (le-refl particleBytes)) .whole
 
 pub cell-build-read-back : (call : ℕ) (s a : List ℕ) → 8 ≤ call → call ≤ 10 → B.buildReturn call s (length a) ≡ 0 → cellAt (B.buildAfter call s a) ≡ cellBuilt call s .solver
 cell-build-read-back call s a m n h =
-    let c = accepted s a (buildLength call) 1256 (newReturn call s) (newAfter call s a) (sym (cell-build-return call s a m n) ∙ h) in
-    ap cellAt (cell-build-after call s a m n ∙ c .writes) ∙ cell-built call s a m n (c .refusal) (rw (c .answer) (le-refl 1256)) .whole
+    let c = accepted s a (buildLength call) cellBytes (newReturn call s) (newAfter call s a) (sym (cell-build-return call s a m n) ∙ h) in
+    ap cellAt (cell-build-after call s a m n ∙ c .writes) ∙ cell-built call s a m n (c .refusal) (rw (c .answer) (le-refl cellBytes)) .whole
 
 pub electrolyte-build-read-back : (s a : List ℕ) → B.buildReturn 11 s (length a) ≡ 0 → electrolyteAt (B.buildAfter 11 s a) ≡ electrolyteBuilt s .state
 unfolding B.buildReturn B.buildAfter buildLength builtLength
 electrolyte-build-read-back s a h =
-    let c = accepted s a 128 896 (newReturn 11 s) (newAfter 11 s a) h in
-    ap electrolyteAt (c .writes) ∙ electrolyte-built s a (c .refusal) (rw (c .answer) (le-refl 896)) .whole
+    let c = accepted s a 128 electrolyteBytes (newReturn 11 s) (newAfter 11 s a) h in
+    ap electrolyteAt (c .writes) ∙ electrolyte-built s a (c .refusal) (rw (c .answer) (le-refl electrolyteBytes)) .whole
 
 pub dfn-build-read-back : (s a : List ℕ) → B.buildReturn 12 s (length a) ≡ 0 → I.cellAt (B.buildAfter 12 s a) ≡ dfnMade s .cell
 unfolding B.buildReturn B.buildAfter buildLength builtLength
 dfn-build-read-back s a h =
-    let c = accepted s a 512 9008 (newReturn 12 s) (newAfter 12 s a) h in
-    ap I.cellAt (c .writes) ∙ dfn-built s a (c .refusal) (rw (c .answer) (le-refl 9008)) .whole
+    let c = accepted s a 512 dfnBytes (newReturn 12 s) (newAfter 12 s a) h in
+    ap I.cellAt (c .writes) ∙ dfn-built s a (c .refusal) (rw (c .answer) (le-refl dfnBytes)) .whole
 
 -- the ready records: 1 to 3 a sheet, 4 an electrolyte's parameters, 5 and 6 those of a Doyle-Fuller-Newman cell
 pub ready-sheet-read-back : (call : ℕ) (s a : List ℕ) → 1 ≤ call → call ≤ 3 → B.buildReturn call s (length a) ≡ 0 → sheetAt (B.buildAfter call s a) 0 ≡ readySheet call

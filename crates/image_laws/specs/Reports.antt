@@ -18,6 +18,7 @@ use Rattle.dfn_images.specs.Images as D
 use Rattle.image_laws.specs.Words.{word-read-back}
 use Rattle.image_laws.specs.Encodable.{EncodableRow}
 use Rattle.image_laws.specs.Rows.{Writes, same-below, same-float, writes-then, writes-word, writes-places, place-read-back}
+use Rattle.image_layout.specs.Layout.{cellCutoff, cellSubSteps, dfnCutoff, dfnNewton, cellStepBytes, dfnStepBytes}
 
 -- ---- how a report is read
 -- of a single-particle cell, from word 157 on
@@ -30,7 +31,7 @@ cellReportAt s = record {
   «theta_neg_avg» = floatAt s 161;
   «theta_pos_avg» = floatAt s 162;
   «time_s» = floatAt s 163;
-  cutoff = eqb (wordAt s 164) 1;
+  cutoff = eqb (wordAt s cellCutoff) 1;
 }
 
 -- of a Doyle-Fuller-Newman cell, from word 1126 on
@@ -42,8 +43,8 @@ dfnReportAt s = record {
   «theta_neg» = floatAt s 1129;
   «theta_pos» = floatAt s 1130;
   «delta_c_e_max» = floatAt s 1131;
-  cutoff = eqb (wordAt s 1132) 1;
-  «newton_iter» = wordAt s 1133;
+  cutoff = eqb (wordAt s dfnCutoff) 1;
+  «newton_iter» = wordAt s dfnNewton;
 }
 
 -- ---- numbers, a flag and a count from word `at` on
@@ -90,7 +91,7 @@ module _ (s : List ℕ) (r : SpmState) (n : ℕ) where
   unfolding C.putReport
   writes-cell-report = writes-numbers s 157 (C.stateNumbers r) (r .cutoff) n
 
-  pub report-row-read-back : 1328 ≤ length s → EncodableRow (C.stateNumbers r) → cellReportAt (C.putReport s r n) ≡ r
+  pub report-row-read-back : cellStepBytes ≤ length s → EncodableRow (C.stateNumbers r) → cellReportAt (C.putReport s r n) ≡ r
   unfolding cellReportAt C.putReport
   report-row-read-back l h =
       let x = reported-read-back s 157 (C.stateNumbers r) (r .cutoff) n l h in
@@ -105,7 +106,7 @@ module _ (s : List ℕ) (r : SpmState) (n : ℕ) where
         flag-read-back s 157 (C.stateNumbers r) (r .cutoff) n l,
       )
 
-  pub sub-steps-word-read-back : 1328 ≤ length s → n < 2 ^ 64 → wordAt (C.putReport s r n) 165 ≡ n
+  pub sub-steps-word-read-back : cellStepBytes ≤ length s → n < 2 ^ 64 → wordAt (C.putReport s r n) cellSubSteps ≡ n
   unfolding C.putReport
   sub-steps-word-read-back l m = count-read-back s 157 (C.stateNumbers r) (r .cutoff) n l m
 
@@ -115,7 +116,7 @@ module _ (s : List ℕ) (r : DfnStep) where
   unfolding D.putReport
   writes-dfn-report = writes-numbers s 1126 (D.reportNumbers r) (r .cutoff) (r .«newton_iter»)
 
-  pub dfn-report-row-read-back : 9072 ≤ length s → EncodableRow (D.reportNumbers r) → r .«newton_iter» < 2 ^ 64 → dfnReportAt (D.putReport s r) ≡ r
+  pub dfn-report-row-read-back : dfnStepBytes ≤ length s → EncodableRow (D.reportNumbers r) → r .«newton_iter» < 2 ^ 64 → dfnReportAt (D.putReport s r) ≡ r
   unfolding dfnReportAt D.putReport
   dfn-report-row-read-back l h m =
       let x = reported-read-back s 1126 (D.reportNumbers r) (r .cutoff) (r .«newton_iter») l h in

@@ -19,6 +19,7 @@ use Rattle.electrolyte.specs.Calls as E
 use Rattle.cell_images.specs.Images.{cellAt}
 use Rattle.sheet_images.specs.Images.{sheetAt, particleAt}
 use Rattle.electrolyte_images.specs.Images.{electrolyteParamsAt, electrolyteAt}
+use Rattle.image_layout.specs.Layout.{electrolyteParamsBytes, sheetBytes, particleBytes, electrolyteBytes, cellBytes}
 
 -- 1 d_s, 2 specific_area, 3 ocp, 4 docp_dtheta, 5 sphere_volume
 unfoldable pub sheetNumber : ℕ → ElectrodeParams → Float → Outcome
@@ -69,4 +70,4 @@ numberOutcome call s x y =
 -- how many bytes that record's image has: none for a sphere's volume
 unfoldable pub numberLength : ℕ → ℕ
 numberLength call =
-    cond (leb call 4) 80 (cond (eqb call 5) 0 (cond (leb call 10) 600 (cond (leb call 12) 1256 (cond (leb call 16) 56 896))))
+    cond (leb call 4) sheetBytes (cond (eqb call 5) 0 (cond (leb call 10) particleBytes (cond (leb call 12) cellBytes (cond (leb call 16) electrolyteParamsBytes electrolyteBytes))))

@@ -6,6 +6,11 @@ use electrolyte::ElectrolyteState;
 use electrolyte_images::electrolyte_at;
 use electrolyte_images::electrolyte_params_at;
 use electrolyte_parameters::ElectrolyteParams;
+use image_layout::CELL_BYTES;
+use image_layout::ELECTROLYTE_BYTES;
+use image_layout::ELECTROLYTE_PARAMS_BYTES;
+use image_layout::PARTICLE_BYTES;
+use image_layout::SHEET_BYTES;
 use particle::ParticleDiffusion;
 use refusal::Answer;
 use sheet_images::particle_at;
@@ -104,16 +109,16 @@ pub fn number_length(call: u64) -> usize
     ensures { λ r. ⌜ r ≡ numberLength call ⌝ }
 {
     if call <= 4 {
-        80
+        SHEET_BYTES
     } else if call == 5 {
         0
     } else if call <= 10 {
-        600
+        PARTICLE_BYTES
     } else if call <= 12 {
-        1256
+        CELL_BYTES
     } else if call <= 16 {
-        56
+        ELECTROLYTE_PARAMS_BYTES
     } else {
-        896
+        ELECTROLYTE_BYTES
     }
 }

@@ -6,6 +6,7 @@ use lib.Ieee.{Float, nan}
 use Rattle.codec.specs.Words.{wordAt, putWord, floatAt, putFloat, placesAt, putRow, putPlaces}
 use Rattle.dfn_parameters.specs.declared.DfnParams.{DfnParams}
 use Rattle.dfn_parameters.specs.declared.DfnConfig.{DfnConfig}
+use Rattle.image_layout.specs.Layout.{dfnCountNeg, dfnCoefficientsNeg, dfnCountPos, dfnCoefficientsPos, dfnNodesNeg, dfnNodesPos, dfnNodesRadial, dfnVMin, dfnVMax}
 
 -- ---- a Doyle-Fuller-Newman cell's parameters: 25 numbers, then for the anode and for the cathode a count and 16 coefficients
 
@@ -44,7 +45,7 @@ paramsOf x negCount neg posCount pos = record {
 }
 
 unfoldable pub paramsAt : List ℕ → DfnParams
-paramsAt s = paramsOf (placesAt 25 s 0) (wordAt s 25) (placesAt 16 s 26) (wordAt s 42) (placesAt 16 s 43)
+paramsAt s = paramsOf (placesAt 25 s 0) (wordAt s dfnCountNeg) (placesAt 16 s dfnCoefficientsNeg) (wordAt s dfnCountPos) (placesAt 16 s dfnCoefficientsPos)
 
 unfoldable pub paramsNumbers : DfnParams → List Float
 paramsNumbers p =
@@ -55,21 +56,21 @@ paramsNumbers p =
 unfoldable pub putParams : List ℕ → DfnParams → List ℕ
 putParams s p =
     putRow
-    (putWord (putRow (putWord (putRow s 0 (paramsNumbers p)) 25 (p .«ocv_neg_count»)) 26 (p .«ocv_neg_coeffs»)) 42 (p .«ocv_pos_count»))
-    43
+    (putWord (putRow (putWord (putRow s 0 (paramsNumbers p)) dfnCountNeg (p .«ocv_neg_count»)) dfnCoefficientsNeg (p .«ocv_neg_coeffs»)) dfnCountPos (p .«ocv_pos_count»))
+    dfnCoefficientsPos
     (p .«ocv_pos_coeffs»)
 
 -- ---- its grid and voltage limits
 
 unfoldable pub configAt : List ℕ → DfnConfig
 configAt s = record {
-  «n_x_neg» = wordAt s 59;
-  «n_x_pos» = wordAt s 60;
-  «n_r» = wordAt s 61;
-  «v_min» = floatAt s 62;
-  «v_max» = floatAt s 63;
+  «n_x_neg» = wordAt s dfnNodesNeg;
+  «n_x_pos» = wordAt s dfnNodesPos;
+  «n_r» = wordAt s dfnNodesRadial;
+  «v_min» = floatAt s dfnVMin;
+  «v_max» = floatAt s dfnVMax;
 }
 
 unfoldable pub putConfig : List ℕ → DfnConfig → List ℕ
 putConfig s c =
-    putFloat (putFloat (putWord (putWord (putWord s 59 (c .«n_x_neg»)) 60 (c .«n_x_pos»)) 61 (c .«n_r»)) 62 (c .«v_min»)) 63 (c .«v_max»)
+    putFloat (putFloat (putWord (putWord (putWord s dfnNodesNeg (c .«n_x_neg»)) dfnNodesPos (c .«n_x_pos»)) dfnNodesRadial (c .«n_r»)) dfnVMin (c .«v_min»)) dfnVMax (c .«v_max»)

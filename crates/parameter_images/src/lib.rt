@@ -3,6 +3,15 @@ use codec::read_word;
 use codec::write_word;
 use dfn_parameters::DfnConfig;
 use dfn_parameters::DfnParams;
+use image_layout::DFN_COEFFICIENTS_NEG;
+use image_layout::DFN_COEFFICIENTS_POS;
+use image_layout::DFN_COUNT_NEG;
+use image_layout::DFN_COUNT_POS;
+use image_layout::DFN_NODES_NEG;
+use image_layout::DFN_NODES_POS;
+use image_layout::DFN_NODES_RADIAL;
+use image_layout::DFN_VMAX;
+use image_layout::DFN_VMIN;
 use image_rows::read_places;
 use image_rows::write_places;
 ghost use mathlib.Core.Path.{_≡_};
@@ -58,14 +67,14 @@ pub fn params_at(s: &[u8]) -> DfnParams
     let mut x = [0.0; 25];
     read_places(s, 0, &mut x);
     let mut neg = [0.0; 16];
-    read_places(s, 26, &mut neg);
+    read_places(s, DFN_COEFFICIENTS_NEG, &mut neg);
     let mut pos = [0.0; 16];
-    read_places(s, 43, &mut pos);
+    read_places(s, DFN_COEFFICIENTS_POS, &mut pos);
     params_of(
         x,
-        read_word(s, 25) as usize,
+        read_word(s, DFN_COUNT_NEG) as usize,
         neg,
-        read_word(s, 42) as usize,
+        read_word(s, DFN_COUNT_POS) as usize,
         pos,
     )
 }
@@ -108,10 +117,10 @@ pub fn put_params(s: &mut [u8], p: DfnParams)
 {
     let x = numbers_of(p);
     write_places(s, 0, &x);
-    write_word(s, 25, p.ocv_neg_count as u64);
-    write_places(s, 26, &p.ocv_neg_coeffs);
-    write_word(s, 42, p.ocv_pos_count as u64);
-    write_places(s, 43, &p.ocv_pos_coeffs);
+    write_word(s, DFN_COUNT_NEG, p.ocv_neg_count as u64);
+    write_places(s, DFN_COEFFICIENTS_NEG, &p.ocv_neg_coeffs);
+    write_word(s, DFN_COUNT_POS, p.ocv_pos_count as u64);
+    write_places(s, DFN_COEFFICIENTS_POS, &p.ocv_pos_coeffs);
 }
 
 // The grid and the voltage limits in words 59 to 63.
@@ -119,20 +128,20 @@ pub fn config_at(s: &[u8]) -> DfnConfig
     ensures { λ r. ⌜ r ≡ configAt (now (s .entry)) ⌝ }
 {
     DfnConfig {
-        n_x_neg: read_word(s, 59) as usize,
-        n_x_pos: read_word(s, 60) as usize,
-        n_r: read_word(s, 61) as usize,
-        v_min: codec::read_f64(s, 62),
-        v_max: codec::read_f64(s, 63),
+        n_x_neg: read_word(s, DFN_NODES_NEG) as usize,
+        n_x_pos: read_word(s, DFN_NODES_POS) as usize,
+        n_r: read_word(s, DFN_NODES_RADIAL) as usize,
+        v_min: codec::read_f64(s, DFN_VMIN),
+        v_max: codec::read_f64(s, DFN_VMAX),
     }
 }
 
 pub fn put_config(s: &mut [u8], c: DfnConfig)
     ensures { λ _. ⌜ now (s .exit) ≡ putConfig (now (s .entry)) c ⌝ }
 {
-    write_word(s, 59, c.n_x_neg as u64);
-    write_word(s, 60, c.n_x_pos as u64);
-    write_word(s, 61, c.n_r as u64);
-    codec::write_f64(s, 62, c.v_min);
-    codec::write_f64(s, 63, c.v_max);
+    write_word(s, DFN_NODES_NEG, c.n_x_neg as u64);
+    write_word(s, DFN_NODES_POS, c.n_x_pos as u64);
+    write_word(s, DFN_NODES_RADIAL, c.n_r as u64);
+    codec::write_f64(s, DFN_VMIN, c.v_min);
+    codec::write_f64(s, DFN_VMAX, c.v_max);
 }

@@ -5,6 +5,10 @@ use lib.Dec.{eqb}
 use Rattle.runs.specs.declared.Ending.{Ending}
 use Rattle.runs.specs.declared.Ending.the-variants.{Voltage, Time, Full, Refused}
 
+-- not ended
+abbrev pub goingOn : ℕ
+goingOn = 0
+
 abbrev pub byVoltage : ℕ
 byVoltage = 1
 
@@ -32,6 +36,6 @@ endedBy (Refused k) = record { ending = byRefusal; refusal = k }
 -- what has ended a run so far, and what that makes it: a run that nothing ended is full
 unfoldable pub endingOf : ℕ → ℕ → Ended
 endingOf over k =
-    cond (eqb over 0) (record { ending = byFull; refusal = 0 })
-    (cond (eqb over 1) (record { ending = byVoltage; refusal = 0 })
-    (cond (eqb over 2) (record { ending = byTime; refusal = 0 }) (record { ending = byRefusal; refusal = k })))
+    cond (eqb over goingOn) (record { ending = byFull; refusal = 0 })
+    (cond (eqb over byVoltage) (record { ending = byVoltage; refusal = 0 })
+    (cond (eqb over byTime) (record { ending = byTime; refusal = 0 }) (record { ending = byRefusal; refusal = k })))

@@ -10,6 +10,7 @@ use lib.Ieee.{Float, nan}
 use borrow.Author.Tests.{eq-eqb, ne-eqb}
 use Rattle.array_update.specs.ArrayUpdate.{placesBy}
 use Rattle.runs.specs.Rows.{runAfter, rowsAfter}
+use Rattle.runs.specs.Endings.{byRefusal}
 
 module _ {S : Type 0} (over : S → ℕ) (turned : S → S) (row : S → List Float) (s : S) where
   abbrev after : ℕ → S
@@ -33,17 +34,17 @@ module _ {S : Type 0} (over : S → ℕ) (turned : S → S) (row : S → List Fl
   rows-stay k zero l h = rw add-zero
   rows-stay k (suc d) l h = rw (add-suc, run-stays k d h, ne-eqb _ _ h) (rows-stay k d l h)
 
-  rows-more : (k : ℕ) (l : List Float) → over (after k) ≡ 0 → (over (after (k + 1)) ≡ 4 → ⊥)
+  rows-more : (k : ℕ) (l : List Float) → over (after k) ≡ 0 → (over (after (k + 1)) ≡ byRefusal → ⊥)
       → rows (k + 1) l ≡ placesBy (k * 8) 8 (λ j. getD (row (after (k + 1))) j nan) (rows k l)
   unfolding rowsAfter
   rows-more k l h g =
-      let g′ : over (after (suc k)) ≡ 4 → ⊥ = rw add-one at g in
+      let g′ : over (after (suc k)) ≡ byRefusal → ⊥ = rw add-one at g in
       rw (add-one, eq-eqb _ _ h, ne-eqb _ _ g′)
 
-  rows-refused : (k : ℕ) (l : List Float) → over (after k) ≡ 0 → over (after (k + 1)) ≡ 4 → rows (k + 1) l ≡ rows k l
+  rows-refused : (k : ℕ) (l : List Float) → over (after k) ≡ 0 → over (after (k + 1)) ≡ byRefusal → rows (k + 1) l ≡ rows k l
   unfolding rowsAfter
   rows-refused k l h g =
-      let g′ : over (after (suc k)) ≡ 4 = rw add-one at g in
+      let g′ : over (after (suc k)) ≡ byRefusal = rw add-one at g in
       rw (add-one, eq-eqb _ _ h, eq-eqb _ _ g′)
 
   -- i turns are made and the run goes on
@@ -74,10 +75,10 @@ module _ {S : Type 0} (over : S → ℕ) (turned : S → S) (row : S → List Fl
     next x′ e = rw (e, run-more i on-at, g .state)
 
     -- the slice after a row
-    row-put : (x′ : S) (r out′ : List Float) → x′ ≡ turned x → (over x′ ≡ 4 → ⊥) → r ≡ row x′
+    row-put : (x′ : S) (r out′ : List Float) → x′ ≡ turned x → (over x′ ≡ byRefusal → ⊥) → r ≡ row x′
         → out′ ≡ placesBy (i * 8) 8 (λ j. getD r j nan) out → out′ ≡ rows (i + 1) out₀
     row-put x′ r out′ e h q o =
-        let h′ : over (after (i + 1)) ≡ 4 → ⊥ = rw (next x′ e) at h in
+        let h′ : over (after (i + 1)) ≡ byRefusal → ⊥ = rw (next x′ e) at h in
         rw (rows-more i out₀ on-at h′, o, q, next x′ e, g .places)
 
     -- over after i + 1 turns, over after all
@@ -86,18 +87,18 @@ module _ {S : Type 0} (over : S → ℕ) (turned : S → S) (row : S → List Fl
         let e : i + 1 + (total - (i + 1)) ≡ total = omega arith in
         (rw e at (run-stays (i + 1) (total - (i + 1)) h), rw e at (rows-stay (i + 1) (total - (i + 1)) out₀ h))
 
-    pub going-on : (x′ : S) (r out′ : List Float) → x′ ≡ turned x → (over x′ ≡ 4 → ⊥) → r ≡ row x′
+    pub going-on : (x′ : S) (r out′ : List Float) → x′ ≡ turned x → (over x′ ≡ byRefusal → ⊥) → r ≡ row x′
         → out′ ≡ placesBy (i * 8) 8 (λ j. getD r j nan) out → length out′ ≡ length out → i < total → over x′ ≡ 0 → Going out₀ total out′ x′ (i + 1)
     going-on x′ r out′ e h q o n l z =
         record { within = omega arith; state = next x′ e; on = z; places = row-put x′ r out′ e h q o; long = n ∙ g .long }
 
-    pub ends-refused : (x′ : S) → x′ ≡ turned x → over x′ ≡ 4 → i < total → Stopped out₀ total x′ out
+    pub ends-refused : (x′ : S) → x′ ≡ turned x → over x′ ≡ byRefusal → i < total → Stopped out₀ total x′ out
     ends-refused x′ e z l =
-        let z′ : over (after (i + 1)) ≡ 4 = rw (next x′ e) at z in
+        let z′ : over (after (i + 1)) ≡ byRefusal = rw (next x′ e) at z in
         let q = settled l (λ y. absurd (omega (arith, y, z′))) in
         (next x′ e ∙ sym (q .0), g .places ∙ sym (rows-refused i out₀ on-at z′) ∙ sym (q .1))
 
-    pub ends-stopped : (x′ : S) (r out′ : List Float) → x′ ≡ turned x → (over x′ ≡ 4 → ⊥) → r ≡ row x′
+    pub ends-stopped : (x′ : S) (r out′ : List Float) → x′ ≡ turned x → (over x′ ≡ byRefusal → ⊥) → r ≡ row x′
         → out′ ≡ placesBy (i * 8) 8 (λ j. getD r j nan) out → i < total → (over x′ ≡ 0 → ⊥) → Stopped out₀ total x′ out′
     ends-stopped x′ r out′ e h q o l z =
         let w = settled l (rw (next x′ e) at z) in

@@ -7,6 +7,7 @@ use lib.Dec.{eqb}
 use lib.ListN.{getD}
 use lib.Ieee.{Float, nan}
 use Rattle.array_update.specs.ArrayUpdate.{placesBy}
+use Rattle.runs.specs.Endings.{byRefusal}
 
 module _ {S : Type 0} (over : S → ℕ) (turned : S → S) (row : S → List Float) where
   -- after k turns: one that is over stays as it is
@@ -16,7 +17,7 @@ module _ {S : Type 0} (over : S → ℕ) (turned : S → S) (row : S → List Fl
 
   -- whether the turn k writes a row: the run is not over, and the step is not refused
   abbrev pub writes : ℕ → S → Bool
-  writes k s = eqb (over (runAfter k s)) 0 && not (eqb (over (runAfter (suc k) s)) 4)
+  writes k s = eqb (over (runAfter k s)) 0 && not (eqb (over (runAfter (suc k) s)) byRefusal)
 
   -- the slice l after k turns: row k in the places 8 k to 8 k + 7
   unfoldable pub rowsAfter : ℕ → S → List Float → List Float

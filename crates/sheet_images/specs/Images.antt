@@ -7,6 +7,7 @@ use Rattle.codec.specs.Words.{wordAt, putWord, floatAt, placesAt, putRow, putPl
 use Rattle.electrode.specs.declared.ElectrodeParams.{ElectrodeParams}
 use Rattle.particle.specs.declared.ParticleDiffusion.{ParticleDiffusion}
 use Rattle.kinetics.specs.declared.SpmConfig.{SpmConfig}
+use Rattle.image_layout.specs.Layout.{particleNodes, particleProfile}
 
 -- ---- a sheet from word `at` on: the chemistry, then the nine numbers
 
@@ -36,12 +37,12 @@ putSheet s at p = putRow (putWord s at (p .«electrode_type»)) (at + 1) (sheetN
 unfoldable pub particleAt : List ℕ → ℕ → ParticleDiffusion
 particleAt s at = record {
   params = sheetAt s at;
-  «n_nodes» = wordAt s (at + 10);
-  «c_s» = placesAt 64 s (at + 11);
+  «n_nodes» = wordAt s (at + particleNodes);
+  «c_s» = placesAt 64 s (at + particleProfile);
 }
 
 unfoldable pub putParticle : List ℕ → ℕ → ParticleDiffusion → List ℕ
-putParticle s at p = putRow (putWord (putSheet s at (p .params)) (at + 10) (p .«n_nodes»)) (at + 11) (p .«c_s»)
+putParticle s at p = putRow (putWord (putSheet s at (p .params)) (at + particleNodes) (p .«n_nodes»)) (at + particleProfile) (p .«c_s»)
 
 -- ---- a configuration in the first six words
 

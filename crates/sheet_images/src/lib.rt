@@ -2,6 +2,8 @@
 use codec::read_word;
 use codec::write_word;
 use electrode::ElectrodeParams;
+use image_layout::PARTICLE_NODES;
+use image_layout::PARTICLE_PROFILE;
 use image_rows::fill_64;
 use image_rows::read_places;
 use image_rows::write_places;
@@ -58,13 +60,13 @@ pub fn particle_at(s: &[u8], at: usize) -> ParticleDiffusion
     ensures { λ r. ⌜ r ≡ particleAt (now (s .entry)) at ⌝ }
 {
     let params = sheet_at(s, at);
-    let n_nodes = read_word(s, at + 10) as usize;
+    let n_nodes = read_word(s, at + PARTICLE_NODES) as usize;
     let mut p = ParticleDiffusion {
         params,
         n_nodes,
         c_s: [0.0; 64],
     };
-    fill_64(s, at + 11, &mut p.c_s);
+    fill_64(s, at + PARTICLE_PROFILE, &mut p.c_s);
     p
 }
 
@@ -74,8 +76,8 @@ pub fn put_parts(s: &mut [u8], at: usize, params: ElectrodeParams, n_nodes: usiz
     ensures { λ _. ⌜ now (s .exit) ≡ putParticle (now (s .entry)) at (particleOf params «n_nodes» (now (c .entry))) ⌝ }
 {
     put_sheet(s, at, params);
-    write_word(s, at + 10, n_nodes as u64);
-    write_places(s, at + 11, c);
+    write_word(s, at + PARTICLE_NODES, n_nodes as u64);
+    write_places(s, at + PARTICLE_PROFILE, c);
 }
 
 pub fn put_particle(s: &mut [u8], at: usize, p: ParticleDiffusion)

@@ -1,0 +1,2 @@
+-- The layout of images.
+pub mod Layout
