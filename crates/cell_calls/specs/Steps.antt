@@ -42,10 +42,10 @@ cellAfter s i dt t a =
 
 -- the same image by the cell's parts, its profiles and its clock
 abbrev pub putStepped : List ℕ → SpmParts → List Float → List Float → Float → SpmState → ℕ → List ℕ
-putStepped a q neg pos time state subSteps =
+putStepped a q cNeg cPos time state subSteps =
     putReport
     (putFloat
-    (putParticle (putParticle (putConfig a (q .config)) cellAnode (particleOf (q .neg) (q .«n_neg») neg)) cellCathode (particleOf (q .pos) (q .«n_pos») pos))
+    (putParticle (putParticle (putConfig a (q .config)) cellAnode (particleOf (q .neg) (q .«n_neg») cNeg)) cellCathode (particleOf (q .pos) (q .«n_pos») cPos))
     cellClock
     time)
     state

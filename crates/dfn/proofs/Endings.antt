@@ -29,7 +29,7 @@ use Rattle.dfn.specs.declared.DfnStepAnswer.{DfnStepAnswer}
 
 -- what moved, by its parts
 abbrev movedOf : List Float → List Float → Float → List Float → Float → Moved
-movedOf cE neg thetaNeg pos thetaPos = record { «c_e» = cE; neg = record { c = neg; theta = thetaNeg }; pos = record { c = pos; theta = thetaPos } }
+movedOf cE neg thetaNeg pos thetaPos = record { «c_e» = cE; anode = record { c = neg; theta = thetaNeg }; cathode = record { c = pos; theta = thetaPos } }
 
 module _ (d : DfnSolver) (current dt : Float) where
   first-is : (a b k : ℕ) → a ≡ cellRefusal d → b ≡ loadRefusal current dt → k ≡ firstRefusal a b → k ≡ stepRefusal d current dt

@@ -37,15 +37,15 @@ particleParams p side n current dt = record {
 -- what a step moves
 pub record Moved : Type 0 where
   pub «c_e» : List Float
-  pub neg : Solid
-  pub pos : Solid
+  pub anode : Solid
+  pub cathode : Solid
 
 -- the electrolyte and the particles of both electrodes, all from the old cell; -I at the anode, I at the cathode
 unfoldable pub movedBy : DfnSolver → Float → Float → Moved
 movedBy d current dt = record {
   «c_e» = electrolyteAfter (d .params) (d .config .«n_x_neg») (d .config .«n_x_pos») (d .«c_e») current dt;
-  neg = solidAfter (particleParams (d .params) (anodeOf (d .params)) (d .config .«n_r») (neg current) dt) (d .«c_s_neg») (d .config .«n_x_neg»);
-  pos = solidAfter (particleParams (d .params) (cathodeOf (d .params)) (d .config .«n_r») current dt) (d .«c_s_pos») (d .config .«n_x_pos»);
+  anode = solidAfter (particleParams (d .params) (anodeOf (d .params)) (d .config .«n_r») (neg current) dt) (d .«c_s_neg») (d .config .«n_x_neg»);
+  cathode = solidAfter (particleParams (d .params) (cathodeOf (d .params)) (d .config .«n_r») current dt) (d .«c_s_pos») (d .config .«n_x_pos»);
 }
 
 abbrev reportAt : DfnConfig → List Float → List Float → Float → Float → Float → Float → Float → DfnStep
@@ -60,21 +60,21 @@ reportAt g old new thetaNeg thetaPos t current v = record {
   cutoff = lt v (g .«v_min») || lt (g .«v_max») v;
 }
 
--- by the electrolyte before and after; the voltage from the new stoichiometries and the new salt at node n_x_neg / 2
+-- by the electrolyte before and after; the voltage from the new stoichiometries and the new concentration at node n_x_neg / 2
 abbrev pub reportBy : DfnParams → DfnConfig → List Float → List Float → Float → Float → Float → Float → DfnStep
 reportBy p g old new thetaNeg thetaPos t current =
     reportAt g old new thetaNeg thetaPos t current (voltageOf p thetaNeg thetaPos (getD new (g .«n_x_neg» / 2) nan) current)
 
 unfoldable pub reportOf : DfnSolver → Moved → Float → Float → DfnStep
 reportOf d m current dt =
-    reportBy (d .params) (d .config) (d .«c_e») (m .«c_e») (m .neg .theta) (m .pos .theta) (d .«time_s» ⊕ dt) current
+    reportBy (d .params) (d .config) (d .«c_e») (m .«c_e») (m .anode .theta) (m .cathode .theta) (d .«time_s» ⊕ dt) current
 
 unfoldable pub cellWith : DfnSolver → Moved → DfnStep → DfnSolver
 cellWith d m r = record {
   params = d .params;
   config = d .config;
-  «c_s_neg» = m .neg .c;
-  «c_s_pos» = m .pos .c;
+  «c_s_neg» = m .anode .c;
+  «c_s_pos» = m .cathode .c;
   «c_e» = m .«c_e»;
   «time_s» = r .«time_s»;
   voltage = r .voltage;
