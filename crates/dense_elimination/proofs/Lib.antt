@@ -1,3 +1,2 @@
--- Pivots: laws that the functions' proofs cite. Literals: the limit of a pivot is its decimal, rounded once.
+-- Laws that the functions' proofs cite.
 pub mod Pivots
-pub mod Literals
