@@ -338,6 +338,8 @@ impl DfnSolver {
     }
 
     // One step: a current in A, above 0 for a discharge, for an interval in s.
+    // WARNINGS, faults of the model that the port keeps (docs/DIFFERENCES.md): on discharge the anode fills, the cathode empties and the voltage rises; the
+    // electrolyte's salt moves the wrong way; particles are clamped. Set no limit from these rows.
     pub fn step(self, current: f64, dt: f64) -> DfnStepAnswer
         ensures { λ r. ⌜ r ≡ stepped self current dt ⌝ }
     {

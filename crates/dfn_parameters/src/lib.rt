@@ -141,7 +141,7 @@ impl DfnParams {
         }
     }
 
-    // A cell of graphite and LFP: five fields differ.
+    // A cell of graphite and LFP: five fields differ. WARNING: see `DfnSolver::step`.
     pub fn lfp_graphite() -> DfnParams
         ensures { λ r. ⌜ r ≡ lfpGraphite ⌝ }
     {

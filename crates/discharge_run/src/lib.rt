@@ -187,6 +187,7 @@ fn run_rows(w: RunSettings, first: RunState, out: &mut [f64], total: usize) -> D
 }
 
 // Discharges, or charges at a negative current, until the voltage, the time or a refusal ends the run or the slice is full.
+// WARNING: see `SpmSolver::step`; a run may sit at one voltage until its time is over.
 pub fn simulate_discharge(
     s: SpmSolver,
     current_a: f64,

@@ -62,7 +62,7 @@ impl ElectrodeParams {
         }
     }
 
-    // LiFePO4 cathode of a cell of about 3 Ah.
+    // LiFePO4 cathode of a cell of about 3 Ah. WARNING: its curve rises with lithium, so that the voltage rises during a discharge.
     pub fn lfp_cathode() -> ElectrodeParams
         ensures { λ r. ⌜ r ≡ lfpCathode ⌝ }
     {

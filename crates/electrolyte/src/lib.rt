@@ -327,6 +327,7 @@ impl ElectrolyteState {
     }
 
     // The state after one explicit step of dt seconds. j_n_neg and j_n_pos are the reactions in anode and cathode, mol/(m^3 s).
+    // WARNING: salt is not conserved where two regions meet, and what would fall below 1e-10 becomes 1e-10.
     pub fn step_concentration(self, j_n_neg: f64, j_n_pos: f64, dt: f64, temp_k: f64) -> ElectrolyteAnswer
         ensures { λ r. ⌜ r ≡ stepped self «j_n_neg» «j_n_pos» dt «temp_k» ⌝ }
     {
@@ -351,7 +352,7 @@ impl ElectrolyteState {
         }
     }
 
-    // The largest stable interval, s.
+    // The largest stable interval, s. WARNING: too long where porosities differ.
     pub fn dt_stable(self, temp_k: f64) -> refusal::Answer
         ensures { λ r. ⌜ outcomeOf r ≡ dtStable self «temp_k» ⌝ }
     {

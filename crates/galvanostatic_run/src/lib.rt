@@ -166,6 +166,7 @@ fn run_refusal(cell: DfnSolver, w: RunSettings, places: usize) -> u64
 }
 
 // Runs the cell at a current, A, by intervals of dt_s, until a voltage outside the limits, the cell's clock at max_time_s, or the end of the rows.
+// WARNING: see `DfnSolver::step`.
 pub fn run_galvanostatic(
     cell: DfnSolver,
     current_a: f64,

@@ -203,6 +203,7 @@ impl ParticleDiffusion {
     }
 
     // One explicit step: a flux into the particle, mol/(m^2 s), for an interval in s at a temperature in K.
+    // WARNING: a node that would leave 0 to c_s_max is set to that end, and the lithium beyond it is lost.
     pub fn step(self, j_n: f64, dt: f64, temp_k: f64) -> ParticleAnswer
         ensures { λ r. ⌜ r ≡ stepped self «j_n» dt «temp_k» ⌝ }
     {
@@ -248,7 +249,7 @@ impl ParticleDiffusion {
         refusal::answered(number, surface_theta(self.params, self.n_nodes, &self.c_s))
     }
 
-    // Average stoichiometry.
+    // Average stoichiometry. WARNING: wrong where the count of nodes is even.
     pub fn theta_avg(self) -> Answer
         ensures { λ r. ⌜ outcomeOf r ≡ thetaAvg self ⌝ }
     {
@@ -259,7 +260,7 @@ impl ParticleDiffusion {
         refusal::answered(number, average_theta(self.params, self.n_nodes, &self.c_s))
     }
 
-    // Average concentration, mol/m^3.
+    // Average concentration, mol/m^3. WARNING: wrong where the count of nodes is even.
     pub fn c_avg(self) -> Answer
         ensures { λ r. ⌜ outcomeOf r ≡ cAvg self ⌝ }
     {
