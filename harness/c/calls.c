@@ -493,7 +493,7 @@ static void single_particle_steps(void)
     EXPECT(1 <= pj_get_u64(report, PJ_AT_REPORT_SUB_STEPS) && pj_get_u64(report, PJ_AT_REPORT_SUB_STEPS) <= 4096);
 }
 
-static void porous_steps(void)
+static void dfn_steps(void)
 {
     static uint8_t salted[PJ_ELECTROLYTE_BYTES], dfn_step[PJ_DFN_STEP_BYTES];
     const uint8_t *dfn_report = dfn_step + PJ_AT_DFN_CELL_REPORT;
@@ -646,7 +646,7 @@ int main(void)
     new_dfn_cells();
     numbers();
     single_particle_steps();
-    porous_steps();
+    dfn_steps();
     discharges();
     galvanostatic_runs();
     refusals();

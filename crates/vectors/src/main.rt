@@ -2,12 +2,12 @@
 // they hold; then runs the worked examples that are run only. The lists stand in data/; a line is words of 16 hexadecimal digits, arguments
 // and answer, with a tab between the two. Each argument names a list: the calls that it has an answer of in every line, '|' after each, and its file.
 mod cells;
+mod dfn_cells;
 mod discharges;
 mod electrolytes;
 mod functions;
 mod list;
 mod particles;
-mod porous;
 mod ranges;
 mod rows;
 mod run_only;
@@ -115,10 +115,10 @@ fn large_line(which: u64, fd: i32, first: u64) -> bool {
         STEP_CONCENTRATION => electrolytes::step_line(fd, first),
         ELECTROLYTE_DT_STABLE => electrolytes::dt_stable_line(fd, first),
         SOLVE_DENSE => systems::line(fd, first),
-        READY_PARAMETERS => porous::ready_line(fd, first),
-        DFN_NEW => porous::new_line(fd, first),
-        DFN_STEP => porous::step_line(fd, first),
-        RUN_GALVANOSTATIC => porous::run_line(fd, first),
+        READY_PARAMETERS => dfn_cells::ready_line(fd, first),
+        DFN_NEW => dfn_cells::new_line(fd, first),
+        DFN_STEP => dfn_cells::step_line(fd, first),
+        RUN_GALVANOSTATIC => dfn_cells::run_line(fd, first),
         EXP => functions::exp_line(fd, first),
         _ => false,
     }

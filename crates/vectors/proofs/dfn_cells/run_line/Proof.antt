@@ -1,9 +1,9 @@
--- `vectors::porous::run_line` is safe and ends. Assumes nothing.
+-- `vectors::dfn_cells::run_line` is safe and ends. Assumes nothing.
 use mathlib.Core.Path.{sym}
 use lib.Seq.{length-take-le}
 use borrow.Author.Needs.{needs}
-use Rattle.vectors.proofs.porous.run_line.Statement.{statement}
-use Rattle.vectors.proofs.porous.run_line.Tie as tie
+use Rattle.vectors.proofs.dfn_cells.run_line.Statement.{statement}
+use Rattle.vectors.proofs.dfn_cells.run_line.Tie as tie
 
 next-cell-requires : tie.Need-next-cell-requires
 next-cell-requires c κs = search needs
