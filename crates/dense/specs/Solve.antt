@@ -27,8 +27,9 @@ rowLoaded a n row m = forRange 0 n (placeLoaded a n row) m
 unfoldable pub matrixLoaded : List Float → ℕ → List Float → List Float
 matrixLoaded a n m = forRange 0 n (rowLoaded a n) m
 
+-- the matrix in n rows of 32 places, the right side in 32
 unfoldable pub loaded : List Float → List Float → ℕ → System
-loaded a b n = system (matrixLoaded a n (zeros 1024)) (firstBy n (at b) (zeros 32))
+loaded a b n = system (matrixLoaded a n (zeros (n * 32))) (firstBy n (at b) (zeros 32))
 
 -- ---- the two halves. After a refusal a half holds nothing of use, and nothing looks at it.
 unfoldable pub reduced : List Float → List Float → ℕ → Tried System

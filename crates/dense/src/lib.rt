@@ -1,6 +1,6 @@
 // Dense linear systems of up to 32 unknowns: Gaussian elimination with partial pivoting, then back substitution column by
 // column. A changed translation of `solve_dense` of oxigrid's src/battery/p2d/dfn.rs. The work is done on copies: the matrix
-// in 1024 places, 32 to a row whatever the order, and the right side in 32, which becomes the solution.
+// of order n in n rows of 32 places, and the right side in 32, which becomes the solution.
 
 use dense_elimination::eliminate;
 ghost use mathlib.Core.Path.{_≡_};
@@ -8,7 +8,7 @@ ghost use Prim.Native.Nat.{_+_, _*_, _<_, _≤_};
 ghost use lib.ListN.{length};
 ghost use Rattle.iterate.specs.Iterate.{firstBy};
 ghost use Rattle.matrix_rows.specs.Loops.{forRange, outcome};
-ghost use Rattle.matrix_rows.specs.Places.{at, firstFinite, allFinite};
+ghost use Rattle.matrix_rows.specs.Places.{at, zeros, firstFinite, allFinite};
 ghost use Rattle.dense.specs.Substitution.{takenOut, substituted};
 ghost use Rattle.dense.specs.Solve.{rowLoaded, matrixLoaded, inputRefusal, solution, solutionRefusal, answer, solved};
 
@@ -19,8 +19,8 @@ pub struct Solved {
 }
 
 // Takes the unknown `col`, which is known, out of the rows above it.
-fn take_out(a: &[f64; 1024], x: &mut [f64; 32], col: usize)
-    requires { ⌜ col < 32 ⌝ }
+fn take_out(a: &[f64], x: &mut [f64; 32], col: usize)
+    requires { ⌜ (col < 32) × (col * 32 + 32 ≤ length (now a)) ⌝ }
     ensures { λ _. ⌜ now (x .exit) ≡ forRange 0 col (takenOut (now (a .entry)) col) (now (x .entry)) ⌝ }
 {
     for row in 0..col {
@@ -29,8 +29,8 @@ fn take_out(a: &[f64; 1024], x: &mut [f64; 32], col: usize)
 }
 
 // From the last unknown to the first. SINGULAR where a pivot is below 1e-14, else 0: the Rust's second test of the pivots.
-fn substitute(a: &[f64; 1024], x: &mut [f64; 32], n: usize) -> u64
-    requires { ⌜ n ≤ 32 ⌝ }
+fn substitute(a: &[f64], x: &mut [f64; 32], n: usize) -> u64
+    requires { ⌜ (n ≤ 32) × (length (now a) ≡ n * 32) ⌝ }
     ensures { λ r. ⌜ outcome r (now (x .exit)) ≡ substituted (now (a .entry)) n (now (x .entry)) ⌝ }
 {
     for k in 0..n {
@@ -68,8 +68,8 @@ fn solution_finite(x: &[f64; 32]) -> bool
 }
 
 // Copies the n places of `a` from row * n on into row `row`.
-fn load_row(m: &mut [f64; 1024], a: &[f64], row: usize, n: usize)
-    requires { ⌜ (row < 32) × ((n ≤ 32) × (row * n + n ≤ length (now a))) ⌝ }
+fn load_row(m: &mut [f64], a: &[f64], row: usize, n: usize)
+    requires { ⌜ (row < n) × ((n ≤ 32) × ((length (now m) ≡ n * 32) × (row * n + n ≤ length (now a)))) ⌝ }
     ensures { λ _. ⌜ now (m .exit) ≡ rowLoaded (now (a .entry)) n row (now (m .entry)) ⌝ }
 {
     let from = row * n;
@@ -78,8 +78,8 @@ fn load_row(m: &mut [f64; 1024], a: &[f64], row: usize, n: usize)
     }
 }
 
-fn load_matrix(m: &mut [f64; 1024], a: &[f64], n: usize)
-    requires { ⌜ (n ≤ 32) × (length (now a) ≡ n * n) ⌝ }
+fn load_matrix(m: &mut [f64], a: &[f64], n: usize)
+    requires { ⌜ (n ≤ 32) × ((length (now m) ≡ n * 32) × (length (now a) ≡ n * n)) ⌝ }
     ensures { λ _. ⌜ now (m .exit) ≡ matrixLoaded (now (a .entry)) n (now (m .entry)) ⌝ }
 {
     for row in 0..n {
@@ -108,22 +108,40 @@ fn answer(number: u64, x: [f64; 32]) -> Solved
     }
 }
 
-// Solves a system whose order, lengths and entries are fit.
+// Solves a system whose order, lengths and entries are fit, on the copy m: n rows, cleared.
+fn solve_in(m: &mut [f64], a: &[f64], b: &[f64], n: usize) -> Solved
+    requires { ⌜ (n ≤ 32) × ((now m ≡ zeros (n * 32)) × ((length (now a) ≡ n * n) × (length (now b) ≡ n))) ⌝ }
+    ensures { λ r. ⌜ r ≡ answer (solutionRefusal (now (a .entry)) (now (b .entry)) n) (solution (now (a .entry)) (now (b .entry)) n .value) ⌝ }
+{
+    load_matrix(m, a, n);
+    let mut x = [0.0; 32];
+    load_side(&mut x, b, n);
+    let stopped = eliminate(m, &mut x, n);
+    if stopped != 0 {
+        return answer(stopped, x);
+    }
+    let missing = substitute(m, &mut x, n);
+    let finite = refusal::refusal_unless(solution_finite(&x), refusal::NOT_FINITE);
+    answer(refusal::first_refusal(missing, finite), x)
+}
+
+// The same on a copy of its own, in the smallest of three arrays that holds it: at order 8 a fifth of the time would go into
+// clearing the largest.
 fn solve_fit(a: &[f64], b: &[f64], n: usize) -> Solved
     requires { ⌜ (n ≤ 32) × ((length (now a) ≡ n * n) × (length (now b) ≡ n)) ⌝ }
     ensures { λ r. ⌜ r ≡ answer (solutionRefusal (now (a .entry)) (now (b .entry)) n) (solution (now (a .entry)) (now (b .entry)) n .value) ⌝ }
 {
-    let mut m = [0.0; 1024];
-    load_matrix(&mut m, a, n);
-    let mut x = [0.0; 32];
-    load_side(&mut x, b, n);
-    let stopped = eliminate(&mut m, &mut x, n);
-    if stopped != 0 {
-        return answer(stopped, x);
+    let places = n * 32;
+    if n <= 8 {
+        let mut m = [0.0; 256];
+        return solve_in(&mut m[..places], a, b, n);
     }
-    let missing = substitute(&m, &mut x, n);
-    let finite = refusal::refusal_unless(solution_finite(&x), refusal::NOT_FINITE);
-    answer(refusal::first_refusal(missing, finite), x)
+    if n <= 16 {
+        let mut m = [0.0; 512];
+        return solve_in(&mut m[..places], a, b, n);
+    }
+    let mut m = [0.0; 1024];
+    solve_in(&mut m[..places], a, b, n)
 }
 
 // The refusal of what is handed in, in the table's order; 0 where it is none. No entry is read before the lengths are right.

@@ -1,9 +1,10 @@
 // Gaussian elimination with partial pivoting, of up to 32 unknowns: the first half of `solve_dense` of oxigrid's
-// src/battery/p2d/dfn.rs, changed. The matrix stands in 1024 places, 32 to a row whatever the order, the right side in 32.
+// src/battery/p2d/dfn.rs, changed. Order n: the matrix has n rows of 32 places, the right side 32 places.
 
 use matrix_columns::take_pivot;
 ghost use mathlib.Core.Path.{_≡_};
-ghost use Prim.Native.Nat.{_<_, _≤_};
+ghost use Prim.Native.Nat.{_+_, _*_, _<_, _≤_};
+ghost use lib.ListN.{length};
 ghost use Rattle.matrix_rows.specs.Loops.{outcome};
 ghost use Rattle.matrix_columns.specs.Columns.{system};
 ghost use Rattle.dense_elimination.specs.Elimination.{candidate, larger, eliminated};
@@ -14,8 +15,8 @@ struct Pivot {
     val: f64,
 }
 
-fn candidate(a: &[f64; 1024], row: usize, col: usize) -> Pivot
-    requires { ⌜ (row < 32) × (col < 32) ⌝ }
+fn candidate(a: &[f64], row: usize, col: usize) -> Pivot
+    requires { ⌜ (col < 32) × (row * 32 + 32 ≤ length (now a)) ⌝ }
     ensures { λ r. ⌜ r ≡ candidate (now (a .entry)) row col ⌝ }
 {
     Pivot {
@@ -36,8 +37,8 @@ fn larger(p: Pivot, q: Pivot) -> Pivot
 
 // Column by column: the largest entry on or below the diagonal is the pivot. SINGULAR where it is below 1e-14, else 0. The
 // search starts on the diagonal, where an entry is compared with itself, so that the last column has a turn to leave too.
-pub fn eliminate(a: &mut [f64; 1024], x: &mut [f64; 32], n: usize) -> u64
-    requires { ⌜ n ≤ 32 ⌝ }
+pub fn eliminate(a: &mut [f64], x: &mut [f64; 32], n: usize) -> u64
+    requires { ⌜ (n ≤ 32) × (length (now a) ≡ n * 32) ⌝ }
     ensures { λ r. ⌜ outcome r (system (now (a .exit)) (now (x .exit))) ≡ eliminated n (system (now (a .entry)) (now (x .entry))) ⌝ }
 {
     let mut refused = 0;

@@ -4,12 +4,13 @@ use matrix_rows::reduce_row;
 use matrix_rows::swap_places;
 use matrix_rows::swap_rows;
 ghost use mathlib.Core.Path.{_≡_};
-ghost use Prim.Native.Nat.{_<_, _≤_};
+ghost use Prim.Native.Nat.{_*_, _<_, _≤_};
+ghost use lib.ListN.{length};
 ghost use Rattle.matrix_columns.specs.Columns.{system, columnCleared, rowsExchanged, pivotTaken};
 
 // Clears column `col` below its pivot, on both sides.
-fn clear_column(a: &mut [f64; 1024], x: &mut [f64; 32], col: usize, n: usize)
-    requires { ⌜ (col < n) × (n ≤ 32) ⌝ }
+fn clear_column(a: &mut [f64], x: &mut [f64; 32], col: usize, n: usize)
+    requires { ⌜ (col < n) × ((n ≤ 32) × (length (now a) ≡ n * 32)) ⌝ }
     ensures { λ _. ⌜ system (now (a .exit)) (now (x .exit)) ≡ columnCleared n col (system (now (a .entry)) (now (x .entry))) ⌝ }
 {
     let pivot = a[col * 32 + col];
@@ -21,8 +22,8 @@ fn clear_column(a: &mut [f64; 1024], x: &mut [f64; 32], col: usize, n: usize)
 }
 
 // Exchanges the rows `col` and `row`, on both sides; a row with itself stays as it is.
-fn exchange_rows(a: &mut [f64; 1024], x: &mut [f64; 32], col: usize, row: usize, n: usize)
-    requires { ⌜ (col < n) × ((row < n) × (n ≤ 32)) ⌝ }
+fn exchange_rows(a: &mut [f64], x: &mut [f64; 32], col: usize, row: usize, n: usize)
+    requires { ⌜ (col < n) × ((row < n) × ((n ≤ 32) × (length (now a) ≡ n * 32))) ⌝ }
     ensures { λ _. ⌜ system (now (a .exit)) (now (x .exit)) ≡ rowsExchanged n col row (system (now (a .entry)) (now (x .entry))) ⌝ }
 {
     if row == col {
@@ -33,8 +34,8 @@ fn exchange_rows(a: &mut [f64; 1024], x: &mut [f64; 32], col: usize, row: usize,
 }
 
 // Takes the pivot of column `col` from row `row`.
-pub fn take_pivot(a: &mut [f64; 1024], x: &mut [f64; 32], col: usize, row: usize, n: usize)
-    requires { ⌜ (col < n) × ((row < n) × (n ≤ 32)) ⌝ }
+pub fn take_pivot(a: &mut [f64], x: &mut [f64; 32], col: usize, row: usize, n: usize)
+    requires { ⌜ (col < n) × ((row < n) × ((n ≤ 32) × (length (now a) ≡ n * 32))) ⌝ }
     ensures { λ _. ⌜ system (now (a .exit)) (now (x .exit)) ≡ pivotTaken n col row (system (now (a .entry)) (now (x .entry))) ⌝ }
 {
     exchange_rows(a, x, col, row, n);

@@ -1,73 +1,65 @@
--- `dense::solve_fit` meets its contract. Assumes nothing.
+-- `dense::solve_fit` meets its contract: the part of a cleared array that it lends is as many zeros. Assumes nothing.
+use Prim.Native.Nat.{_*_}
+use mathlib.Core.Path.{sym}
 use borrow.Author.Needs.{needs}
-use borrow.Author.Tests.{ne-eqb}
-use Rattle.refusal.specs.Numbers.{firstRefusal}
-use Rattle.dense.specs.Solve.{loaded, reduced, solution, solutionRefusal, answer}
+use native.Mathlib.Omega.{arith}
+use Rattle.dense.proofs.Sizes.{zeros-cut, zeros-long}
 use Rattle.dense.proofs.solve_fit.Statement.{statement}
 use Rattle.dense.proofs.solve_fit.Tie as tie
 
-load-matrix-requires : tie.Need-load-matrix-requires
-load-matrix-requires c κs = search needs
+mul-places : tie.Need-mul-places
+mul-places c = omega arith
 
-load-side-requires : tie.Need-load-side-requires
-load-side-requires c κs = search needs
+array-borrow-prefix-m : tie.Need-array-borrow-prefix-m
+array-borrow-prefix-m c = search needs
 
-eliminate-requires : tie.Need-eliminate-requires
-eliminate-requires c κs = search needs
+slice-aggregate-solve-in : tie.Need-slice-aggregate-solve-in
+slice-aggregate-solve-in c = sym (zeros-long _ _ (zeros-cut (c .before .before .before .before .args .n * 32) 256 (omega arith)))
 
-answer-requires : tie.Need-answer-requires
-answer-requires c κs = search needs
+solve-in-requires : tie.Need-solve-in-requires
+solve-in-requires c κs = (search needs, (zeros-cut (c .before .before .before .before .args .n * 32) 256 (omega arith), search needs))
 
 returns : tie.Need-returns
-unfolding solutionRefusal reduced loaded firstRefusal answer
-returns c =
-    let if1 = c .before .if1 in
-    let eliminate = c .before .before .eliminate in
-    let load-side = c .before .before .before .before .before .load-side in
-    let load-matrix = c .before .before .before .before .before .before .before .load-matrix in
-    rw (← load-matrix .ensures, ← load-side .ensures, ← eliminate .ensures, ne-eqb _ _ (if1 .taken), c .answer .ensures, ne-eqb _ _ (if1 .taken))
+returns c = c .before .solve-in .ensures
 
-substitute-requires : tie.Need-substitute-requires
-substitute-requires c κs = search needs
+array-borrow-prefix-m-2 : tie.Need-array-borrow-prefix-m-2
+array-borrow-prefix-m-2 c = search needs
 
-solution-finite-requires : tie.Need-solution-finite-requires
-solution-finite-requires c κs = search needs
+slice-aggregate-solve-in-2 : tie.Need-slice-aggregate-solve-in-2
+slice-aggregate-solve-in-2 c = sym (zeros-long _ _ (zeros-cut (c .before .before .before .before .before .args .n * 32) 512 (omega arith)))
 
-refusal-unless-requires : tie.Need-refusal-unless-requires
-refusal-unless-requires c κs = search needs
-
-first-refusal-requires : tie.Need-first-refusal-requires
-first-refusal-requires c κs = search needs
-
-answer-requires-2 : tie.Need-answer-requires-2
-answer-requires-2 c κs = search needs
+solve-in-requires-2 : tie.Need-solve-in-requires-2
+solve-in-requires-2 c κs = (search needs, (zeros-cut (c .before .before .before .before .before .args .n * 32) 512 (omega arith), search needs))
 
 returns-2 : tie.Need-returns-2
-unfolding solutionRefusal solution reduced loaded firstRefusal
-returns-2 c =
-    let first-refusal = c .before .first-refusal in
-    let refusal-unless = c .before .before .refusal-unless in
-    let solution-finite = c .before .before .before .solution-finite in
-    let substitute = c .before .before .before .before .before .substitute in
-    let if1 = c .before .before .before .before .before .before .before .before .if1 in
-    let eliminate = c .before .before .before .before .before .before .before .before .before .eliminate in
-    let load-side = c .before .before .before .before .before .before .before .before .before .before .before .before .load-side in
-    let load-matrix = c .before .before .before .before .before .before .before .before .before .before .before .before .before .before .load-matrix in
-    rw (← load-matrix .ensures, ← load-side .ensures, ← eliminate .ensures, if1 .left, ← substitute .ensures, c .answer2 .ensures, first-refusal .ensures, refusal-unless .ensures,
-        solution-finite .ensures)
+returns-2 c = c .before .solve-in2 .ensures
+
+array-borrow-prefix-m-3 : tie.Need-array-borrow-prefix-m-3
+array-borrow-prefix-m-3 c = search needs
+
+slice-aggregate-solve-in-3 : tie.Need-slice-aggregate-solve-in-3
+slice-aggregate-solve-in-3 c = sym (zeros-long _ _ (zeros-cut (c .before .before .before .before .before .args .n * 32) 1024 (omega arith)))
+
+solve-in-requires-3 : tie.Need-solve-in-requires-3
+solve-in-requires-3 c κs = (search needs, (zeros-cut (c .before .before .before .before .before .args .n * 32) 1024 (omega arith), search needs))
+
+returns-3 : tie.Need-returns-3
+returns-3 c = c .before .solve-in3 .ensures
 
 pub solve-fit-spec : {M : Type 1} → statement M
 solve-fit-spec =
     tie.close
     (tie.spec
-    load-matrix-requires
-    load-side-requires
-    eliminate-requires
-    answer-requires
+    mul-places
+    array-borrow-prefix-m
+    slice-aggregate-solve-in
+    solve-in-requires
     returns
-    substitute-requires
-    solution-finite-requires
-    refusal-unless-requires
-    first-refusal-requires
-    answer-requires-2
-    returns-2)
+    array-borrow-prefix-m-2
+    slice-aggregate-solve-in-2
+    solve-in-requires-2
+    returns-2
+    array-borrow-prefix-m-3
+    slice-aggregate-solve-in-3
+    solve-in-requires-3
+    returns-3)

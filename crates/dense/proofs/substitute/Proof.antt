@@ -32,8 +32,8 @@ add-pivot c = omega arith
 mul-pivot-2 : tie.Need-mul-pivot-2 Inv-loop μ-loop
 mul-pivot-2 c = omega arith
 
-element-copy-out-pivot : tie.Need-element-copy-out-pivot Inv-loop μ-loop
-element-copy-out-pivot c = omega arith
+shared-slice-read-pivot : tie.Need-shared-slice-read-pivot Inv-loop μ-loop
+shared-slice-read-pivot c = omega arith
 
 abs-requires : tie.Need-abs-requires Inv-loop μ-loop
 abs-requires c κs = search needs
@@ -78,7 +78,7 @@ loop-again c =
 returns-2 : tie.Need-returns-2 Inv-loop μ-loop
 unfolding substituted
 returns-2 c =
-    let e : c .before .loop .k ≡ c .before .before .args .n = omega arith in
+    let e : c .before .loop .k ≡ c .before .before .before .args .n = omega arith in
     rw e at (c .before .loop .inv .1)
 
 pub substitute-spec : {M : Type 1} → statement M
@@ -93,7 +93,7 @@ substitute-spec =
     mul-pivot
     add-pivot
     mul-pivot-2
-    element-copy-out-pivot
+    shared-slice-read-pivot
     abs-requires
     returns
     mul-x

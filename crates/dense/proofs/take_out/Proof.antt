@@ -32,14 +32,14 @@ add-x c = omega arith
 mul-x-3 : tie.Need-mul-x-3 Inv-loop μ-loop
 mul-x-3 c = omega arith
 
-element-copy-out-x-2 : tie.Need-element-copy-out-x-2 Inv-loop μ-loop
-element-copy-out-x-2 c = omega arith
+shared-slice-read-x : tie.Need-shared-slice-read-x Inv-loop μ-loop
+shared-slice-read-x c = omega arith
 
 mul-x-4 : tie.Need-mul-x-4 Inv-loop μ-loop
 mul-x-4 c = omega arith
 
-element-copy-out-x-3 : tie.Need-element-copy-out-x-3 Inv-loop μ-loop
-element-copy-out-x-3 c = omega arith
+element-copy-out-x-2 : tie.Need-element-copy-out-x-2 Inv-loop μ-loop
+element-copy-out-x-2 c = omega arith
 
 mul-x-5 : tie.Need-mul-x-5 Inv-loop μ-loop
 mul-x-5 c = omega arith
@@ -74,9 +74,9 @@ take-out-spec =
     mul-x-2
     add-x
     mul-x-3
-    element-copy-out-x-2
+    shared-slice-read-x
     mul-x-4
-    element-copy-out-x-3
+    element-copy-out-x-2
     mul-x-5
     element-write-x
     add-row

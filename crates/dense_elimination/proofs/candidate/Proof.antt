@@ -14,8 +14,8 @@ add-abs c = omega arith
 mul-abs-2 : tie.Need-mul-abs-2
 mul-abs-2 c = omega arith
 
-element-copy-out-abs : tie.Need-element-copy-out-abs
-element-copy-out-abs c = omega arith
+shared-slice-read-abs : tie.Need-shared-slice-read-abs
+shared-slice-read-abs c = omega arith
 
 abs-requires : tie.Need-abs-requires
 abs-requires c κs = search needs
@@ -26,4 +26,4 @@ returns c = rw (c .abs .ensures)
 
 pub candidate-spec : {M : Type 1} → statement M
 candidate-spec =
-    tie.close (tie.spec mul-abs add-abs mul-abs-2 element-copy-out-abs abs-requires returns)
+    tie.close (tie.spec mul-abs add-abs mul-abs-2 shared-slice-read-abs abs-requires returns)

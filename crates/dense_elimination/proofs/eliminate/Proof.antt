@@ -1,10 +1,11 @@
--- `dense_elimination::eliminate` meets its contract. Before a turn of the columns, those before it are eliminated and none was refused; before a turn of the
--- search, p is the pivot of the rows before it, and once every row is looked at it is not below the limit. Assumes nothing.
+-- `dense_elimination::eliminate` meets its contract. Before a turn of the columns, those before it are eliminated, none was refused and the matrix is as long as it was;
+-- before a turn of the search, p is the pivot of the rows before it, and once every row is looked at it is not below the limit. Assumes nothing.
 use Prim.Native.Nat.{_≤_, _+_, _-_}
 use mathlib.Core.Path.{_≡_, refl, sym, _∙_}
 use mathlib.Core.Bool.{false}
 use mathlib.Core.Logic.{⊎-elim}
 use native.Mathlib.Omega.{arith}
+use lib.ListN.{length}
 use borrow.Author.Needs.{needs}
 use Rattle.matrix_rows.specs.Loops.{outcome, tryRange, try-none, try-next, try-ends}
 use Rattle.matrix_columns.specs.Columns.{system}
@@ -20,7 +21,7 @@ abbrev μ-loop : tie.MeasureT-loop
 μ-loop a x n refused₀ col p₀ row₀ refused p row = n - row
 
 abbrev Inv-columns : tie.InvT-columns
-Inv-columns a₀ x₀ n refused₀ col₀ a x refused col = (col ≤ n) × ((refused ≡ 0) × (outcome 0 (system a x) ≡ tryRange col (columnDone n) (system a₀ x₀)))
+Inv-columns a₀ x₀ n refused₀ col₀ a x refused col = (col ≤ n) × ((refused ≡ 0) × ((length a ≡ length a₀) × (outcome 0 (system a x) ≡ tryRange col (columnDone n) (system a₀ x₀))))
 
 abbrev μ-columns : tie.MeasureT-columns
 μ-columns a₀ x₀ n refused₀ col₀ a x refused col = n - col
@@ -33,7 +34,7 @@ larger-is c =
     rw (c .larger .ensures, candidate2 .ensures, loop .inv .1 .1 .1 .0) (pivot-next _ _ _ (loop .inv .0))
 
 columns-holds : tie.Need-columns-holds Inv-loop μ-loop Inv-columns μ-columns
-columns-holds c = (search needs, (refl, rw try-none))
+columns-holds c = (search needs, (refl, (refl, rw try-none)))
 
 candidate-requires : tie.Need-candidate-requires Inv-loop μ-loop Inv-columns μ-columns
 candidate-requires c κs = search needs
@@ -65,7 +66,7 @@ take-pivot-requires : tie.Need-take-pivot-requires Inv-loop μ-loop Inv-columns 
 take-pivot-requires c κs =
     let loop = c .before .before .before .loop in
     let columns-test = c .before .before .before .before .before .before .columns-test in
-    let args = c .before .before .before .before .before .before .before .before .args in
+    let args = c .before .before .before .before .before .before .before .before .before .args in
     let e : loop .row ≡ args .n = omega arith in
     (search needs, (rw (loop .inv .1 .1 .1 .0, e) (pivot-row _ _ _ (columns-test .taken)), search needs))
 
@@ -77,19 +78,24 @@ columns-less c = search needs
 
 columns-again : tie.Need-columns-again Inv-loop μ-loop Inv-columns μ-columns
 columns-again c =
-    let loop = c .before .before .before .before .loop in
-    let columns = c .before .before .before .before .before .before .before .before .columns in
-    let args = c .before .before .before .before .before .before .before .before .before .args in
-    let e : loop .row ≡ args .n = omega arith in
-    (search needs, (loop .inv .1 .1 .0,
-        rw (c .take-pivot .ensures) (sym (try-next _ _ _ _ (columns .inv .1 .1) ∙ column-some _ _ (system (columns .a) (columns .x)) _ (rw e at (loop .inv .1 .1 .1 .0))
-        (loop .inv .1 .1 .1 .1 e)))))
+    let turn = c .before .before .before .before .before .before .before .before .before .before .columns in
+    let found = c .before .before .before .before .before .before .loop in
+    let taken = c .before .before .take-pivot in
+    let e : found .row ≡ c .before .before .before .before .before .before .before .before .before .before .before .before .args .n = omega arith in
+    let some = column-some _ _ (system (turn .a) (turn .x)) _ (rw e at (found .inv .1 .1 .1 .0)) (found .inv .1 .1 .1 .1 e) in
+    (search needs, (found .inv .1 .1 .0, (taken .kept .0 ∙ turn .inv .1 .1 .0, rw (taken .ensures) (sym (try-next _ _ _ _ (turn .inv .1 .1 .1) ∙ some)))))
+
+same-length : tie.Need-same-length Inv-loop μ-loop Inv-columns μ-columns
+same-length c = c .before .columns .inv .1 .1 .0
 
 returns : tie.Need-returns Inv-loop μ-loop Inv-columns μ-columns
 unfolding eliminated
 returns c =
-    let e : c .before .columns .col ≡ c .before .before .args .n = omega arith in
-    rw (c .before .columns .inv .1 .0) (rw e at (c .before .columns .inv .1 .1))
+    let e : c .before .columns .col ≡ c .before .before .before .args .n = omega arith in
+    rw (c .before .columns .inv .1 .0) (rw e at (c .before .columns .inv .1 .1 .1))
+
+same-length-2 : tie.Need-same-length-2 Inv-loop μ-loop Inv-columns μ-columns
+same-length-2 c = c .before .before .before .before .before .before .before .before .before .before .before .columns .inv .1 .1 .0
 
 returns-2 : tie.Need-returns-2 Inv-loop μ-loop Inv-columns μ-columns
 unfolding eliminated
@@ -98,7 +104,7 @@ returns-2 c =
     let if1 = c .before .before .if1 in
     let columns-test = c .before .before .before .before .before .before .before .before .before .before .columns-test in
     let columns = c .before .before .before .before .before .before .before .before .before .before .before .columns in
-    try-ends _ _ _ (columns .col) _ _ (columns-test .taken) (λ z. absurd (omega (arith, z))) (columns .inv .1 .1)
+    try-ends _ _ _ (columns .col) _ _ (columns-test .taken) (λ z. absurd (omega (arith, z))) (columns .inv .1 .1 .1)
     (column-none _ _ (system (columns .a) (columns .x)) _ (rw (if1 .taken) at (larger-is (before))) (c .if2 .taken))
 
 pub eliminate-spec : {M : Type 1} → statement M
@@ -122,5 +128,7 @@ eliminate-spec =
     add-col
     columns-less
     columns-again
+    same-length
     returns
+    same-length-2
     returns-2)
