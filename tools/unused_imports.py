@@ -34,7 +34,7 @@ def unused(path):
     edits = "\n".join(edits_of(path))
     rest = USE.sub("", text + "\n" + edits)
     if path.suffix == ".rt":
-        rest = re.sub(r"[^\w'≡≤<≥>]", lambda m: m.group() if ord(m.group()) > 127 else f" {m.group()} ", rest)
+        rest = re.sub(r"&&|\|\||\+\+|[^\w'≡≤<≥>]", lambda m: m.group() if ord(m.group()[0]) > 127 else f" {m.group()} ", rest)
     used = set()
     for word in words(rest):
         used.add(word)

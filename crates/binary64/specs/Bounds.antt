@@ -16,14 +16,14 @@ use Rattle.fraction.specs.Integer.{pos-≤, ≤-pos}
 use Rattle.fraction.specs.Fraction.{Fraction, whole, nat, pow2, negF, _*F_, _≈F_, _within_}
 use Rattle.fraction.specs.Field.{nn-natF, ≈F-sym, ≤F-of-≈F, ≤F-trans}
 use Rattle.fraction.specs.Certificate.{quote, le-by, up as gap, hi, lo, eqn, _⊞_, _⊠_, _·_}
-use Rattle.fraction.specs.Inverse.{inv-nn, mul-cancel}
+use Rattle.fraction.specs.Inverse.{mul-cancel}
 use Rattle.fraction.specs.Order.{pow2-pos, pow2-add}
-use Rattle.fraction.specs.Size.{Size, size-pos, size-mul, size-inv}
-use Rattle.fraction.specs.Within.{within-resp, within-weaken, within-neg, within-self, within-mul}
-use Rattle.binary64.specs.Operators.{_⊗_, _⊘_, negative}
-use Rattle.binary64.specs.OrderLaws.{stays, positive-num}
+use Rattle.fraction.specs.Size.{Size}
+use Rattle.fraction.specs.Within.{within-weaken, within-self, within-mul}
+use Rattle.binary64.specs.Operators.{_⊗_, negative}
+use Rattle.binary64.specs.OrderLaws.{stays}
 use Rattle.binary64.specs.Range.{Most, Within, Sized}
-use Rattle.binary64.specs.Rounds.{Rounds, mul-rounds, div-rounds}
+use Rattle.binary64.specs.Rounds.{Rounds, mul-rounds}
 use Rattle.binary64.specs.Sign.{neg-finite}
 use Rattle.binary64.specs.Value.{ratio, val, val-is, val-neg, ratio-le, ratio-nn, ratio-same, signed-within, signed-size}
 
@@ -31,9 +31,6 @@ use Rattle.binary64.specs.Value.{ratio, val, val-is, val-neg, ratio-le, 
 pub record Bounded (r : Float) (B : Fraction) : Type 0 where
   pub fine : T (finite r)
   pub size : val r within B
-
-pub neg-bounded : {x : Float} {B : Fraction} → Bounded x B → Bounded (neg x) B
-neg-bounded {x} h = record { fine = rw (neg-finite x) (h .fine); size = within-resp (≈F-sym (val-neg x)) (within-neg (h .size)) }
 
 -- ---- by a float
 pub rounds-bounded : {Q : Fraction} {r : Float} (h : Float) → Rounds Q r → T (finite h) → T (fits binary64 h) → Q within val h → Bounded r (val h)
@@ -106,19 +103,8 @@ rounds-scaled {Q} {r} {e} {f} h s l m =
     low-finite (suc e) = tt
 
 -- ---- products and quotients
-pub scaled-mul : {x y : Float} {e f e' f' : ℕ} → Scaled x e f → Scaled y e' f' → T (leb (e + e') 1074) → T (leb (f + f') 1023) → Scaled (x ⊗ y) (e + e') (f + f')
-scaled-mul {x} {y} {e} {f} {e'} {f'} h k l m = rounds-scaled (mul-rounds x y (h .fine) (k .fine)) (size-mul (h .size) (k .size)) (leb→le (e + e') 1074 l) (leb→le (f + f') 1023 m)
-
-pub scaled-div : {x y : Float} {e f e' f' : ℕ} → Scaled x e f → Scaled y e' f' → T (leb (e + f') 1074) → T (leb (f + e') 1023) → Scaled (x ⊘ y) (e + f') (f + e')
-scaled-div {x} {y} {e} {f} {e'} {f'} h k l m = rounds-scaled (div-rounds x y (h .fine) (k .fine) (positive-num y (size-pos (k .size)))) (size-mul (h .size) (size-inv (k .size))) (leb→le (e + f') 1074 l) (leb→le (f + e') 1023 m)
-
 pub bounded-mul : {x y : Float} (f g : ℕ) → Bounded x (pow2 f) → Bounded y (pow2 g) → T (leb (f + g) 1023) → Bounded (x ⊗ y) (pow2 (f + g))
 bounded-mul {x} {y} f g h k l = bounded-pow (f + g) (mul-rounds x y (h .fine) (k .fine)) (within-weaken (within-mul (h .size) (k .size)) (≤F-of-≈F (≈F-sym (pow2-add f g)))) (leb→le (f + g) 1023 l)
-
-pub bounded-div : {x y : Float} (f : ℕ) {e' f' : ℕ} → Bounded x (pow2 f) → Scaled y e' f' → T (leb (f + e') 1023) → Bounded (x ⊘ y) (pow2 (f + e'))
-bounded-div {x} {y} f {e'} {f'} h k l =
-    let i = within-weaken (within-self (inv-nn (size-pos (k .size)))) (size-inv (k .size) .high) in
-    bounded-pow (f + e') (div-rounds x y (h .fine) (k .fine) (positive-num y (size-pos (k .size)))) (within-weaken (within-mul (h .size) i) (≤F-of-≈F (≈F-sym (pow2-add f e')))) (leb→le (f + e') 1023 l)
 
 -- ---- the ranges of `Range`
 pub most-bounded : {x : Float} {s : Bool} {A C : ℕ} (h : Most x s A C) → Bounded x (ratio A C (h .over))

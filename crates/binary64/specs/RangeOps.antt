@@ -7,7 +7,7 @@ use native.Mathlib.Nat.{le-trans, le-of-eq, le-refl, lt-of-lt-of-le, lt-of-mul-l
 use native.Mathlib.Omega.{arith}
 use mathlib.Core.Bool.{Bool, true, false, not, _||_}
 use lib.Dec.{T, ltb, leb, ltb→lt, leb→le, le→leb}
-use lib.Ieee.{Float, binary64, unlike, neg}
+use lib.Ieee.{Float, binary64, unlike}
 use lib.Ieee.Positive.{num, den, den-pos, first-pos}
 use Rattle.binary64.specs.Operators.{_⊕_, _⊖_, _⊗_, _⊘_, count, negative}
 use Rattle.binary64.specs.Opened.{mul-is, div-is, sub-is, plus, minus, Summed, add-summed}
@@ -202,17 +202,6 @@ sub-most {x} {y} h k G H e l = subst (λ (z : Float). Sized z G H) (sym (sub-is 
 pub sub-over : {x y : Float} {s t : Bool} {A C B E A' C' : ℕ} → Between x s A C B E → Most y t A' C' → (G H K J : ℕ) → T (ltb 0 K || not s) → T (exact G H) → T (exact K J)
     → T (leb ((A * C' + A' * C) * H) (G * (C * C'))) → T (leb ((K * C' + A' * J) * E) (B * (J * C'))) → Between (x ⊖ y) s G H K J
 sub-over {x} {y} {s} h k G H K J z e e' l m = subst (λ (w : Float). Between w s G H K J) (sym (sub-is binary64 x y)) (add-over h (neg-most k) G H K J z e e' l m)
-
--- of opposite signs
-pub sub-unlike : {x y : Float} {s : Bool} {A C B E A' C' B' E' : ℕ} → Between x s A C B E → Between y (not s) A' C' B' E' → (G H K J : ℕ) → T (exact G H) → T (exact K J)
-    → T (leb ((A * C' + A' * C) * H) (G * (C * C'))) → T (leb (K * (E * E')) ((B * E' + B' * E) * J)) → Between (x ⊖ y) s G H K J
-sub-unlike {x} {y} {s} {A' = A'} {C'} {B'} {E'} h k G H K J e e' l m =
-    subst (λ (w : Float). Between w s G H K J) (sym (sub-is binary64 x y))
-    (add-alike h (subst (λ (b : Bool). Most (neg y) b A' C') (not-not s) (neg-most (k .0)), neg-least (k .1)) G H K J e e' l m)
-  where
-    not-not : (s : Bool) → not (not s) ≡ s
-    not-not true = refl
-    not-not false = refl
 
 -- of one sign
 pub sub-alike : {x y : Float} {s : Bool} {A C B E A' C' B' E' : ℕ} → Between x s A C B E → Between y s A' C' B' E' → (G H : ℕ) → T (exact G H)

@@ -1,10 +1,9 @@
 -- The image of a single-particle cell (157 words), and what a step adds to it.
-use Prim.Native.Nat.{ℕ, _+_}
+use Prim.Native.Nat.{ℕ}
 use mathlib.Core.Bool.{cond}
 use mathlib.Core.List.{List, [], _∷_}
-use lib.ListN.{length}
 use lib.Ieee.{Float}
-use Rattle.codec.specs.Words.{putWord, floatAt, putFloat, putRow, putPlaces}
+use Rattle.codec.specs.Words.{putWord, floatAt, putFloat, putRow}
 use Rattle.sheet_images.specs.Images.{particleAt, putParticle, configAt, putConfig}
 use Rattle.solver.specs.declared.SpmSolver.{SpmSolver}
 use Rattle.solver_report.specs.declared.SpmState.{SpmState}

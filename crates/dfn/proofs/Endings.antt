@@ -16,7 +16,7 @@ use Rattle.dfn_parameters.specs.declared.DfnParams.{DfnParams}
 use Rattle.dfn_parameters.specs.declared.DfnConfig.{DfnConfig}
 use Rattle.dfn_parameters.specs.declared.Side.{Side}
 use Rattle.dfn_electrolyte.specs.Electrolyte.{electrolyteAfter}
-use Rattle.dfn_places.specs.Places.{allFinite}
+use Rattle.arrays.specs.Places.{allFinite}
 use Rattle.dfn_solid.specs.Solid.{solidUpdate}
 use Rattle.dfn_solid.specs.declared.ParticleParams.{ParticleParams}
 use Rattle.dfn_solid.specs.declared.SolidUpdate.{SolidUpdate}

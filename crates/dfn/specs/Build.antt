@@ -9,7 +9,7 @@ use Rattle.refusal.specs.Numbers.{firstRefusal, refusalUnless, grid, sheet}
 use Rattle.dfn_parameters.specs.Ranges.{parametersFit, gridFits, limitsFit}
 use Rattle.dfn_parameters.specs.declared.DfnParams.{DfnParams}
 use Rattle.dfn_parameters.specs.declared.DfnConfig.{DfnConfig}
-use Rattle.dfn_places.specs.Places.{filled}
+use Rattle.arrays.specs.Places.{filled}
 use Rattle.dfn.specs.Checks.{usedNeg, usedPos, usedElectrolyte}
 use Rattle.dfn.specs.declared.DfnSolver.{DfnSolver}
 use Rattle.dfn.specs.declared.DfnBuildAnswer.{DfnBuildAnswer}

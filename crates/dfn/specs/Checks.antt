@@ -5,19 +5,19 @@ use mathlib.Core.Bool.{Bool, true, false, not, _&&_}
 use mathlib.Core.List.{List}
 use borrow.Author.Tests.{not-false}
 use native.Mathlib.Nat.{zero-lt-suc}
-use lib.Dec.{T, leb, ltb, leb→le}
-use lib.ListN.{getD}
-use lib.Ieee.{Float, nan}
+use lib.Dec.{T, leb, leb→le}
+use lib.Ieee.{Float, neg}
 use lib.Ieee.Fits.{and-l, and-r}
 use Rattle.refusal.specs.Numbers.{firstRefusal, refusalUnless, grid, sheet, load, interval, neither-refused, passed}
-use Rattle.refusal.specs.Ranges.{loadFits, intervalFits, clockFits}
-use Rattle.iterate.specs.Iterate.{allBelow}
-use Rattle.dfn_parameters.specs.Ranges.{numbersFit, coefficientFits, coefficientsFit, parametersFit, gridFits, limitsFit}
+use Rattle.refusal.specs.Ranges.{inRange, countInRange, loadFits, intervalFits, clockFits}
+use Rattle.refusal.specs.Chains.{count-between}
+use Rattle.arrays.specs.Places.{placesFit}
+use Rattle.dfn_parameters.specs.Ranges.{numbersFit, coefficientsFit, parametersFit, gridFits, limitsFit}
 use Rattle.dfn_parameters.specs.declared.DfnParams.{DfnParams}
 use Rattle.dfn_parameters.specs.declared.DfnConfig.{DfnConfig}
 use Rattle.dfn_places.specs.Places.{solidFits, electrolyteFits}
 use Rattle.dfn.specs.declared.DfnSolver.{DfnSolver}
-use Rattle.binary64.specs.Literals.{«1e6»}
+use Rattle.binary64.specs.Literals.{«1000·0», «1e6»}
 
 -- how many places are used
 abbrev pub usedNeg : DfnConfig → ℕ
@@ -73,24 +73,13 @@ pub record Valid (d : DfnSolver) : Type 0 where
 
 pub grid-valid : (g : DfnConfig) → T (gridFits g) → Grid g
 grid-valid g t =
-    let a1 = leb 1 (g .«n_x_neg») in
-    let a2 = leb (g .«n_x_neg») 16 in
-    let a3 = leb 1 (g .«n_x_pos») in
-    let a4 = leb (g .«n_x_pos») 16 in
-    let a5 = leb 2 (g .«n_r») in
-    let a6 = leb (g .«n_r») 32 in
-    let t5 = and-l (a1 && a2 && a3 && a4 && a5) a6 t in
-    let t4 = and-l (a1 && a2 && a3 && a4) a5 t5 in
-    let t3 = and-l (a1 && a2 && a3) a4 t4 in
-    let t2 = and-l (a1 && a2) a3 t3 in
-    record {
-      least-neg = leb→le 1 (g .«n_x_neg») (and-l a1 a2 t2);
-      most-neg = leb→le (g .«n_x_neg») 16 (and-r a1 a2 t2);
-      least-pos = leb→le 1 (g .«n_x_pos») (and-r (a1 && a2) a3 t3);
-      most-pos = leb→le (g .«n_x_pos») 16 (and-r (a1 && a2 && a3) a4 t4);
-      least-r = leb→le 2 (g .«n_r») (and-r (a1 && a2 && a3 && a4) a5 t5);
-      most-r = leb→le (g .«n_r») 32 (and-r (a1 && a2 && a3 && a4 && a5) a6 t);
-    }
+    let a = countInRange (g .«n_x_neg») 1 16 in
+    let b = countInRange (g .«n_x_pos») 1 16 in
+    let c = countInRange (g .«n_r») 2 32 in
+    let neg = count-between (g .«n_x_neg») 1 16 (and-l a b (and-l (a && b) c t)) in
+    let pos = count-between (g .«n_x_pos») 1 16 (and-r a b (and-l (a && b) c t)) in
+    let r = count-between (g .«n_r») 2 32 (and-r (a && b) c t) in
+    record { least-neg = neg .0; most-neg = neg .1; least-pos = pos .0; most-pos = pos .1; least-r = r .0; most-r = r .1 }
 
 -- as a program's test leaves it
 pub grid-of : (g : DfnConfig) (b : Bool) → b ≡ gridFits g → not b ≡ false → Grid g
@@ -137,7 +126,7 @@ fields-valid d t =
 -- each side has at most 16 coefficients
 few : (c : List Float) (n : ℕ) → T (coefficientsFit c n) → n ≤ 16
 unfolding coefficientsFit
-few c n t = leb→le n 16 (and-r (allBelow 16 (λ i. coefficientFits (getD c i nan) (ltb i n))) (leb n 16) t)
+few c n t = leb→le n 16 (and-r (placesFit (λ x. inRange x (neg «1000·0») «1000·0») c n 16) (leb n 16) t)
 
 pub coefficients-valid : (p : DfnParams) → T (parametersFit p) → (p .«ocv_neg_count» ≤ 16) × (p .«ocv_pos_count» ≤ 16)
 unfolding parametersFit

@@ -13,7 +13,8 @@ use Rattle.dfn_parameters.specs.Sides.{anodeOf, cathodeOf, poreFlux}
 use Rattle.dfn_parameters.specs.declared.DfnParams.{DfnParams}
 use Rattle.dfn_parameters.specs.declared.DfnConfig.{DfnConfig}
 use Rattle.dfn_parameters.specs.declared.Side.{Side}
-use Rattle.dfn_places.specs.Places.{allFinite, changeAfter}
+use Rattle.arrays.specs.Places.{allFinite}
+use Rattle.dfn_places.specs.Places.{changeAfter}
 use Rattle.dfn_electrolyte.specs.Electrolyte.{electrolyteAfter}
 use Rattle.dfn_solid.specs.Solid.{Solid, solidAfter}
 use Rattle.dfn_solid.specs.declared.ParticleParams.{ParticleParams}

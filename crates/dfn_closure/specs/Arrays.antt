@@ -6,17 +6,19 @@ use mathlib.Core.Logic.{_⊎_, inl, inr, ⊎-elim}
 use mathlib.Core.List.{List}
 use native.Mathlib.Omega.{arith}
 use native.Mathlib.Nat.{not-suc-le-zero, zero-mul, suc-mul}
-use borrow.Author.Tests.{lt-ltb, ltb-true, ltb-false}
+use borrow.Author.Tests.{ltb-true, ltb-false}
 use lib.Dec.{T, ltb}
-use lib.ListN.{length, List·getD-eq-default}
-use lib.Ieee.{Float, nan, le, toBits, ofBits}
+use lib.ListN.{length}
+use lib.Ieee.{Float, nan, le, ofBits}
 use lib.Ieee.Scale.{finite}
 use lib.Ieee.Fits.{and-i, and-l, and-r}
 use Rattle.min_max.specs.MinMax.{clampOf}
-use Rattle.refusal.specs.Ranges.{inRange, plusZero}
-use Rattle.iterate.specs.Iterate.{firstBy, allBelow, all-at, all-of, first-below, first-above}
+use Rattle.refusal.specs.Ranges.{inRange}
+use Rattle.iterate.specs.Iterate.{firstBy, all-at, first-below, first-above}
 use Rattle.array_update.specs.ArrayUpdate.{places-length, places-inside, places-before, places-after}
-use Rattle.dfn_places.specs.Places.{at, placeFits, solidFitsTo, solidFits, electrolyteFits, allFinite}
+use Rattle.arrays.specs.Places.{at, allFinite}
+use Rattle.arrays.specs.Laws.{place-unused, places-long, places-fit}
+use Rattle.dfn_places.specs.Places.{solidFits, electrolyteFits}
 use Rattle.dfn_solid.specs.declared.ParticleParams.{ParticleParams}
 use Rattle.dfn_solid.specs.Solid.{nodeWith, clampedNode, particleWith, particlesWith}
 use Rattle.dfn_electrolyte.specs.declared.Region.{Region}
@@ -31,27 +33,10 @@ side a b false e = inr (ltb-false a b e)
 lt-or-ge : (a b : ℕ) → (a < b) ⊎ (b ≤ a)
 lt-or-ge a b = side a b (ltb a b) refl
 
--- ---- places that fit
-used-fits : (x lo hi : Float) (b : Bool) → b ≡ true → T (inRange x lo hi) → T (placeFits x b lo hi)
-unfolding placeFits
-used-fits x lo hi b e t = rw e t
-
--- a NaN, which stands past a list's end, fits nowhere
-nan-unfit : (b : Bool) (lo hi : Float) → T (placeFits nan b lo hi) → ⊥
-unfolding placeFits plusZero le toBits
-nan-unfit true lo hi t = and-r (le lo nan) (le nan hi) t
-nan-unfit false lo hi t = t
-
-abbrev pub fitsTo : ℕ → List Float → ℕ → Float → Float → Bool
-fitsTo size c n lo hi = allBelow size (λ i. placeFits (at c i) (ltb i n) lo hi)
-
--- so a list whose places fit is long enough
-long : (size : ℕ) (c : List Float) (n : ℕ) (lo hi : Float) → T (fitsTo size c n lo hi) → size ≤ length c
-long size c n lo hi t =
-    ⊎-elim
-    (λ (l : length c < size). let e : length c ≤ length c = omega arith in absurd (nan-unfit (ltb (length c) n) lo hi (rw (List·getD-eq-default c nan e) at (all-at (λ i. placeFits (at c i) (ltb i n) lo hi) size (length c) l t))))
-    (λ (l : size ≤ length c). l)
-    (lt-or-ge (length c) size)
+-- no range holds a NaN
+no-nan : (lo hi : Float) → T (inRange nan lo hi) → ⊥
+unfolding le
+no-nan lo hi t = and-r (le lo nan) (le nan hi) t
 
 -- a place that a clamp holds
 record Clamped (y lo hi : Float) : Type 0 where
@@ -96,17 +81,14 @@ module _ (v : ParticleParams) (c d : List Float) where
 
   pub solid-closed : (m : ℕ) → m * v .n ≤ 512 → T (finite «0·0») → T (finite (v .«c_max»)) → T (le «0·0» (v .«c_max»))
       → T (solidFits c (m * v .n) (v .«c_max»)) → T (allFinite (particlesWith v c d m) (m * v .n)) → T (solidFits (particlesWith v c d m) (m * v .n) (v .«c_max»))
-  unfolding solidFits solidFitsTo
+  unfolding solidFits
   solid-closed m r z p q t f =
       let u = m * v .n in
       let out = particlesWith v c d m in
-      let n : 512 ≤ length c = long 512 c u «0·0» (v .«c_max») t in
-      all-of (λ i. placeFits (at out i) (ltb i u) «0·0» (v .«c_max»)) 512
-      (λ i l. ⊎-elim
-      (λ (h : i < u). used-fits (at out i) «0·0» (v .«c_max») (ltb i u) (lt-ltb i u h)
-      (clamped-in (at out i) «0·0» (v .«c_max») (particles-clamped m i (omega (arith, r, n)) h) z p q (all-at (λ j. finite (at out j)) u i h f)))
-      (λ (h : u ≤ i). rw (particles-kept m i h) (all-at (λ j. placeFits (at c j) (ltb j u) «0·0» (v .«c_max»)) 512 i l t))
-      (lt-or-ge i u))
+      let n : 512 ≤ length c = places-long (λ x. inRange x «0·0» (v .«c_max»)) c u 512 t (no-nan «0·0» (v .«c_max»)) in
+      places-fit (λ x. inRange x «0·0» (v .«c_max»)) out u 512
+      (λ i l h. clamped-in (at out i) «0·0» (v .«c_max») (particles-clamped m i (omega (arith, r, n)) h) z p q (all-at (λ j. finite (at out j)) u i h f))
+      (λ i l h. rw (particles-kept m i h) (place-unused (λ x. inRange x «0·0» (v .«c_max»)) c u 512 t i l h))
 
 -- ---- the electrolyte
 abbrev low : Float
@@ -163,12 +145,9 @@ electrolyte-closed neg pos c d r t f =
     let u = neg .n + 1 + pos .n in
     let g : ℕ → Float = λ i. clampOf (Electrolyte.nodeWith neg pos c d i) low high in
     let out = firstBy u g c in
-    let n : 33 ≤ length c = long 33 c u least most t in
-    all-of (λ i. placeFits (at out i) (ltb i u) least most) 33
-    (λ i l. ⊎-elim
-    (λ (h : i < u).
+    let n : 33 ≤ length c = places-long (λ x. inRange x least most) c u 33 t (no-nan least most) in
+    places-fit (λ x. inRange x least most) out u 33
+    (λ i l h.
     let y = all-at (λ j. finite (at out j)) u i h f in
-    used-fits (at out i) least most (ltb i u) (lt-ltb i u h)
-    (wider (at out i) y (clamped-in (at out i) low high (record { from = Electrolyte.nodeWith neg pos c d i; is = first-below g c u i nan h (omega (arith, r, n)) }) low-finite high-finite low-high y)))
-    (λ (h : u ≤ i). rw (first-above g c u i nan h) (all-at (λ j. placeFits (at c j) (ltb j u) least most) 33 i l t))
-    (lt-or-ge i u))
+    wider (at out i) y (clamped-in (at out i) low high (record { from = Electrolyte.nodeWith neg pos c d i; is = first-below g c u i nan h (omega (arith, r, n)) }) low-finite high-finite low-high y))
+    (λ i l h. rw (first-above g c u i nan h) (place-unused (λ x. inRange x least most) c u 33 t i l h))

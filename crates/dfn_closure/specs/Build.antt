@@ -1,14 +1,12 @@
 -- A build that is accepted gives a cell that passes the checks. Assumes nothing.
-use Prim.Native.Nat.{ℕ, zero, suc, _≤_, _<_}
+use Prim.Native.Nat.{ℕ, zero, suc, _≤_}
 use mathlib.Core.Path.{_≡_, refl}
-use mathlib.Core.Bool.{Bool, true, false, cond, _&&_}
-use mathlib.Core.List.{List, [], _∷_}
+use mathlib.Core.Bool.{cond, _&&_}
+use mathlib.Core.List.{[], _∷_}
 use native.Mathlib.Omega.{arith}
 use native.Mathlib.Nat.{zero-lt-suc}
-use borrow.Author.Tests.{ltb-true, ltb-false}
-use lib.Dec.{T, ltb, eqb, eqb·suc-zero}
-use lib.ListN.{replicate, length-replicate, getD-replicate}
-use lib.Ieee.{Float, nan, binary64, le, fits, ofBits, toBits}
+use lib.Dec.{T, eqb, eqb·suc-zero}
+use lib.Ieee.{Float, binary64, le, fits, ofBits}
 use lib.Ieee.Fits.{and-i, and-l, and-r}
 use Rattle.fraction.specs.Fraction.{whole, nat, _≈F_}
 use Rattle.fraction.specs.Field.{≈F-sym, ≤F-of-≈F, ≤F-trans}
@@ -21,18 +19,19 @@ use Rattle.binary64.specs.Rounds.{representable, mul-rounds}
 use Rattle.binary64.specs.Value.{val, le-val}
 use Rattle.binary64.specs.Literals.{«0·0»}
 use Rattle.refusal.specs.Numbers.{grid, sheet, neither-refused, passed}
-use Rattle.refusal.specs.Ranges.{inRange, plusZero, clockFits}
-use Rattle.iterate.specs.Iterate.{all-of, first-below, first-above}
+use Rattle.refusal.specs.Ranges.{inRange, clockFits}
+use Rattle.refusal.specs.Chains.{Between}
 use Rattle.dfn_parameters.specs.Ranges.{parametersFit, gridFits, limitsFit}
 use Rattle.dfn_parameters.specs.declared.DfnParams.{DfnParams}
 use Rattle.dfn_parameters.specs.declared.DfnConfig.{DfnConfig}
-use Rattle.dfn_places.specs.Places.{at, placeFits, solidFitsTo, solidFits, electrolyteFits, filled}
+use Rattle.arrays.specs.Places.{filled}
+use Rattle.arrays.specs.Laws.{filled-fits}
+use Rattle.dfn_places.specs.Places.{solidFits, electrolyteFits}
 use Rattle.dfn_solid.specs.Room.{room}
 use Rattle.dfn.specs.Checks.{usedNeg, usedPos, usedElectrolyte, cellRefusal, grid-valid}
 use Rattle.dfn.specs.Build.{newRefusal, fresh, noCell, made}
 use Rattle.dfn.specs.declared.DfnBuildAnswer.{DfnBuildAnswer}
-use Rattle.dfn_closure.specs.Tests.{Range, unit, top, electrolyteMost, max-neg, max-pos, theta-neg, theta-pos, cE}
-use Rattle.dfn_closure.specs.Arrays.{fitsTo}
+use Rattle.dfn_closure.specs.Tests.{unit, top, electrolyteMost, max-neg, max-pos, theta-neg, theta-pos, cE}
 use Rattle.dfn_closure.specs.Closure.{zero-finite, one-finite, max-finite, max-above, cell-passes}
 
 -- ---- theta * M is from 0 to M; M is a number of binary64, as each f64 of a program is
@@ -48,44 +47,25 @@ zero-fits : T (fits binary64 «0·0»)
 unfolding ofBits fits
 zero-fits = tt
 
-start-in : (x M : Float) → Range «0·0» x unit → Range unit M top → T (fits binary64 M) → T (inRange (x ⊗ M) «0·0» M)
+start-in : (x M : Float) → Between «0·0» x unit → Between unit M top → T (fits binary64 M) → T (inRange (x ⊗ M) «0·0» M)
 start-in x M r m f =
-    let p = between-finite «0·0» x unit zero-finite one-finite (r .low) (r .high) in
+    let p = between-finite «0·0» x unit zero-finite one-finite (r .above) (r .below) in
     let q = max-finite M m in
-    let a = ≤F-trans (≤F-of-≈F (≈F-sym zero-val)) (le-val «0·0» x zero-finite p (r .low)) in
-    let b = ≤F-trans (le-val x unit p one-finite (r .high)) (≤F-of-≈F one-val) in
+    let a = ≤F-trans (≤F-of-≈F (≈F-sym zero-val)) (le-val «0·0» x zero-finite p (r .above)) in
+    let b = ≤F-trans (le-val x unit p one-finite (r .below)) (≤F-of-≈F one-val) in
     let c = ≤F-trans (≤F-of-≈F (≈F-sym zero-val)) (le-val «0·0» M zero-finite q (max-above M m)) in
     and-i (le «0·0» (x ⊗ M)) (le (x ⊗ M) M)
     (rounds-le (representable «0·0» zero-finite zero-fits) (mul-rounds x M p q) (≤F-trans (≤F-of-≈F zero-val) (le-by (val x ∷ val M ∷ []) 0 (a ⊠ c) (search quote depth 24) tt)))
     (rounds-le (mul-rounds x M p q) (representable M q f) (le-by (val x ∷ val M ∷ []) 0 (up b ⊠ c) (search quote depth 24) tt))
 
 -- ---- an array that x fills to its used length
-unused-fits : (lo hi : Float) → T (placeFits «0·0» false lo hi)
-unfolding placeFits plusZero toBits ofBits
-unused-fits lo hi = tt
-
-used-fits : (x lo hi : Float) → T (inRange x lo hi) → T (placeFits x true lo hi)
-unfolding placeFits
-used-fits x lo hi t = t
-
-module _ (size n : ℕ) (x lo hi : Float) (m : n ≤ size) (t : T (inRange x lo hi)) where
-  abbrev zeros : List Float
-  zeros = replicate size «0·0»
-
-  place-fits : (i : ℕ) → i < size → (b : Bool) → ltb i n ≡ b → T (placeFits (at (filled size x n) i) b lo hi)
-  place-fits i l true e = rw (first-below (λ k. x) zeros n i nan (ltb-true i n e) (rw (length-replicate size «0·0») m)) (used-fits x lo hi t)
-  place-fits i l false e = rw (first-above (λ k. x) zeros n i nan (ltb-false i n e), getD-replicate size i «0·0» nan l) (unused-fits lo hi)
-
-  filled-fits : T (fitsTo size (filled size x n) n lo hi)
-  filled-fits = all-of (λ i. placeFits (at (filled size x n) i) (ltb i n) lo hi) size (λ i l. place-fits i l (ltb i n) refl)
-
 solid-filled : (n : ℕ) (x M : Float) → n ≤ 512 → T (inRange x «0·0» M) → T (solidFits (filled 512 x n) n M)
-unfolding solidFits solidFitsTo
-solid-filled n x M m t = filled-fits 512 n x «0·0» M m t
+unfolding solidFits
+solid-filled n x M m t = filled-fits (λ y. inRange y «0·0» M) 512 n x m t
 
 electrolyte-filled : (n : ℕ) (x : Float) → n ≤ 33 → T (inRange x unit electrolyteMost) → T (electrolyteFits (filled 33 x n) n)
 unfolding electrolyteFits
-electrolyte-filled n x m t = filled-fits 33 n x unit electrolyteMost m t
+electrolyte-filled n x m t = filled-fits (λ y. inRange y unit electrolyteMost) 33 n x m t
 
 zero-clock : T (clockFits «0·0»)
 unfolding ofBits le
@@ -109,7 +89,7 @@ fresh-passes p g m n h =
           let x = p .«theta_pos_0» in
           let M = p .«c_s_pos_max» in
           solid-filled (usedPos g) (x ⊗ M) M (room (g .«n_x_pos») (g .«n_r») (r .most-pos) (r .most-r)) (start-in x M (theta-pos p t) (max-pos p t) n);
-      cE = electrolyte-filled (usedElectrolyte g) (p .«c_e0») (omega (arith, r .most-neg, r .most-pos)) (and-i (le unit (p .«c_e0»)) (le (p .«c_e0») electrolyteMost) (cE p t .low) (cE p t .high));
+      cE = electrolyte-filled (usedElectrolyte g) (p .«c_e0») (omega (arith, r .most-neg, r .most-pos)) (and-i (le unit (p .«c_e0»)) (le (p .«c_e0») electrolyteMost) (cE p t .above) (cE p t .below));
       clock = zero-clock;
     })
 

@@ -13,9 +13,11 @@ use Rattle.binary64.specs.Order.{between-finite}
 use Rattle.binary64.specs.Literals.{«0·0», «86400·0», «1e6»}
 use Rattle.refusal.specs.Numbers.{firstRefusal, refusalUnless, load, interval, neither-refused, passed}
 use Rattle.refusal.specs.Ranges.{loadFits, intervalFits, clockFits}
+use Rattle.refusal.specs.Chains.{Between}
 use Rattle.dfn_parameters.specs.Ranges.{parametersFit, gridFits, limitsFit}
 use Rattle.dfn_parameters.specs.Sides.{anodeOf, cathodeOf, poreFlux}
-use Rattle.dfn_places.specs.Places.{solidFits, electrolyteFits, allFinite}
+use Rattle.arrays.specs.Places.{allFinite}
+use Rattle.dfn_places.specs.Places.{solidFits, electrolyteFits}
 use Rattle.dfn_solid.specs.Solid.{dSolids, solidAfter}
 use Rattle.dfn_solid.specs.Room.{room}
 use Rattle.dfn_electrolyte.specs.Electrolyte.{diffusivityParams, regionOf, dEffs, electrolyteAfter}
@@ -25,7 +27,7 @@ use Rattle.dfn.specs.declared.DfnSolver.{DfnSolver}
 use Rattle.dfn.specs.declared.DfnStep.{DfnStep}
 use Rattle.dfn.specs.declared.DfnStepAnswer.{DfnStepAnswer}
 use Rattle.dfn_closure.specs.Clamped.{le-chain, clock-on}
-use Rattle.dfn_closure.specs.Tests.{Range, unit, top, max-neg, max-pos}
+use Rattle.dfn_closure.specs.Tests.{unit, top, max-neg, max-pos}
 use Rattle.dfn_closure.specs.Arrays.{solid-closed, electrolyte-closed}
 
 -- ---- what a step answers
@@ -87,11 +89,11 @@ zero-one : T (le «0·0» unit)
 unfolding ofBits le
 zero-one = tt
 
-pub max-finite : (x : Float) → Range unit x top → T (finite x)
-max-finite x h = between-finite unit x top one-finite top-finite (h .low) (h .high)
+pub max-finite : (x : Float) → Between unit x top → T (finite x)
+max-finite x h = between-finite unit x top one-finite top-finite (h .above) (h .below)
 
-pub max-above : (x : Float) → Range unit x top → T (le «0·0» x)
-max-above x h = le-chain «0·0» unit x zero-finite one-finite (max-finite x h) zero-one (h .low)
+pub max-above : (x : Float) → Between unit x top → T (le «0·0» x)
+max-above x h = le-chain «0·0» unit x zero-finite one-finite (max-finite x h) zero-one (h .above)
 
 -- ---- the fields of the new cell
 step-interval : (d : DfnSolver) (current dt : Float) → stepRefusal d current dt ≡ 0 → T (intervalFits dt)

@@ -3,22 +3,20 @@ use Prim.Native.Nat.{ℕ, _+_, _-_}
 use mathlib.Core.Bool.{cond, _&&_}
 use mathlib.Core.List.{List}
 use lib.Dec.{ltb}
-use lib.ListN.{getD, replicate}
-use lib.Ieee.{Float, nan, neg}
+use lib.ListN.{replicate}
+use lib.Ieee.{Float, neg}
 use Rattle.binary64.specs.Operators.{_⊕_, _⊖_, _⊗_, _⊘_, count}
 use Rattle.binary64.specs.Literals.{«0·0», «0·5», «100·0», «3000·0»}
 use Rattle.elementary.specs.Exp.{one, expOf}
 use Rattle.elementary.specs.Power.{powfOf}
 use Rattle.min_max.specs.MinMax.{clampOf}
 use Rattle.iterate.specs.Iterate.{firstBy}
+use Rattle.arrays.specs.Places.{at}
 use Rattle.dfn_parameters.specs.Sides.{anodeOf, cathodeOf, areaOf, faraday, poreFlux}
 use Rattle.dfn_parameters.specs.declared.DfnParams.{DfnParams}
 use Rattle.dfn_parameters.specs.declared.Side.{Side}
 use Rattle.dfn_electrolyte.specs.declared.DiffusivityParams.{DiffusivityParams}
 use Rattle.dfn_electrolyte.specs.declared.Region.{Region}
-
-abbrev pub at : List Float → ℕ → Float
-at c i = getD c i nan
 
 -- both electrodes have the porosity eps_e_elec
 abbrev pub diffusivityParams : DfnParams → DiffusivityParams

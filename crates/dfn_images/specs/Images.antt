@@ -1,10 +1,9 @@
 -- The image of a Doyle-Fuller-Newman cell (1126 words), and what a step adds to its cell's.
-use Prim.Native.Nat.{ℕ, _+_}
+use Prim.Native.Nat.{ℕ}
 use mathlib.Core.Bool.{cond}
 use mathlib.Core.List.{List, [], _∷_}
-use lib.ListN.{length, replicate}
 use lib.Ieee.{Float}
-use Rattle.codec.specs.Words.{putWord, floatAt, placesAt, putRow, putPlaces}
+use Rattle.codec.specs.Words.{putWord, floatAt, placesAt, putRow}
 use Rattle.dfn_parameters.specs.declared.DfnParams.{DfnParams}
 use Rattle.dfn_parameters.specs.declared.DfnConfig.{DfnConfig}
 use Rattle.dfn.specs.declared.DfnSolver.{DfnSolver}

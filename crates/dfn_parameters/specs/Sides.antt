@@ -1,10 +1,10 @@
 -- The two electrodes of a set of parameters, their interfacial area, and an open-circuit potential. Definitions only.
 use Prim.Native.Nat.{ℕ, zero, suc}
 use mathlib.Core.List.{List}
-use lib.ListN.{getD}
-use lib.Ieee.{Float, nan}
+use lib.Ieee.{Float}
 use Rattle.binary64.specs.Operators.{_⊕_, _⊗_, _⊘_}
 use Rattle.binary64.specs.Literals.{«0·0», «3·0», «96485·0»}
+use Rattle.arrays.specs.Places.{at}
 use Rattle.dfn_parameters.specs.declared.DfnParams.{DfnParams}
 use Rattle.dfn_parameters.specs.declared.Side.{Side}
 
@@ -45,4 +45,4 @@ poreFlux s area current = current ⊘ (areaOf s ⊗ s .l ⊗ faraday ⊗ area)
 -- Horner's rule from 0.0 over the first k coefficients, the highest power first
 unfoldable pub horner : List Float → Float → ℕ → Float
 horner c theta zero = «0·0»
-horner c theta (suc k) = horner c theta k ⊗ theta ⊕ getD c k nan
+horner c theta (suc k) = horner c theta k ⊗ theta ⊕ at c k

@@ -1,10 +1,10 @@
 // The parameters and the grid of the Doyle-Fuller-Newman cell. A changed translation of src/battery/p2d/dfn.rs (`DfnParams`, `DfnConfig`);
 // the Newton settings are left out, and a polynomial's coefficients stand in an array with their count beside it.
-use refusal::load_fits;
-use refusal::plus_zero;
+use refusal::count_within;
+use refusal::within;
 ghost use mathlib.Core.Path.{_≡_};
 ghost use Prim.Native.Nat.{_≤_};
-ghost use Rattle.dfn_parameters.specs.Ranges.{numbersFit, coefficientFits, coefficientsFit, parametersFit, gridFits, limitsFit};
+ghost use Rattle.dfn_parameters.specs.Ranges.{sideFits, numbersFit, coefficientsFit, parametersFit, gridFits, limitsFit};
 ghost use Rattle.dfn_parameters.specs.Ready.{nmcGraphite, lfpGraphite};
 ghost use Rattle.dfn_parameters.specs.Sides.{anodeOf, cathodeOf, areaOf, poreFlux, horner};
 
@@ -216,56 +216,19 @@ impl DfnParams {
     pub fn numbers_fit(self) -> bool
         ensures { λ r. ⌜ r ≡ numbersFit self ⌝ }
     {
-        (1e-7 <= self.l_neg)
-            & (self.l_neg <= 1e-2)
-            & (1e-7 <= self.l_sep)
-            & (self.l_sep <= 1e-2)
-            & (1e-7 <= self.l_pos)
-            & (self.l_pos <= 1e-2)
-            & (1e-6 <= self.area)
-            & (self.area <= 1e4)
-            & (1e-8 <= self.r_neg)
-            & (self.r_neg <= 1e-3)
-            & (1e-20 <= self.d_s_neg_ref)
-            & (self.d_s_neg_ref <= 1e-8)
-            & (1.0 <= self.c_s_neg_max)
-            & (self.c_s_neg_max <= 131072.0)
-            & (0.01 <= self.eps_neg)
-            & (self.eps_neg <= 1.0)
-            & (0.0 <= self.theta_neg_0)
-            & (self.theta_neg_0 <= 1.0)
-            & (1e-16 <= self.k_neg)
-            & (self.k_neg <= 1.0)
-            & (1e-8 <= self.r_pos)
-            & (self.r_pos <= 1e-3)
-            & (1e-20 <= self.d_s_pos_ref)
-            & (self.d_s_pos_ref <= 1e-8)
-            & (1.0 <= self.c_s_pos_max)
-            & (self.c_s_pos_max <= 131072.0)
-            & (0.01 <= self.eps_pos)
-            & (self.eps_pos <= 1.0)
-            & (0.0 <= self.theta_pos_0)
-            & (self.theta_pos_0 <= 1.0)
-            & (1e-16 <= self.k_pos)
-            & (self.k_pos <= 1.0)
-            & (1.0 <= self.c_e0)
-            & (self.c_e0 <= 1e5)
-            & (1e-16 <= self.d_e0)
-            & (self.d_e0 <= 1e-6)
-            & (0.0 <= self.gamma_e)
-            & (self.gamma_e <= 1000.0)
-            & (0.0 <= self.t_plus)
-            & (self.t_plus <= 1.0)
-            & (1e-6 <= self.kappa0)
-            & (self.kappa0 <= 100.0)
-            & (0.01 <= self.eps_e_elec)
-            & (self.eps_e_elec <= 1.0)
-            & (0.01 <= self.eps_e_sep)
-            & (self.eps_e_sep <= 1.0)
-            & (0.0 <= self.brugg)
-            & (self.brugg <= 4.0)
-            & (200.0 <= self.temperature_k)
-            & (self.temperature_k <= 400.0)
+        self.anode().fits()
+            & self.cathode().fits()
+            & within(self.l_sep, 1e-7, 1e-2)
+            & within(self.area, 1e-6, 1e4)
+            & within(self.c_e0, 1.0, 1e5)
+            & within(self.d_e0, 1e-16, 1e-6)
+            & within(self.gamma_e, 0.0, 1000.0)
+            & within(self.t_plus, 0.0, 1.0)
+            & within(self.kappa0, 1e-6, 100.0)
+            & within(self.eps_e_elec, 0.01, 1.0)
+            & within(self.eps_e_sep, 0.01, 1.0)
+            & within(self.brugg, 0.0, 4.0)
+            & refusal::temperature_fits(self.temperature_k)
     }
 
     // Whether every field is in its range.
@@ -313,23 +276,33 @@ impl DfnConfig {
     pub fn grid_fits(self) -> bool
         ensures { λ r. ⌜ r ≡ gridFits self ⌝ }
     {
-        (1 <= self.n_x_neg)
-            & (self.n_x_neg <= 16)
-            & (1 <= self.n_x_pos)
-            & (self.n_x_pos <= 16)
-            & (2 <= self.n_r)
-            & (self.n_r <= 32)
+        count_within(self.n_x_neg as u64, 1, 16)
+            & count_within(self.n_x_pos as u64, 1, 16)
+            & count_within(self.n_r as u64, 2, 32)
     }
 
     // Whether the voltages are in their range.
     pub fn limits_fit(self) -> bool
         ensures { λ r. ⌜ r ≡ limitsFit self ⌝ }
     {
-        (-10.0 <= self.v_min) & (self.v_min <= 10.0) & (-10.0 <= self.v_max) & (self.v_max <= 10.0)
+        within(self.v_min, -10.0, 10.0) & within(self.v_max, -10.0, 10.0)
     }
 }
 
 impl Side {
+    // Whether each of the seven numbers is in its range.
+    fn fits(self) -> bool
+        ensures { λ r. ⌜ r ≡ sideFits self ⌝ }
+    {
+        within(self.l, 1e-7, 1e-2)
+            & within(self.r, 1e-8, 1e-3)
+            & within(self.d_s_ref, 1e-20, 1e-8)
+            & within(self.c_s_max, 1.0, 131072.0)
+            & within(self.eps, 0.01, 1.0)
+            & within(self.theta_0, 0.0, 1.0)
+            & within(self.k, 1e-16, 1.0)
+    }
+
     // The interfacial area of a volume.
     pub fn specific_area(self) -> f64
         ensures { λ r. ⌜ r ≡ areaOf self ⌝ }
@@ -345,25 +318,11 @@ impl Side {
     }
 }
 
-// Whether a place of the coefficients is as it must be: a used one at most 1,000 in size, an unused one +0.
-fn coefficient_fits(x: f64, used: bool) -> bool
-    ensures { λ r. ⌜ r ≡ coefficientFits x used ⌝ }
-{
-    if used {
-        return load_fits(x, 1000.0);
-    }
-    plus_zero(x)
-}
-
-// Whether a side has at most 16 coefficients and each place is as it must be.
+// Whether a side has at most 16 coefficients, those used at most 1,000 in size and the other places +0.
 pub fn coefficients_fit(coeffs: &[f64; 16], n: usize) -> bool
     ensures { λ r. ⌜ r ≡ coefficientsFit (now (coeffs .entry)) n ⌝ }
 {
-    let mut ok = true;
-    for i in 0..16 {
-        ok = ok & coefficient_fits(coeffs[i], i < n);
-    }
-    ok & (n <= 16)
+    arrays::places_fit(coeffs, n, -1000.0, 1000.0) & (n <= 16)
 }
 
 // The open-circuit potential at a stoichiometry: Horner's rule over the first n coefficients.

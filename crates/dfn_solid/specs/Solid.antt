@@ -3,8 +3,8 @@ use Prim.Native.Nat.{ℕ, zero, suc, _+_, _-_, _*_}
 use mathlib.Core.Bool.{cond, _&&_}
 use mathlib.Core.List.{List}
 use lib.Dec.{eqb, ltb}
-use lib.ListN.{getD, replicate}
-use lib.Ieee.{Float, nan}
+use lib.ListN.{replicate}
+use lib.Ieee.{Float}
 use Rattle.binary64.specs.Operators.{_⊕_, _⊖_, _⊗_, _⊘_, count}
 use Rattle.binary64.specs.Literals.{«0·0», «1e-30», «0·001», «0·3», «0·5»}
 use Rattle.elementary.specs.Exp.{one}
@@ -13,12 +13,9 @@ use Rattle.iterate.specs.Iterate.{firstBy}
 use Rattle.array_update.specs.ArrayUpdate.{placesBy}
 use Rattle.refusal.specs.Numbers.{refusalUnless, notFinite}
 use Rattle.refusal.specs.Ranges.{finite}
-use Rattle.dfn_places.specs.Places.{allFinite}
+use Rattle.arrays.specs.Places.{at, allFinite}
 use Rattle.dfn_solid.specs.declared.ParticleParams.{ParticleParams}
 use Rattle.dfn_solid.specs.declared.SolidUpdate.{SolidUpdate}
-
-abbrev pub at : List Float → ℕ → Float
-at c i = getD c i nan
 
 abbrev half : Float
 half = «0·5»

@@ -1,6 +1,6 @@
 -- One binary64 sub-step before the clamp, operation by operation: each node is within 14·M / 2 ^ 53 of the exact one. In `Near x q κ k b` κ is a scale, k counts roundings and
 -- b is the size in scales. An inner node and the surface are one chain, the neighbour outside being a node or the ghost.
-use Prim.Native.Nat.{ℕ, _+_, _-_, _*_, _^_, _<_, _≤_}
+use Prim.Native.Nat.{ℕ, _+_, _-_, _*_, _^_, _≤_}
 use mathlib.Core.List.{[], _∷_}
 use mathlib.Core.Path.{refl}
 use native.Mathlib.Nat.{le-trans}

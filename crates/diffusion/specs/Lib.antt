@@ -19,6 +19,7 @@
 --   OneStep     `sub-step-in-range`, `sub-step-near`: one sub-step keeps every node finite and from 0 to M, and within 14·M / 2 ^ 53 of the exact sub-step of the same profile
 --   Profile     what each place holds after a sub-step; unused places stay
 --   RunLaws     `run-near`: K sub-steps, K·M / 2 ^ 49;  `run-whole`, `run-length`, `run-unused`
+--   Ordered     `ordered-run`: the exact scheme keeps the order of two profiles over two lists of sub-steps
 --   Ranking     `ranking`, for two lists of sub-steps alike but for the fluxes
 --   Copies      `run-times`: one sub-step k times over is a list of k
 --   CallLaws    the same for lists of calls:  `calls-near`, `calls-in-range`, `calls-unused`, `calls-ranking`, `calls-total`
@@ -41,6 +42,7 @@ pub mod Profile
 pub mod OneStep
 pub mod Run
 pub mod RunLaws
+pub mod Ordered
 pub mod Ranking
 pub mod Copies
 pub mod Calls

@@ -1,39 +1,39 @@
 -- The electrode sheet: its ranges, the three ready ones, the diffusivity at a temperature and the interfacial area. Definitions only.
 use Prim.Native.Nat.{ℕ}
 use mathlib.Core.Bool.{Bool, _&&_}
-use lib.Dec.{leb}
-use lib.Ieee.{Float, le}
-use Rattle.binary64.specs.Operators.{_⊖_, _⊗_, _⊘_}
-use Rattle.binary64.specs.Literals.{«0·0», «1e-20», «1e-16», «1e-14», «1·5e-14», «3·9e-14», «2e-11», «1e-8», «1e-7», «1e-6», «2·5e-6», «5e-6», «1·25e-5», «8e-5», «9e-5», «0·0001», «0·001», «0·01», «0·0626», «0·15», «0·2», «0·5», «0·55», «0·6», «0·8», «1·0», «3·0», «8·314», «298·15», «10000·0», «20000·0», «22806·0», «25000·0», «31833·0», «35000·0», «49000·0», «100000·0», «131072·0»}
-use Rattle.elementary.specs.Exp.{one, expOf}
+use lib.Ieee.{Float}
+use Rattle.binary64.specs.Operators.{_⊗_, _⊘_}
+use Rattle.binary64.specs.Literals.{«0·0», «1e-20», «1e-16», «1e-14», «1·5e-14», «3·9e-14», «2e-11», «1e-8», «1e-7», «1e-6», «2·5e-6», «5e-6», «1·25e-5», «8e-5», «9e-5», «0·0001», «0·001», «0·01», «0·0626», «0·15», «0·2», «0·5», «0·55», «0·6», «0·8», «1·0», «3·0», «298·15», «10000·0», «20000·0», «22806·0», «25000·0», «31833·0», «35000·0», «49000·0», «100000·0», «131072·0»}
+use Rattle.elementary.specs.Arrhenius.{arrheniusOf}
+use Rattle.refusal.specs.Ranges.{inRange, countInRange}
 use Rattle.electrode.specs.declared.ElectrodeParams.{ElectrodeParams}
 
 -- the chemistry is 1 graphite, 2 LFP, 3 NMC
 abbrev pub chemistryFits : ℕ → Bool
-chemistryFits k = leb 1 k && leb k 3
+chemistryFits k = countInRange k 1 3
 
 -- every field in its closed range
 abbrev pub sheetFits : ElectrodeParams → Bool
 sheetFits p =
     chemistryFits (p .«electrode_type»)
     -- 1e-8 to 1e-3
-    && le «1e-8» (p .«r_particle») && le (p .«r_particle») «0·001»
+    && inRange (p .«r_particle») «1e-8» «0·001»
     -- 1e-20 to 1e-8
-    && le «1e-20» (p .«d_s_ref») && le (p .«d_s_ref») «1e-8»
+    && inRange (p .«d_s_ref») «1e-20» «1e-8»
     -- 1 to 131,072
-    && le «1·0» (p .«c_s_max») && le (p .«c_s_max») «131072·0»
+    && inRange (p .«c_s_max») «1·0» «131072·0»
     -- 0 to 1
-    && le «0·0» (p .«theta_init») && le (p .«theta_init») «1·0»
+    && inRange (p .«theta_init») «0·0» «1·0»
     -- 1e-7 to 1e-2
-    && le «1e-7» (p .thickness) && le (p .thickness) «0·01»
+    && inRange (p .thickness) «1e-7» «0·01»
     -- 0.01 to 1
-    && le «0·01» (p .«epsilon_s») && le (p .«epsilon_s») «1·0»
+    && inRange (p .«epsilon_s») «0·01» «1·0»
     -- 1e-6 to 1e4
-    && le «1e-6» (p .area) && le (p .area) «10000·0»
+    && inRange (p .area) «1e-6» «10000·0»
     -- 0 to 1e5
-    && le «0·0» (p .«e_a_ds») && le (p .«e_a_ds») «100000·0»
+    && inRange (p .«e_a_ds») «0·0» «100000·0»
     -- 1e-16 to 1
-    && le «1e-16» (p .«k_bv») && le (p .«k_bv») «1·0»
+    && inRange (p .«k_bv») «1e-16» «1·0»
 
 -- ---- the ready sheets
 unfoldable pub graphiteAnode : ElectrodeParams
@@ -78,9 +78,9 @@ nmcCathode = record {
   «k_bv» = «2e-11»;
 }
 
--- d_s_ref * exp(e_a_ds / 8.314 * (1 / 298.15 - 1 / T))
+-- d_s_ref times the Arrhenius factor from 298.15 K
 unfoldable pub diffusivityAt : ElectrodeParams → Float → Float
-diffusivityAt p t = p .«d_s_ref» ⊗ expOf (p .«e_a_ds» ⊘ «8·314» ⊗ (one ⊘ «298·15» ⊖ one ⊘ t))
+diffusivityAt p t = p .«d_s_ref» ⊗ arrheniusOf (p .«e_a_ds») «298·15» t
 
 -- 3 * epsilon_s / r_particle
 unfoldable pub specificArea : ElectrodeParams → Float

@@ -1,6 +1,7 @@
 // The electrode sheet: nine numbers and a chemistry, and what is worked out from them.
 // A changed translation of src/battery/p2d/electrode.rs (without its particle).
 
+use refusal::within;
 ghost use mathlib.Core.Path.{_≡_};
 ghost use Rattle.refusal.specs.Numbers.{refusalUnless, sheet};
 ghost use Rattle.refusal.specs.Answers.{outcomeOf};
@@ -103,31 +104,22 @@ impl ElectrodeParams {
         ensures { λ r. ⌜ r ≡ sheetFits self ⌝ }
     {
         (chemistry_refusal(self.electrode_type) == 0)
-            & (1e-8 <= self.r_particle)
-            & (self.r_particle <= 1e-3)
-            & (1e-20 <= self.d_s_ref)
-            & (self.d_s_ref <= 1e-8)
-            & (1.0 <= self.c_s_max)
-            & (self.c_s_max <= 131072.0)
-            & (0.0 <= self.theta_init)
-            & (self.theta_init <= 1.0)
-            & (1e-7 <= self.thickness)
-            & (self.thickness <= 1e-2)
-            & (0.01 <= self.epsilon_s)
-            & (self.epsilon_s <= 1.0)
-            & (1e-6 <= self.area)
-            & (self.area <= 1e4)
-            & (0.0 <= self.e_a_ds)
-            & (self.e_a_ds <= 1e5)
-            & (1e-16 <= self.k_bv)
-            & (self.k_bv <= 1.0)
+            & within(self.r_particle, 1e-8, 1e-3)
+            & within(self.d_s_ref, 1e-20, 1e-8)
+            & within(self.c_s_max, 1.0, 131072.0)
+            & within(self.theta_init, 0.0, 1.0)
+            & within(self.thickness, 1e-7, 1e-2)
+            & within(self.epsilon_s, 0.01, 1.0)
+            & within(self.area, 1e-6, 1e4)
+            & within(self.e_a_ds, 0.0, 1e5)
+            & within(self.k_bv, 1e-16, 1.0)
     }
 
     // The diffusivity at a temperature, by Arrhenius.
     pub fn diffusivity_at(self, temp_k: f64) -> f64
         ensures { λ r. ⌜ r ≡ diffusivityAt self «temp_k» ⌝ }
     {
-        self.d_s_ref * elementary::exp(self.e_a_ds / 8.314 * (1.0 / 298.15 - 1.0 / temp_k))
+        self.d_s_ref * elementary::arrhenius(self.e_a_ds, 298.15, temp_k)
     }
 
     // The interfacial area of a volume.
@@ -195,6 +187,6 @@ impl ElectrodeParams {
 pub fn sphere_volume(r: f64) -> refusal::Answer
     ensures { λ a. ⌜ outcomeOf a ≡ volumeCall r ⌝ }
 {
-    let unfit = refusal::refusal_unless(refusal::within(r, 1e-8, 1e-3), refusal::SHEET);
+    let unfit = refusal::refusal_unless(within(r, 1e-8, 1e-3), refusal::SHEET);
     refusal::answered(unfit, 4.0 / 3.0 * 3.141592653589793 * r * r * r)
 }

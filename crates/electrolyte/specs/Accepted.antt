@@ -3,10 +3,12 @@ use Prim.Native.Nat.{ℕ, _+_, _≤_}
 use mathlib.Core.Path.{_≡_}
 use mathlib.Core.Bool.{_&&_}
 use native.Mathlib.Omega.{arith}
-use lib.Dec.{T, leb, leb→le}
+use lib.Dec.{T}
 use lib.Ieee.{Float}
 use lib.Ieee.Fits.{and-l, and-r}
 use Rattle.refusal.specs.Numbers.{neither-refused, passed, grid, sheet}
+use Rattle.refusal.specs.Ranges.{countInRange}
+use Rattle.refusal.specs.Chains.{count-between}
 use Rattle.electrolyte.specs.declared.ElectrolyteState.{ElectrolyteState}
 use Rattle.electrolyte_parameters.specs.Params.{paramsFit}
 use Rattle.electrolyte_profile.specs.Places.{profileFits}
@@ -14,15 +16,12 @@ use Rattle.electrolyte.specs.State.{total, countsFit, regionsFit}
 use Rattle.electrolyte.specs.Calls.{buildRefusal, stateRefusal, stepRefusal}
 
 -- three counts of at most 32 are at most 96 together
-at-most : (a b c : ℕ) → T (leb 1 a && leb a 32 && leb 1 b && leb b 32 && leb 1 c && leb c 32) → a + b + c ≤ 96
+at-most : (a b c : ℕ) → T (countInRange a 1 32 && countInRange b 1 32 && countInRange c 1 32) → a + b + c ≤ 96
 at-most a b c h =
-    let h5 = and-l (leb 1 a && leb a 32 && leb 1 b && leb b 32 && leb 1 c) (leb c 32) h in
-    let h4 = and-l (leb 1 a && leb a 32 && leb 1 b && leb b 32) (leb 1 c) h5 in
-    let h3 = and-l (leb 1 a && leb a 32 && leb 1 b) (leb b 32) h4 in
-    let h2 = and-l (leb 1 a && leb a 32) (leb 1 b) h3 in
-    let x : a ≤ 32 = leb→le a 32 (and-r (leb 1 a) (leb a 32) h2) in
-    let y : b ≤ 32 = leb→le b 32 (and-r (leb 1 a && leb a 32 && leb 1 b) (leb b 32) h4) in
-    let z : c ≤ 32 = leb→le c 32 (and-r (leb 1 a && leb a 32 && leb 1 b && leb b 32 && leb 1 c) (leb c 32) h) in
+    let g = and-l (countInRange a 1 32 && countInRange b 1 32) (countInRange c 1 32) h in
+    let x = count-between a 1 32 (and-l (countInRange a 1 32) (countInRange b 1 32) g) in
+    let y = count-between b 1 32 (and-r (countInRange a 1 32) (countInRange b 1 32) g) in
+    let z = count-between c 1 32 (and-r (countInRange a 1 32 && countInRange b 1 32) (countInRange c 1 32) h) in
     omega arith
 
 module _ (e : ElectrolyteState) where

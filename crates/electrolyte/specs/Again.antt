@@ -2,21 +2,23 @@
 -- Assumes nothing.
 use Prim.Native.Nat.{ℕ, zero, suc, _<_}
 use mathlib.Core.Path.{_≡_, refl}
-use mathlib.Core.Bool.{Bool, true, false, cond, _&&_}
-use mathlib.Core.List.{List}
+use mathlib.Core.Bool.{Bool, true, false, cond}
+use mathlib.Core.List.{List, [], _∷_}
 use native.Mathlib.Omega.{arith}
 use lib.Dec.{T, eqb, eqb·suc-zero}
 use lib.Ieee.{Float, le, ofBits}
-use lib.Ieee.Fits.{and-l, and-r}
+use lib.Ieee.Fits.{and-i}
 use Rattle.binary64.specs.Order.{between-finite}
 use Rattle.binary64.specs.RangeTests.{tested-within, within-ge}
 use Rattle.binary64.specs.Literals.{«0·0», «100000·0»}
 use Rattle.elementary.specs.Exp.{one}
 use Rattle.refusal.specs.Numbers.{firstRefusal, refusalUnless, sheet, notFinite}
 use Rattle.refusal.specs.Ranges.{finite}
+use Rattle.refusal.specs.Chains.{Between, row, row-at}
 use Rattle.electrolyte_parameters.specs.declared.ElectrolyteParams.{ElectrolyteParams}
 use Rattle.electrolyte_parameters.specs.Params.{transportFit, paramsFit}
-use Rattle.electrolyte_profile.specs.Places.{floor, profileFits, uniformProfile, allFinite}
+use Rattle.arrays.specs.Places.{allFinite, filled}
+use Rattle.electrolyte_profile.specs.Places.{floor, aboveFloor, profileFits}
 use Rattle.electrolyte_profile.specs.Step.{profileNew}
 use Rattle.electrolyte_profile.specs.Again.{profile-again, uniform-fits}
 use Rattle.electrolyte.specs.declared.ElectrolyteState.{ElectrolyteState}
@@ -30,22 +32,14 @@ abbrev most : Float
 most = «100000·0»
 
 -- c_e_init, 1 to 1e5, is finite and above the floor
-init-in-range : (x : Float) → T (le one x) → T (le x most) → T (finite x) × T (le floor x)
+init-in-range : (x : Float) → Between one x most → T (aboveFloor x)
 unfolding ofBits
-init-in-range x p q = (between-finite one x most tt tt p q, within-ge (tested-within one x most tt tt p q) floor tt tt tt)
+init-in-range x b =
+    and-i (finite x) (le floor x) (between-finite one x most tt tt (b .above) (b .below)) (within-ge (tested-within one x most tt tt (b .above) (b .below)) floor tt tt tt)
 
--- the two tests of c_e_init stand before four others
-init-tests : (h a b c d f g : Bool) → T (h && a && b && c && d && f && g) → T a × T b
-init-tests h a b c d f g t =
-    let u = and-l (h && a && b && c && d) f (and-l (h && a && b && c && d && f) g t) in
-    let w = and-l (h && a && b) c (and-l (h && a && b && c) d u) in
-    (and-r h a (and-l (h && a) b w), and-r (h && a) b w)
-
-init-fits : (p : ElectrolyteParams) → T (paramsFit p) → T (finite (p .«c_e_init»)) × T (le floor (p .«c_e_init»))
+init-fits : (p : ElectrolyteParams) → T (paramsFit p) → T (aboveFloor (p .«c_e_init»))
 init-fits p h =
-    let t = init-tests (transportFit p) (le one (p .«c_e_init»)) (le (p .«c_e_init») most)
-    (le «0·0» (p .«e_a_de»)) (le (p .«e_a_de») most) (le «0·0» (p .«e_a_kappa»)) (le (p .«e_a_kappa») most) h in
-    init-in-range (p .«c_e_init») (t .0) (t .1)
+    init-in-range (p .«c_e_init») (row-at (transportFit p) (row (p .«c_e_init») one most ∷ row (p .«e_a_de») «0·0» most ∷ row (p .«e_a_kappa») «0·0» most ∷ []) h 0)
 
 -- ---- what a build hands out
 still-none : (e : ElectrolyteState) (c : List Float) → buildRefusal e ≡ 0 → T (profileFits c (total e)) → stateRefusal (withProfile e c) ≡ 0
@@ -65,9 +59,9 @@ filled-by e c (suc r) f h = absurd (omega (arith, rw eqb·suc-zero at h))
 pub build-again : (e : ElectrolyteState) → built e .refusal ≡ 0 → stateRefusal (built e .state) ≡ 0
 unfolding built
 build-again e h =
-    filled-by e (uniformProfile (e .params .«c_e_init») (total e)) (buildRefusal e)
+    filled-by e (filled 96 (e .params .«c_e_init») (total e)) (buildRefusal e)
     (λ none. let i = init-fits (e .params) (build-params e none) in
-    still-none e (uniformProfile (e .params .«c_e_init») (total e)) none (uniform-fits (e .params .«c_e_init») (total e) (build-total e none) (i .0) (i .1))) h
+    still-none e (filled 96 (e .params .«c_e_init») (total e)) none (uniform-fits (e .params .«c_e_init») (total e) (build-total e none) i)) h
 
 -- ---- what a step hands out
 -- the answer of a step that meets r before it is made, and whose profile is c
@@ -88,7 +82,7 @@ module _ (e : ElectrolyteState) (jNeg jPos dt t : Float) where
   abbrev next : List Float
   next = profileNew (stepParams e jNeg jPos dt t) (e .«c_e»)
 
-  next-fits : stateRefusal e ≡ 0 → T (allFinite next) → T (profileFits next (total e))
+  next-fits : stateRefusal e ≡ 0 → T (allFinite next 96) → T (profileFits next (total e))
   unfolding stepParams
   next-fits h k = profile-again (stepParams e jNeg jPos dt t) (e .«c_e») (state-total e h) (state-profile e h) k
 
@@ -96,10 +90,10 @@ module _ (e : ElectrolyteState) (jNeg jPos dt t : Float) where
   pub step-again : stepped e jNeg jPos dt t .refusal ≡ 0 → stateRefusal (stepped e jNeg jPos dt t .state) ≡ 0
   unfolding stepped accepted
   step-again h =
-      again-by e next (stepRefusal e jNeg jPos dt t) (allFinite next)
+      again-by e next (stepRefusal e jNeg jPos dt t) (allFinite next 96)
       (λ none fine. let s = step-state e jNeg jPos dt t none in still-none e next (state-build e s) (next-fits s fine)) h
 
   -- a refused one the state that it was given
   pub step-kept : 0 < stepped e jNeg jPos dt t .refusal → stepped e jNeg jPos dt t .state ≡ e
   unfolding stepped accepted
-  step-kept h = kept-by e next (stepRefusal e jNeg jPos dt t) (allFinite next) h
+  step-kept h = kept-by e next (stepRefusal e jNeg jPos dt t) (allFinite next 96) h

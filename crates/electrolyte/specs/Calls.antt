@@ -12,7 +12,8 @@ use Rattle.electrolyte.specs.declared.ElectrolyteAnswer.{ElectrolyteAnsw
 use Rattle.electrolyte.specs.declared.Count.{Count}
 use Rattle.electrolyte.specs.declared.Count.the-variants.{Value, Refused}
 use Rattle.electrolyte_parameters.specs.Params.{paramsFit}
-use Rattle.electrolyte_profile.specs.Places.{profileFits, uniformProfile, allFinite}
+use Rattle.arrays.specs.Places.{allFinite, filled}
+use Rattle.electrolyte_profile.specs.Places.{profileFits}
 use Rattle.electrolyte_profile.specs.Step.{profileNew}
 use Rattle.electrolyte.specs.State.{total, countsFit, regionsFit, noState, withProfile, averageOf, stableInterval, stepParams}
 use Rattle.binary64.specs.Literals.{«1e9»}
@@ -31,7 +32,7 @@ answer n e = record { refusal = n; state = e }
 
 -- c_e_init at every node, or the number and the record of zeros
 unfoldable pub built : ElectrolyteState → ElectrolyteAnswer
-built e = cond (eqb (buildRefusal e) 0) (answer 0 (withProfile e (uniformProfile (e .params .«c_e_init») (total e)))) (answer (buildRefusal e) noState)
+built e = cond (eqb (buildRefusal e) 0) (answer 0 (withProfile e (filled 96 (e .params .«c_e_init») (total e)))) (answer (buildRefusal e) noState)
 
 -- ---- whole numbers
 -- what a call that gives a whole number says: the number of the refusal and no value, or 0 and the value
@@ -68,7 +69,7 @@ stepRefusal e jNeg jPos dt t =
 
 -- the new profile, or 8 and the state as it was
 unfoldable pub accepted : ElectrolyteState → List Float → ElectrolyteAnswer
-accepted e c = cond (allFinite c) (answer 0 (withProfile e c)) (answer notFinite e)
+accepted e c = cond (allFinite c 96) (answer 0 (withProfile e c)) (answer notFinite e)
 
 unfoldable pub stepped : ElectrolyteState → Float → Float → Float → Float → ElectrolyteAnswer
 stepped e jNeg jPos dt t =

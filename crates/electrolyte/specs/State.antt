@@ -2,12 +2,12 @@
 use Prim.Native.Nat.{ℕ, _+_}
 use mathlib.Core.Bool.{Bool, _&&_}
 use mathlib.Core.List.{List}
-use lib.Dec.{leb}
-use lib.Ieee.{Float, le}
+use lib.Ieee.{Float}
 use Rattle.binary64.specs.Operators.{_⊖_, _⊗_, _⊘_, count}
 use Rattle.binary64.specs.Literals.{«0·0», «1e-7», «0·01», «0·5», «1·0»}
 use Rattle.elementary.specs.Exp.{one}
 use Rattle.min_max.specs.MinMax.{minOf}
+use Rattle.refusal.specs.Ranges.{inRange, countInRange}
 use Rattle.electrolyte_parameters.specs.declared.ElectrolyteParams.{ElectrolyteParams}
 use Rattle.electrolyte_parameters.specs.Params.{diffusivityEff}
 use Rattle.electrolyte_profile.specs.declared.Region.{Region}
@@ -22,20 +22,17 @@ total e = e .«n_neg» + e .«n_sep» + e .«n_pos»
 -- ---- ranges
 -- 1 to 32 nodes a region
 abbrev pub countsFit : ElectrolyteState → Bool
-countsFit e =
-    leb 1 (e .«n_neg») && leb (e .«n_neg») 32
-    && leb 1 (e .«n_sep») && leb (e .«n_sep») 32
-    && leb 1 (e .«n_pos») && leb (e .«n_pos») 32
+countsFit e = countInRange (e .«n_neg») 1 32 && countInRange (e .«n_sep») 1 32 && countInRange (e .«n_pos») 1 32
 
 -- lengths 1e-7 to 1e-2, porosities 0.01 to 1
 abbrev pub regionsFit : ElectrolyteState → Bool
 regionsFit e =
-    le «1e-7» (e .«l_neg») && le (e .«l_neg») «0·01»
-    && le «1e-7» (e .«l_sep») && le (e .«l_sep») «0·01»
-    && le «1e-7» (e .«l_pos») && le (e .«l_pos») «0·01»
-    && le «0·01» (e .«eps_neg») && le (e .«eps_neg») «1·0»
-    && le «0·01» (e .«eps_sep») && le (e .«eps_sep») «1·0»
-    && le «0·01» (e .«eps_pos») && le (e .«eps_pos») «1·0»
+    inRange (e .«l_neg») «1e-7» «0·01»
+    && inRange (e .«l_sep») «1e-7» «0·01»
+    && inRange (e .«l_pos») «1e-7» «0·01»
+    && inRange (e .«eps_neg») «0·01» «1·0»
+    && inRange (e .«eps_sep») «0·01» «1·0»
+    && inRange (e .«eps_pos») «0·01» «1·0»
 
 -- ---- states
 -- what a build is given, with no node filled yet

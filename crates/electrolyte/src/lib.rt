@@ -8,6 +8,8 @@ use electrolyte_profile::all_finite;
 use electrolyte_profile::profile_fits;
 use electrolyte_profile::sum;
 use electrolyte_profile::uniform;
+use refusal::count_within;
+use refusal::within;
 ghost use mathlib.Core.Path.{_≡_};
 ghost use Prim.Native.Nat.{_≤_};
 ghost use Rattle.binary64.specs.Operators.{_⊘_, count};
@@ -106,30 +108,21 @@ impl ElectrolyteState {
     fn counts_fit(self) -> bool
         ensures { λ r. ⌜ r ≡ countsFit self ⌝ }
     {
-        (1 <= self.n_neg)
-            & (self.n_neg <= 32)
-            & (1 <= self.n_sep)
-            & (self.n_sep <= 32)
-            & (1 <= self.n_pos)
-            & (self.n_pos <= 32)
+        count_within(self.n_neg as u64, 1, 32)
+            & count_within(self.n_sep as u64, 1, 32)
+            & count_within(self.n_pos as u64, 1, 32)
     }
 
     // Whether the lengths and the porosities are in their ranges.
     fn regions_fit(self) -> bool
         ensures { λ r. ⌜ r ≡ regionsFit self ⌝ }
     {
-        (1e-7 <= self.l_neg)
-            & (self.l_neg <= 1e-2)
-            & (1e-7 <= self.l_sep)
-            & (self.l_sep <= 1e-2)
-            & (1e-7 <= self.l_pos)
-            & (self.l_pos <= 1e-2)
-            & (0.01 <= self.eps_neg)
-            & (self.eps_neg <= 1.0)
-            & (0.01 <= self.eps_sep)
-            & (self.eps_sep <= 1.0)
-            & (0.01 <= self.eps_pos)
-            & (self.eps_pos <= 1.0)
+        within(self.l_neg, 1e-7, 1e-2)
+            & within(self.l_sep, 1e-7, 1e-2)
+            & within(self.l_pos, 1e-7, 1e-2)
+            & within(self.eps_neg, 0.01, 1.0)
+            & within(self.eps_sep, 0.01, 1.0)
+            & within(self.eps_pos, 0.01, 1.0)
     }
 
     // The number that a build meets: the counts, then the other fields.

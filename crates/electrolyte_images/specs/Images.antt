@@ -1,9 +1,8 @@
 -- The images of an electrolyte's parameters (7 words) and of an electrolyte (112).
-use Prim.Native.Nat.{ℕ, _+_}
+use Prim.Native.Nat.{ℕ}
 use mathlib.Core.List.{List, [], _∷_}
-use lib.ListN.{length, replicate}
 use lib.Ieee.{Float}
-use Rattle.codec.specs.Words.{wordAt, putWord, floatAt, placesAt, putRow, putPlaces}
+use Rattle.codec.specs.Words.{wordAt, putWord, floatAt, placesAt, putRow}
 use Rattle.electrolyte_parameters.specs.declared.ElectrolyteParams.{ElectrolyteParams}
 use Rattle.electrolyte.specs.declared.ElectrolyteState.{ElectrolyteState}
 use Rattle.image_layout.specs.Layout.{electrolyteRegions, electrolyteNodesNeg, electrolyteNodesSep, electrolyteNodesPos, electrolyteProfile}

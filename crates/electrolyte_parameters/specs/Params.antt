@@ -1,34 +1,35 @@
 -- The electrolyte's seven numbers: their ranges, the ready ones, and the rates at a temperature. Definitions only.
 use mathlib.Core.Bool.{Bool, _&&_}
-use lib.Ieee.{Float, le}
-use Rattle.binary64.specs.Operators.{_⊖_, _⊗_, _⊘_}
-use Rattle.binary64.specs.Literals.{«0·0», «1e-16», «7·5e-11», «1e-6», «0·364», «1·0», «1·1», «1·5», «4·0», «8·314», «100·0», «298·15», «1000·0», «12000·0», «17000·0», «100000·0»}
-use Rattle.elementary.specs.Exp.{one, expOf}
+use lib.Ieee.{Float}
+use Rattle.binary64.specs.Operators.{_⊗_}
+use Rattle.binary64.specs.Literals.{«0·0», «1e-16», «7·5e-11», «1e-6», «0·364», «1·0», «1·1», «1·5», «4·0», «100·0», «298·15», «1000·0», «12000·0», «17000·0», «100000·0»}
+use Rattle.elementary.specs.Arrhenius.{arrheniusOf}
 use Rattle.elementary.specs.Power.{powfOf}
+use Rattle.refusal.specs.Ranges.{inRange}
 use Rattle.electrolyte_parameters.specs.declared.ElectrolyteParams.{ElectrolyteParams}
 
 -- ---- ranges
 abbrev pub transportFit : ElectrolyteParams → Bool
 transportFit p =
     -- 1e-16 to 1e-6
-    le «1e-16» (p .«d_e_ref») && le (p .«d_e_ref») «1e-6»
+    inRange (p .«d_e_ref») «1e-16» «1e-6»
     -- 1e-6 to 100
-    && le «1e-6» (p .«kappa_ref») && le (p .«kappa_ref») «100·0»
+    && inRange (p .«kappa_ref») «1e-6» «100·0»
     -- 0 to 1
-    && le «0·0» (p .«t_plus») && le (p .«t_plus») «1·0»
+    && inRange (p .«t_plus») «0·0» «1·0»
     -- 0 to 4
-    && le «0·0» (p .bruggeman) && le (p .bruggeman) «4·0»
+    && inRange (p .bruggeman) «0·0» «4·0»
 
 -- every field in its closed range
 abbrev pub paramsFit : ElectrolyteParams → Bool
 paramsFit p =
     transportFit p
     -- 1 to 1e5
-    && le «1·0» (p .«c_e_init») && le (p .«c_e_init») «100000·0»
+    && inRange (p .«c_e_init») «1·0» «100000·0»
     -- 0 to 1e5
-    && le «0·0» (p .«e_a_de») && le (p .«e_a_de») «100000·0»
+    && inRange (p .«e_a_de») «0·0» «100000·0»
     -- 0 to 1e5
-    && le «0·0» (p .«e_a_kappa») && le (p .«e_a_kappa») «100000·0»
+    && inRange (p .«e_a_kappa») «0·0» «100000·0»
 
 -- ---- the ready electrolyte
 -- 1 mol/l of LiPF6 in EC and DMC
@@ -44,9 +45,9 @@ lipf6EcDmc = record {
 }
 
 -- ---- rates
--- at_ref * exp(e_a / 8.314 * (1 / 298.15 - 1 / T))
+-- at_ref times the Arrhenius factor from 298.15 K
 unfoldable pub atTemperature : Float → Float → Float → Float
-atTemperature atRef ea t = atRef ⊗ expOf (ea ⊘ «8·314» ⊗ (one ⊘ «298·15» ⊖ one ⊘ t))
+atTemperature atRef ea t = atRef ⊗ arrheniusOf ea «298·15» t
 
 abbrev pub diffusivity : ElectrolyteParams → Float → Float
 diffusivity p t = atTemperature (p .«d_e_ref») (p .«e_a_de») t

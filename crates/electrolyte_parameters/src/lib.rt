@@ -1,6 +1,7 @@
 // The electrolyte's seven numbers and the rates that are worked out from them. A changed translation of src/battery/p2d/electrolyte.rs
 // (`ElectrolyteParams`).
 
+use refusal::within;
 ghost use mathlib.Core.Path.{_≡_};
 ghost use Rattle.refusal.specs.Answers.{outcomeOf};
 ghost use Rattle.electrolyte_parameters.specs.Params.{paramsFit, lipf6EcDmc, atTemperature, diffusivityEff, conductivityEff};
@@ -27,7 +28,7 @@ pub struct ElectrolyteParams {
 fn at_temperature(at_ref: f64, e_a: f64, temp_k: f64) -> f64
     ensures { λ r. ⌜ r ≡ atTemperature «at_ref» «e_a» «temp_k» ⌝ }
 {
-    at_ref * elementary::exp(e_a / 8.314 * (1.0 / 298.15 - 1.0 / temp_k))
+    at_ref * elementary::arrhenius(e_a, 298.15, temp_k)
 }
 
 // The number that a rate meets: 2 where the numbers that it is worked out from do not fit, then 5.
@@ -59,20 +60,13 @@ impl ElectrolyteParams {
     pub fn fits(self) -> bool
         ensures { λ r. ⌜ r ≡ paramsFit self ⌝ }
     {
-        (1e-16 <= self.d_e_ref)
-            & (self.d_e_ref <= 1e-6)
-            & (1e-6 <= self.kappa_ref)
-            & (self.kappa_ref <= 100.0)
-            & (0.0 <= self.t_plus)
-            & (self.t_plus <= 1.0)
-            & (0.0 <= self.bruggeman)
-            & (self.bruggeman <= 4.0)
-            & (1.0 <= self.c_e_init)
-            & (self.c_e_init <= 1e5)
-            & (0.0 <= self.e_a_de)
-            & (self.e_a_de <= 1e5)
-            & (0.0 <= self.e_a_kappa)
-            & (self.e_a_kappa <= 1e5)
+        within(self.d_e_ref, 1e-16, 1e-6)
+            & within(self.kappa_ref, 1e-6, 100.0)
+            & within(self.t_plus, 0.0, 1.0)
+            & within(self.bruggeman, 0.0, 4.0)
+            & within(self.c_e_init, 1.0, 1e5)
+            & within(self.e_a_de, 0.0, 1e5)
+            & within(self.e_a_kappa, 0.0, 1e5)
     }
 
     // The diffusivity in a medium of that porosity.
@@ -115,7 +109,7 @@ impl ElectrolyteParams {
     pub fn d_e_eff(self, porosity: f64, temp_k: f64) -> refusal::Answer
         ensures { λ r. ⌜ outcomeOf r ≡ dEEff self porosity «temp_k» ⌝ }
     {
-        let fits = self.fits() & refusal::within(porosity, 0.01, 1.0);
+        let fits = self.fits() & within(porosity, 0.01, 1.0);
         refusal::answered(
             rate_refusal(fits, temp_k),
             self.diffusivity_eff(porosity, temp_k),
@@ -126,7 +120,7 @@ impl ElectrolyteParams {
     pub fn kappa_eff(self, porosity: f64, temp_k: f64) -> refusal::Answer
         ensures { λ r. ⌜ outcomeOf r ≡ kappaEff self porosity «temp_k» ⌝ }
     {
-        let fits = self.fits() & refusal::within(porosity, 0.01, 1.0);
+        let fits = self.fits() & within(porosity, 0.01, 1.0);
         refusal::answered(
             rate_refusal(fits, temp_k),
             self.conductivity_eff(porosity, temp_k),

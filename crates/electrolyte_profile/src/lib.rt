@@ -3,7 +3,8 @@
 
 ghost use mathlib.Core.Path.{_≡_};
 ghost use Prim.Native.Nat.{_≤_, _<_};
-ghost use Rattle.electrolyte_profile.specs.Places.{placeFits, profileFits, uniformProfile, sumOf, allFinite};
+ghost use Rattle.arrays.specs.Places.{allFinite, placeFits, filled};
+ghost use Rattle.electrolyte_profile.specs.Places.{aboveFloor, profileFits, sumOf};
 ghost use Rattle.electrolyte_profile.specs.Step.{regionAt, leftOf, rightOf, nodeFrom, nodeNew, profileNew};
 
 // What a step works with in one region: porosity, width of a node, effective diffusivity, source.
@@ -27,7 +28,7 @@ pub struct ElectrolyteStepParams {
 
 // Whether a place is as it must be: a used one finite and at least 1e-10, an unused one +0.
 fn place_fits(x: f64, used: bool) -> bool
-    ensures { λ r. ⌜ r ≡ placeFits x used ⌝ }
+    ensures { λ r. ⌜ r ≡ placeFits aboveFloor x used ⌝ }
 {
     if used {
         return refusal::is_finite(x) & (1e-10 <= x);
@@ -49,12 +50,10 @@ pub fn profile_fits(c: [f64; 96], n: usize) -> bool
 // The profile with x at n nodes.
 pub fn uniform(x: f64, n: usize) -> [f64; 96]
     requires { ⌜ n ≤ 96 ⌝ }
-    ensures { λ r. ⌜ r ≡ uniformProfile x n ⌝ }
+    ensures { λ r. ⌜ r ≡ filled 96 x n ⌝ }
 {
     let mut c = [0.0; 96];
-    for i in 0..n {
-        c[i] = x;
-    }
+    arrays::fill(&mut c, n, x);
     c
 }
 
@@ -72,13 +71,9 @@ pub fn sum(c: [f64; 96], n: usize) -> f64
 
 // Whether no place holds a NaN or an infinity.
 pub fn all_finite(c: [f64; 96]) -> bool
-    ensures { λ r. ⌜ r ≡ allFinite c ⌝ }
+    ensures { λ r. ⌜ r ≡ allFinite c 96 ⌝ }
 {
-    let mut ok = true;
-    for i in 0..96 {
-        ok = ok & refusal::is_finite(c[i]);
-    }
-    ok
+    arrays::all_finite(&c, 96)
 }
 
 // The region of the node i.

@@ -1,8 +1,7 @@
 -- The Arrhenius factor of every sheet and temperature in range is finite and above zero: activation energies of at most 1e5 in size, temperatures from 200 to 400. Assumes nothing.
-use mathlib.Core.Bool.{false}
-use Prim.Native.Nat.{ℕ, _^_}
+use Prim.Native.Nat.{_^_}
 use lib.Ieee.{Float, ofBits}
-use Rattle.binary64.specs.Operators.{_⊖_, _⊗_, _⊘_}
+use Rattle.binary64.specs.Operators.{_⊘_}
 use Rattle.binary64.specs.Range.{Within, Sized}
 use Rattle.binary64.specs.RangeOps.{mul-most, div-most, div-between, sub-alike}
 use Rattle.binary64.specs.RangeTests.{literal}

@@ -1,22 +1,18 @@
 -- H(x) is finite for an x of at most 2 ^ 499 in size, which is above 1e150. Assumes nothing.
-use mathlib.Core.Path.{_≡_, refl, sym, ap, _∙_, subst}
-use mathlib.Core.Bool.{Bool, true, false, not, cond}
-use Prim.Native.Nat.{ℕ, _*_, _^_, _≤_}
-use native.Mathlib.Nat.{zero-lt-suc}
+use mathlib.Core.Path.{_≡_, refl}
+use mathlib.Core.Bool.{Bool, true, false, cond}
+use Prim.Native.Nat.{ℕ, _^_}
 use lib.Dec.{T}
-use lib.Ieee.{Float, nan, inf, fin, binary64, up, down, le, neg, round, size, fits, ofBits}
+use lib.Ieee.{Float, nan, inf, fin, binary64, neg, round, size, fits, ofBits}
 use lib.Ieee.Bits.{ofBits-fits}
 use lib.Ieee.Fits.{add-fits}
-use lib.Ieee.Positive.{num, den, positive}
 use Rattle.binary64.specs.Operators.{_⊕_, _⊗_, f64, negative}
 use Rattle.binary64.specs.Range.{Most, Within, Sized, sized, neg-most}
 use Rattle.binary64.specs.RangeOps.{mul-most, add-alike, least-zero}
-use Rattle.binary64.specs.RangeTests.{tested-within, within-positive, within-ge, most-le}
+use Rattle.binary64.specs.RangeTests.{within-positive, within-ge, most-le}
 use Rattle.square_root.specs.Root.{sqrtOf, rounded, wholeRoot, rootBelow}
-use Rattle.square_root.specs.Standard.{natural}
 use Rattle.square_root.proofs.Range.{sqrt-within}
 use Rattle.elementary.specs.Exp.{one}
-use Rattle.elementary.specs.Ln.{lnOf}
 use Rattle.min_max.specs.MinMax.{absOf}
 use Rattle.elementary.specs.Asinh.{asinhAt, asinhOf}
 use Rattle.elementary.proofs.Constants.{at-1}

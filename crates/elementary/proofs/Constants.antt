@@ -1,7 +1,6 @@
 -- The ranges of the constants: each is between its own value and itself, c below 1420/2048. Assumes nothing.
 use mathlib.Core.Bool.{false}
 use lib.Ieee.{ofBits}
-use Rattle.binary64.specs.Operators.{f64}
 use Rattle.binary64.specs.Range.{Most, Within}
 use Rattle.binary64.specs.RangeTests.{literal}
 use Rattle.elementary.specs.Exp.{one, scale}

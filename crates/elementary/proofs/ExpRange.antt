@@ -1,6 +1,6 @@
 -- Bounds on E(t) for an exponent t of at most N / D in size: every a of the series is between lo and hi, and lo and hi are squared and rounded as a is. Assumes nothing.
 use mathlib.Core.Path.{_≡_, refl, sym, _∙_, subst}
-use mathlib.Core.Bool.{Bool, true, false, not, _&&_, _||_}
+use mathlib.Core.Bool.{Bool, true, false, _&&_, _||_}
 use Prim.Native.Nat.{ℕ, zero, suc, _+_, _*_, _^_, _≤_}
 use native.Mathlib.Nat.{le-trans, le-suc, zero-lt-suc}
 use lib.Dec.{T, ltb, leb, not-T, lit≤}

@@ -1,16 +1,15 @@
 -- E of every t that is no NaN is +infinity or a number that is not negative. Assumes nothing.
-use mathlib.Core.Path.{_≡_, refl, sym, ap, _∙_, subst}
-use mathlib.Core.Bool.{Bool, true, false, not, _||_, cond, true≢false}
+use mathlib.Core.Path.{_≡_, refl, sym, subst}
+use mathlib.Core.Bool.{Bool, true, false, not, cond, true≢false}
 use Prim.Native.Nat.{ℕ, zero, suc, _*_, _^_, _≤_}
 use native.Mathlib.Nat.{le-trans, le-suc, zero-lt-suc}
 use lib.Dec.{T, ltb, lit≤}
-use lib.IntN.{ℤ}
-use lib.Ieee.{Float, nan, inf, fin, binary64, up, down, unlike, units, odd, round, mul, neg, lt, isNan, ofBits}
+use lib.Ieee.{Float, nan, inf, fin, binary64, up, down, units, odd, round, mul, neg, lt, isNan, ofBits}
 use lib.Ieee.Fits.{round-is}
 use lib.Ieee.Order.{drop, kept}
 use lib.Ieee.Scale.{finite}
-use Rattle.binary64.specs.Operators.{_⊕_, _⊗_, _⊘_, f64, count, negative}
-use Rattle.binary64.specs.Range.{Most, Sized, sized, most-wider}
+use Rattle.binary64.specs.Operators.{_⊕_, _⊗_, _⊘_, count}
+use Rattle.binary64.specs.Range.{Sized, sized, most-wider}
 use Rattle.binary64.specs.RangeOps.{mul-most, div-most, div-count, add-most}
 use Rattle.binary64.specs.RangeTests.{tested-sized}
 use Rattle.elementary.specs.Exp.{one, series, squarings, powered, expOf, highest, lowest, scale}

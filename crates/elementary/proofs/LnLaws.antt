@@ -1,16 +1,13 @@
 -- What `ln` and its parts meet their contracts by: the series, the exponent as a float, and the two branches. Assumes nothing.
-use mathlib.Core.Path.{_≡_, refl, sym, ap, _∙_}
+use mathlib.Core.Path.{_≡_, sym, ap, _∙_}
 use mathlib.Core.Bool.{Bool, true, false, cond}
 use Prim.Native.Nat.{ℕ, zero, suc, _+_, _-_, _*_, _≤_, _<_}
 use native.Mathlib.Nat.{lt-irrefl, lt-of-not-le}
 use native.Mathlib.Decide.{decLe}
 use native.Mathlib.Omega.{arith}
 use lib.IntN.{ℤ, pos, negsuc}
-use lib.Arith.{lt→nleb}
-use lib.Dec.{T, leb, le→leb}
 use lib.Ieee.{Float, binary64, minus, round, le, neg, ofInt}
-use lib.Ieee.Bits.{cond-no}
-use Rattle.binary64.specs.Operators.{_⊕_, _⊖_, _⊗_, _⊘_, f64, count}
+use Rattle.binary64.specs.Operators.{_⊕_, _⊖_, _⊗_, _⊘_, count}
 use Rattle.binary64.specs.Sign.{round-neg}
 use Rattle.elementary.specs.Exp.{one}
 use Rattle.elementary.specs.Ln.{two, ln2, terms, lnParts, raise, lnSplit, threeHalves, twentyThree}

@@ -1,23 +1,20 @@
 -- L(x) of an x that is finite and above zero is finite: bounds on its size, by the exponent of x. Assumes nothing.
 use mathlib.Core.Path.{_≡_, refl, sym, ap, _∙_, subst}
-use mathlib.Core.Bool.{Bool, true, false, not, _&&_, cond, true≢false}
-use Prim.Native.Nat.{ℕ, zero, suc, _+_, _-_, _*_, _%_, _^_, _≤_, _<_, zero-le}
-use native.Mathlib.Nat.{le-trans, le-of-eq, le-of-lt, lt-of-lt-of-le, lt-of-le-of-lt, lt-of-not-le, lt-irrefl, le-of-suc-le-suc, le-suc, mul-comm, mul-right-comm, mul-assoc, mul-one, one-mul, mul-pos, mul-le-mul, mul-le-mul-left, mul-le-mul-right, mul-lt-mul-of-pos-right, le-of-mul-le-mul-right, lt-of-mul-lt-mul-right, pow-succ', zero-lt-suc}
+use mathlib.Core.Bool.{Bool, true, false, cond, true≢false}
+use Prim.Native.Nat.{ℕ, zero, suc, _+_, _-_, _*_, _^_, _≤_, _<_, zero-le}
+use native.Mathlib.Nat.{le-trans, le-of-eq, le-of-lt, lt-of-lt-of-le, lt-of-le-of-lt, lt-of-not-le, lt-irrefl, le-of-suc-le-suc, le-suc, mul-comm, mul-right-comm, mul-one, one-mul, mul-pos, mul-le-mul-right, mul-lt-mul-of-pos-right, le-of-mul-le-mul-right, pow-succ', zero-lt-suc}
 use native.Mathlib.Decide.{decLe}
 use native.Mathlib.Omega.{arith}
 use lib.IntN.{ℤ, pos, negsuc, natAbs}
-use lib.Arith.{lt→nleb}
-use lib.Dec.{T, le→leb, ltb, leb, eqb, ltb→lt, leb→le, lit≤, lit<}
+use lib.Dec.{T, leb, ltb→lt, lit≤, lit<}
 use lib.Pow.{pow-pos, pow-add, pow-mono}
-use lib.Ieee.{Float, nan, inf, fin, binary64, up, down, unlike, minus, size, round, sum, add, sub, neg, lt, le, fits, ofInt, ofBits}
-use lib.Ieee.Bits.{cond-no}
-use lib.Ieee.Digits.{size-lt, size-reaches, minus-val}
-use lib.Ieee.Exact.{HasValue}
-use lib.Ieee.Fits.{and-l, and-r, up-pos, down-pos}
+use lib.Ieee.{Float, nan, inf, fin, binary64, up, down, unlike, minus, size, lt, le, fits, ofInt, ofBits}
+use lib.Ieee.Digits.{minus-val}
+use lib.Ieee.Fits.{up-pos}
 use lib.Ieee.Positive.{num, den, den-pos, positive}
-use Rattle.binary64.specs.Operators.{_⊕_, _⊖_, _⊗_, _⊘_, f64, count, negative}
+use Rattle.binary64.specs.Operators.{_⊕_, _⊖_, _⊗_, _⊘_, count, negative}
 use Rattle.binary64.specs.Order.{not→lt}
-use Rattle.binary64.specs.Range.{exact, Most, Least, Between, Within, Sized, sized, most-wider, least-wider, least-of-le, round-most}
+use Rattle.binary64.specs.Range.{exact, Most, Least, Within, Sized, sized, most-wider, least-wider, least-of-le}
 use Rattle.binary64.specs.RangeOps.{mul-most, div-most, div-between, div-count, add-most, add-alike, sub-alike, least-zero}
 use Rattle.binary64.specs.RangeTests.{int-between, within-positive}
 use Rattle.elementary.specs.Exp.{one}

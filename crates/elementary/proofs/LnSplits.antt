@@ -1,22 +1,22 @@
 -- `lnOf` of a number by the parts that the program takes it apart into. Assumes nothing.
 use mathlib.Core.Path.{_≡_, refl, sym, ap, _∙_, subst}
-use mathlib.Core.Bool.{Bool, true, false, _&&_, cond, true≢false}
+use mathlib.Core.Bool.{Bool, true, false, true≢false}
 use Prim.Native.Nat.{ℕ, zero, suc, _+_, _-_, _*_, _/_, _%_, _^_, _≤_, _<_}
 use native.Mathlib.Nat.{le-trans, le-of-eq, lt-of-lt-of-le, lt-of-not-le, lt-irrefl, le-antisymm, le-of-suc-le-suc, mul-le-mul, mul-pos, mul-assoc, mul-one, mul-right-comm, mul-le-mul-right, mul-lt-mul-of-pos-right, mul-div-cancel, eq-of-mul-eq-mul-right, zero-mul, zero-lt-suc}
 use native.Mathlib.Omega.{arith}
 use lib.IntN.{ℤ, pos, negsuc}
 use lib.Bits.{shifted-half, shifted-even}
 use lib.Count.{trailingZeros, under}
-use lib.Dec.{T, leb, ltb, eqb, eqb→eq, ltb→lt, le→leb}
+use lib.Dec.{T}
 use lib.Pow.{pow-pos, pow-add, pow-mono}
-use lib.Ieee.{Float, nan, inf, fin, binary64, up, down, size, odd, minus, fits, ofFields, ofBits}
-use lib.Ieee.Digits.{size-lt, size-le, size-reaches}
+use lib.Ieee.{Float, nan, inf, fin, binary64, up, size, odd, minus, fits, ofFields, ofBits}
+use lib.Ieee.Digits.{size-lt, size-le}
 use lib.Ieee.Exact.{HasValue}
-use lib.Ieee.Fits.{down-pos, and-l, and-r}
+use lib.Ieee.Fits.{down-pos}
 use Rattle.square_root.specs.Parts.{Normal}
 use Rattle.square_root.specs.Standard.{belowZero}
 use Rattle.square_root.proofs.Patterns.{low-bits}
-use Rattle.elementary.specs.Ln.{mant, expo, lnSplit, lnOf}
+use Rattle.elementary.specs.Ln.{mant, lnSplit, lnOf}
 use Rattle.min_max.proofs.Format.{representable, size-pos, lead-le, minus-up}
 use Rattle.elementary.proofs.LnLaws.{minus-same}
 

@@ -1,14 +1,8 @@
 -- A power x ^ b for x from 1/128 to 1 and an exponent of at most 4 in size is finite and above zero: for porosities, and for stoichiometries to 0.5 and 1.5. Assumes nothing.
-use mathlib.Core.Path.{_≡_, refl}
-use mathlib.Core.Bool.{false}
-use Prim.Native.Nat.{ℕ, _^_}
-use native.Mathlib.Nat.{zero-lt-suc}
-use lib.Dec.{T}
-use lib.Ieee.{Float, unlike}
-use Rattle.binary64.specs.Operators.{_⊗_, negative}
-use Rattle.binary64.specs.Range.{Most, Within, Sized}
+use Prim.Native.Nat.{_^_}
+use lib.Ieee.{Float}
+use Rattle.binary64.specs.Range.{Within, Sized}
 use Rattle.binary64.specs.RangeOps.{mul-most}
-use Rattle.elementary.specs.Ln.{lnOf}
 use Rattle.elementary.specs.Power.{powfOf}
 use Rattle.elementary.proofs.ExpRange.{exp-22}
 use Rattle.elementary.proofs.LnRange.{ln-part}

@@ -1,5 +1,5 @@
 -- What the functions give at NaN, infinities and zeros. Assumes nothing.
-use mathlib.Core.Path.{_≡_, refl, sym, ap, _∙_}
+use mathlib.Core.Path.{_≡_, refl, ap, _∙_}
 use mathlib.Core.Bool.{Bool, true, false, _||_, cond}
 use lib.IntN.{pos}
 use lib.Ieee.{Float, nan, inf, fin, lt, le, div, add, sub, mul, neg, round, ofInt, size, isNan, ofBits}

@@ -6,6 +6,7 @@ ghost use Prim.Native.Nat.{_≤_};
 ghost use lib.Ieee.{binary64, ofInt, minus};
 ghost use Rattle.elementary.specs.Exp.{one, series, squarings, expOf};
 ghost use Rattle.elementary.specs.LastTerms.{lastTerms, MeetAtSeries};
+ghost use Rattle.elementary.specs.Arrhenius.{arrheniusOf};
 ghost use Rattle.elementary.specs.Ln.{lnParts, lnOf};
 ghost use Rattle.elementary.specs.Asinh.{asinhOf};
 ghost use Rattle.elementary.specs.Power.{powfOf, squareOf, cubeOf, fourthOf};
@@ -102,6 +103,13 @@ pub fn exp(t: f64) -> f64
         return 0.0;
     }
     exp_squarings(short_series(t / 1024.0))
+}
+
+// The Arrhenius factor of an activation energy in J/mol, by which a rate goes from the temperature t_ref to t.
+pub fn arrhenius(e_a: f64, t_ref: f64, t: f64) -> f64
+    ensures { λ r. ⌜ r ≡ arrheniusOf «e_a» «t_ref» t ⌝ }
+{
+    exp(e_a / 8.314 * (1.0 / t_ref - 1.0 / t))
 }
 
 // w - 1074 as a float.

@@ -90,10 +90,6 @@ pub whole-neg : (a : ℤ) → whole (negℤ a) ≈F negF (whole a)
 unfolding negF whole
 whole-neg a = record { cross = refl }
 
-pub mul-bottom : (x : Fraction) → x *F nat (x .bottom) ≈F whole (x .top)
-unfolding _*F_ whole
-mul-bottom x = record { cross = zring (parts x []) (search zquote depth 24) tt }
-
 abbrev pub Fring : CRing
 Fring = record {
   R = Fraction;

@@ -1,16 +1,16 @@
 -- The inverse and the quotient.
-use mathlib.Core.Path.{_≡_, refl, sym, ap}
+use mathlib.Core.Path.{_≡_, ap}
 use mathlib.Core.List.{[], _∷_}
 use mathlib.Core.Logic.{inl, inr}
 use Prim.Native.Nat.{ℕ, zero, suc, _<_}
 use native.Mathlib.Omega.{arith}
-use lib.IntN.{ℤ, pos, negsuc, _*ℤ_, negℤ, negℤ-negℤ}
+use lib.IntN.{ℤ, pos, negsuc, _*ℤ_}
 use lib.Signed.{_<ℤ_, <ℤ-irrefl}
 use Rattle.fraction.specs.Integer.{≤ℤ-or}
 use Rattle.fraction.specs.IntegerRing.{zquote, zle-by}
 use Rattle.fraction.specs.IntegerRing as Z
 use Rattle.fraction.specs.Fraction.{Fraction, below, whole, nat, _+F_, negF, _-F_, _*F_, _/F_, inv, turned, _≈F_, _≤F_, _<F_, _within_}
-use Rattle.fraction.specs.Field.{≤F-of-≈F, lt-not-le, lt-from, le-of-lt}
+use Rattle.fraction.specs.Field.{lt-not-le, lt-from, le-of-lt}
 use Rattle.fraction.specs.Order.{lt-le-trans, pos-of-one}
 use Rattle.fraction.specs.Within.{within-resp, within-add, within-mul, within-neg}
 use Rattle.fraction.specs.Certificate.{quote, le-by, eq-by, up, eqn, _⊞_, _⊠_, _·_, _&_}
@@ -33,17 +33,6 @@ pub mul-inv : {x : Fraction} → nat 0 <F x → x *F inv x ≈F nat 1
 unfolding inv whole _*F_
 mul-inv {x} h = record { cross = turned-is (x .top) (x .bottom) (x .above) (top-pos h) }
 
--- the inverse has the sign of the number
-turned-neg : (t : ℤ) (b : ℕ) (p : 0 < b) → turned (negℤ t) b p ≈F negF (turned t b p)
-unfolding turned negF whole
-turned-neg (pos zero) b p = record { cross = refl }
-turned-neg (pos (suc n)) b p = record { cross = refl }
-turned-neg (negsuc n) b p = record { cross = ap (λ (z : ℤ). z *ℤ pos (suc n)) (sym (negℤ-negℤ (pos b))) }
-
-pub inv-neg : (x : Fraction) → inv (negF x) ≈F negF (inv x)
-unfolding inv negF
-inv-neg x = turned-neg (x .top) (x .bottom) (x .above)
-
 pub inv-pos : {x : Fraction} → nat 0 <F x → nat 0 <F inv x
 inv-pos {x} h = pos-of-one (inv x) x (le-by (x ∷ inv x ∷ []) 0 (eqn (negF (nat 1) · mul-inv h)) (search quote depth 24) tt) (le-of-lt h)
 
@@ -56,11 +45,6 @@ mul-cancel x y {c} p h = le-by (x ∷ y ∷ c ∷ inv c ∷ []) 0 (up h ⊠ inv-
 
 pub mul-pos : {x y : Fraction} → nat 0 <F x → nat 0 <F y → nat 0 <F x *F y
 mul-pos {x} {y} p q = lt-from q (λ (l : x *F y ≤F nat 0). le-by (x ∷ y ∷ inv x ∷ []) 0 (up l ⊠ inv-nn p ⊞ eqn (negF y · mul-inv p)) (search quote depth 24) tt)
-
-pub inv-cong : {x y : Fraction} → nat 0 <F x → x ≈F y → inv x ≈F inv y
-inv-cong {x} {y} p e =
-    let q : nat 0 <F y = lt-le-trans p (≤F-of-≈F e) in
-    eq-by (x ∷ y ∷ inv x ∷ inv y ∷ []) (inv y · mul-inv p & negF (inv x) · mul-inv q & negF (inv x *F inv y) · e) (search quote depth 24) tt
 
 -- a larger divisor
 pub inv-anti : {x y : Fraction} → nat 0 <F x → x ≤F y → inv y ≤F inv x

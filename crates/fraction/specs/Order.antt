@@ -9,8 +9,8 @@ use lib.Pow.{pow-add, pow-pos, pow-mono}
 use lib.IntN.{pos, _*ℤ_}
 use Rattle.fraction.specs.Integer.{≤ℤ-antisym, not-≤ℤ, pos-≤, pos-<}
 use lib.Signed.{leZ, leZ-yes}
-use Rattle.fraction.specs.Fraction.{Fraction, below, whole, nat, pow2, _+F_, negF, _*F_, _≈F_, _≤F_, _<F_}
-use Rattle.fraction.specs.Field.{≈F-refl, ≈F-sym, ≤F-of-≈F, ≤F-trans, whole-+, whole-*, lt-from}
+use Rattle.fraction.specs.Fraction.{Fraction, below, whole, nat, pow2, _+F_, _*F_, _≈F_, _≤F_, _<F_}
+use Rattle.fraction.specs.Field.{≈F-refl, ≈F-sym, ≤F-of-≈F, ≤F-trans, whole-*, lt-from}
 use Rattle.fraction.specs.Certificate.{quote, le-by, up, _⊞_, _⊠_}
 
 -- ---- ≤
@@ -23,12 +23,6 @@ pub ≤F-antisym : {x y : Fraction} → x ≤F y → y ≤F x → x ≈F y
 pub ≤F-resp : {x x' y y' : Fraction} → x ≈F x' → y ≈F y' → x ≤F y → x' ≤F y'
 ≤F-resp p q h = ≤F-trans (≤F-of-≈F (≈F-sym p)) (≤F-trans h (≤F-of-≈F q))
 
-pub add-mono : {x y z w : Fraction} → x ≤F y → z ≤F w → x +F z ≤F y +F w
-add-mono {x} {y} {z} {w} h k = le-by (x ∷ y ∷ z ∷ w ∷ []) 0 (up h ⊞ up k) (search quote depth 24) tt
-
-pub neg-mono : {x y : Fraction} → x ≤F y → negF y ≤F negF x
-neg-mono {x} {y} h = le-by (x ∷ y ∷ []) 0 (up h) (search quote depth 24) tt
-
 -- factors that are at least 0
 pub mul-mono : {x y z w : Fraction} → nat 0 ≤F x → x ≤F y → nat 0 ≤F z → z ≤F w → x *F z ≤F y *F w
 mul-mono {x} {y} {z} {w} p h q k = le-by (x ∷ y ∷ z ∷ w ∷ []) 0 (up h ⊠ (q ⊞ up k) ⊞ p ⊠ up k) (search quote depth 24) tt
@@ -36,12 +30,6 @@ mul-mono {x} {y} {z} {w} p h q k = le-by (x ∷ y ∷ z ∷ w ∷ []) 0 (up h �
 -- ---- <
 pub lt-le-trans : {x y z : Fraction} → x <F y → y ≤F z → x <F z
 lt-le-trans h k = lt-from h (λ l. ≤F-trans k l)
-
-pub le-lt-trans : {x y z : Fraction} → x ≤F y → y <F z → x <F z
-le-lt-trans h k = lt-from k (λ l. ≤F-trans l h)
-
-pub add-lt : {x y z w : Fraction} → x <F y → z ≤F w → x +F z <F y +F w
-add-lt {x} {y} {z} {w} h k = lt-from h (λ (l : y +F w ≤F x +F z). le-by (x ∷ y ∷ z ∷ w ∷ []) 0 (up k ⊞ up l) (search quote depth 24) tt)
 
 -- ---- natural numbers
 pub nat-le : (a b : ℕ) → a ≤ b → nat a ≤F nat b
@@ -55,9 +43,6 @@ nat-lt a b h = record { cross = pos-< (omega arith) }
 -- what a factor at least 0 brings to 1 is above 0
 pub pos-of-one : (x p : Fraction) → nat 1 ≤F x *F p → nat 0 ≤F p → nat 0 <F x
 pos-of-one x p h n = lt-from (nat-lt 0 1 (omega arith)) (λ (l : x ≤F nat 0). le-by (x ∷ p ∷ []) 0 (up h ⊞ up l ⊠ n) (search quote depth 24) tt)
-
-pub nat-+ : (a b : ℕ) → nat (a + b) ≈F nat a +F nat b
-nat-+ a b = whole-+ (pos a) (pos b)
 
 pub nat-* : (a b : ℕ) → nat (a * b) ≈F nat a *F nat b
 nat-* a b = whole-* (pos a) (pos b)

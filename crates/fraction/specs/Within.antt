@@ -3,7 +3,6 @@ use mathlib.Core.Path.{_≡_, refl, ap}
 use mathlib.Core.List.{[], _∷_}
 use mathlib.Core.Logic.{_⊎_, inl, inr, ⊎-elim}
 use Prim.Native.Nat.{zero, suc}
-use native.Mathlib.Omega.{arith}
 use lib.IntN.{ℤ, pos, negsuc, _*ℤ_, negℤ, natAbs}
 use lib.Signed.{_≤ℤ_, leZ-yes, ≤ℤ-refl}
 use Rattle.fraction.specs.IntegerRing.{zquote, zle-by}
@@ -35,14 +34,8 @@ within-add {x} {y} {b} {c} h k = within-by (x ∷ y ∷ b ∷ c ∷ []) 0 (hi h 
 pub within-mul : {x y b c : Fraction} → x within b → y within c → x *F y within b *F c
 within-mul {x} {y} {b} {c} h k = within-by (x ∷ y ∷ b ∷ c ∷ []) 1 (hi h ⊠ lo k ⊞ lo h ⊠ hi k) (hi h ⊠ hi k ⊞ lo h ⊠ lo k) (search quote depth 24) tt tt
 
-pub apart-sym : (x y : Fraction) {e : Fraction} → x -F y within e → y -F x within e
-apart-sym x y {e} h = within-by (x ∷ y ∷ e ∷ []) 0 (lo h) (hi h) (search quote depth 24) tt tt
-
 pub apart-trans : (x y z : Fraction) {e f : Fraction} → x -F y within e → y -F z within f → x -F z within e +F f
 apart-trans x y z {e} {f} h k = within-by (x ∷ y ∷ z ∷ e ∷ f ∷ []) 0 (hi h ⊞ hi k) (lo h ⊞ lo k) (search quote depth 24) tt tt
-
-pub apart-add : (x y z : Fraction) {e : Fraction} → x -F y within e → x +F z -F (y +F z) within e
-apart-add x y z h = within-resp (ring (x ∷ y ∷ z ∷ []) (search quote depth 24) tt) h
 
 -- each is at most the other and e
 pub apart : {x y e : Fraction} → x ≤F y +F e → y ≤F x +F e → x -F y within e
@@ -88,7 +81,3 @@ abs-of-within {x} {b} h = elim (abs-is x) [
   | inl e ↦ le-by (∣ x ∣ ∷ x ∷ b ∷ []) 0 (hi h ⊞ eqn (nat 1 · e)) (search quote depth 24) tt
   | inr e ↦ le-by (∣ x ∣ ∷ x ∷ b ∷ []) 0 (lo h ⊞ eqn (nat 1 · e)) (search quote depth 24) tt
 ]
-
-pub within-of-abs : {x b : Fraction} → ∣ x ∣ ≤F b → x within b
-unfolding ∣_∣
-within-of-abs {x} h = within-weaken (within-abs x) h

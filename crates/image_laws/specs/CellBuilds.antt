@@ -16,7 +16,6 @@ use Rattle.binary64.specs.Operators.{_⊗_}
 use Rattle.refusal.specs.Numbers.{sheet, neither-refused, passed}
 use Rattle.electrode.specs.declared.ElectrodeParams.{ElectrodeParams}
 use Rattle.electrode.specs.Sheet.{sheetFits, graphiteAnode, lfpCathode, nmcCathode}
-use Rattle.profile.specs.Places.{filled}
 use Rattle.particle.specs.Checks.{nodes-valid}
 use Rattle.particle.specs.Calls as P
 use Rattle.kinetics.specs.declared.SpmConfig.{SpmConfig}
@@ -40,7 +39,7 @@ use Rattle.image_layout.specs.Layout.{particleBytes, cellBytes}
 
 -- ---- a particle
 pub fresh-encodable : (p : ElectrodeParams) (n : ℕ) → EncodableSheet p → n ≤ 64 → EncodableParticle (P.fresh p n)
-unfolding P.fresh filled
+unfolding P.fresh
 fresh-encodable p n h m = record {
   sheet = h;
   nodes = omega (arith, m);

@@ -12,7 +12,7 @@ use lib.Ieee.Fits.{mul-fits, and-l}
 use borrow.Author.Tests.{eq-eqb}
 use Rattle.binary64.specs.Operators.{_⊗_}
 use Rattle.refusal.specs.Numbers.{grid, sheet, neither-refused, passed}
-use Rattle.electrolyte_profile.specs.Places.{uniformProfile}
+use Rattle.arrays.specs.Places.{filled}
 use Rattle.electrolyte.specs.declared.ElectrolyteState.{ElectrolyteState}
 use Rattle.electrolyte.specs.declared.ElectrolyteAnswer.{ElectrolyteAnswer}
 use Rattle.electrolyte.specs.State.{total, withProfile}
@@ -41,8 +41,7 @@ use Rattle.image_layout.specs.Layout.{electrolyteBytes, dfnBytes}
 
 -- ---- an electrolyte
 module _ (e : ElectrolyteState) (hs : EncodableRow (electrolyteParamsNumbers (e .params))) (hr : EncodableRow (regionNumbers e)) where
-  filled-state : E.buildRefusal e ≡ 0 → EncodableElectrolyte (withProfile e (uniformProfile (e .params .«c_e_init») (total e)))
-  unfolding uniformProfile
+  filled-state : E.buildRefusal e ≡ 0 → EncodableElectrolyte (withProfile e (filled 96 (e .params .«c_e_init») (total e)))
   filled-state q =
       let n = EA.build-total e q in
       record {
@@ -59,7 +58,7 @@ module _ (e : ElectrolyteState) (hs : EncodableRow (electrolyteParamsNumbers (e 
   unfolding E.built
   electrolyte-encodable z =
       let refusal : ElectrolyteAnswer → ℕ = λ x. x .refusal in
-      rw (accepted-is refusal (E.buildRefusal e) (E.answer 0 (withProfile e (uniformProfile (e .params .«c_e_init») (total e)))) _ refl z)
+      rw (accepted-is refusal (E.buildRefusal e) (E.answer 0 (withProfile e (filled 96 (e .params .«c_e_init») (total e)))) _ refl z)
       (filled-state (inputs-pass refusal (E.buildRefusal e) _ _ refl z))
 
 -- call 11

@@ -13,6 +13,7 @@ use Rattle.matrix_rows.specs.Loops.{either}
 use Rattle.refusal.specs.Numbers.{notFinite}
 use Rattle.iterate.specs.Iterate.{first-length}
 use Rattle.electrolyte_profile.specs.declared.ElectrolyteStepParams.{ElectrolyteStepParams}
+use Rattle.arrays.specs.Places.{allFinite}
 use Rattle.electrolyte_profile.specs.Places as EP
 use Rattle.electrolyte_profile.specs.Step.{nodeFrom, nodeNew, profileNew}
 use Rattle.electrolyte.specs.declared.ElectrolyteState.{ElectrolyteState}
@@ -70,7 +71,7 @@ electrolyte-step-encodable e jNeg jPos dt t h =
     let c = profileNew (stepParams e jNeg jPos dt t) (e .«c_e») in
     let P : ElectrolyteAnswer → Type 0 = λ a. EncodableElectrolyte (a .state) in
     either P (eqb (E.stepRefusal e jNeg jPos dt t) 0) (E.accepted e c) (E.answer (E.stepRefusal e jNeg jPos dt t) e)
-    (either P (EP.allFinite c) (E.answer 0 (withProfile e c)) (E.answer notFinite e) (electrolyte-profile e (stepParams e jNeg jPos dt t) h) h) h
+    (either P (allFinite c 96) (E.answer 0 (withProfile e c)) (E.answer notFinite e) (electrolyte-profile e (stepParams e jNeg jPos dt t) h) h) h
 
 -- ---- a step's answer
 module _ (s : List ℕ) (jNeg jPos dt t : Float) (a : List ℕ) (h : electrolyteReturn s jNeg jPos dt t ≡ 0) where

@@ -73,7 +73,7 @@ sheet-answered call p x =
 
 average-fits : (p : ParticleDiffusion) → EncodableRow (p .«c_s») → T (fits binary64 (average p))
 unfolding average
-average-fits p h = cond-fits binary64 (lt (shares (p .«n_nodes») (spacing p) (p .«n_nodes»)) «1e-30») _ _ (h .place 0) (div-fits binary64 _ _)
+average-fits p h = cond-fits binary64 (lt (shares (p .«n_nodes») (spacing (p .params) (p .«n_nodes»)) (p .«n_nodes»)) «1e-30») _ _ (h .place 0) (div-fits binary64 _ _)
 
 particle-answered : (call : ℕ) (p : ParticleDiffusion) (x : Float) → EncodableRow (p .«c_s») → Answered (particleNumber call p x)
 unfolding particleNumber P.dtStable P.thetaSurface P.thetaAvg P.cAvg P.ocpSurface stableStep surfaceTheta averageTheta surfacePotential openCircuit

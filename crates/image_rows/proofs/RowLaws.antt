@@ -1,18 +1,17 @@
 -- What the tests of a row find: its words are whole, and no word or place is a NaN. Assumes nothing.
-use Prim.Native.Nat.{ℕ, _+_, _*_, _/_, _%_, _<_, _≤_}
-use mathlib.Core.Path.{_≡_, sym, subst}
-use mathlib.Core.Bool.{Bool, true, not}
+use Prim.Native.Nat.{ℕ, _+_, _*_, _/_, _%_, _≤_}
+use mathlib.Core.Path.{_≡_, subst}
+use mathlib.Core.Bool.{not}
 use mathlib.Core.List.{List}
 use native.Mathlib.Omega.{arith}
 use native.Mathlib.Nat.{lt-irrefl, lt-of-lt-of-le}
 use lib.Dec.{T, eqb, eqb-refl, T-not, not-T, ltb→lt}
-use lib.ListN.{length, getD}
+use lib.ListN.{length}
 use lib.Ieee.{Float, nan, inf, fin, binary64, isNan, eq, nanBits}
 use lib.Ieee.Bits.{nanBits-above}
 use borrow.Author.Tests.{le-leb}
-use Rattle.iterate.specs.Iterate.{all-at}
 use Rattle.codec.specs.Words.{bytesAt, wordAt, putBytes, putWord}
-use Rattle.image_rows.specs.Rows.{finitePattern, finiteWords, noNan}
+use Rattle.image_rows.specs.Rows.{finitePattern}
 
 -- a whole word
 pub word-is : (s : List ℕ) (k : ℕ) → k * 8 + 8 ≤ length s → bytesAt 7 s (k * 8) ≡ wordAt s k

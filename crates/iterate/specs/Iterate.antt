@@ -1,11 +1,11 @@
 -- After k turns: the definitions, and what each place then holds. Assumes nothing.
-use Prim.Native.Nat.{ℕ, zero, suc, _≤_, _<_, _+_}
-use mathlib.Core.Path.{_≡_, refl, ap}
+use Prim.Native.Nat.{ℕ, zero, suc, _≤_, _<_}
+use mathlib.Core.Path.{_≡_, refl}
 use mathlib.Core.Bool.{Bool, true, false, _&&_}
 use mathlib.Core.Logic.{⊎-elim}
 use mathlib.Core.List.{List}
 use native.Mathlib.Omega.{arith}
-use native.Mathlib.Nat.{not-suc-le-zero, eq-or-lt-of-le, le-of-suc-le-suc, ne-of-lt, ne-of-gt, zero-add, suc-add}
+use native.Mathlib.Nat.{not-suc-le-zero, eq-or-lt-of-le, le-of-suc-le-suc, ne-of-lt, ne-of-gt}
 use lib.Dec.{T}
 use lib.Ieee.Fits.{and-l, and-r}
 use lib.ListN.{length, getD, set, length-set}
@@ -21,11 +21,6 @@ module _ {A : Type 0} where
   unfoldable pub times : ℕ → (A → A) → A → A
   times zero f x = x
   times (suc k) f x = f (times k f x)
-
-  pub times-add : (k l : ℕ) (f : A → A) (x : A) → times (k + l) f x ≡ times k f (times l f x)
-  unfolding times
-  times-add zero l f x = rw zero-add
-  times-add (suc k) l f x = rw (suc-add k l) (ap f (times-add k l f x))
 
 -- f holds of each number below k
 unfoldable pub allBelow : ℕ → (ℕ → Bool) → Bool

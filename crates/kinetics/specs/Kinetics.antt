@@ -1,12 +1,12 @@
 -- The kinetics of a single-particle cell, from solver.rs. Definitions only.
-use Prim.Native.Nat.{ℕ}
 use mathlib.Core.Bool.{Bool, cond, _&&_}
-use lib.Ieee.{Float, le, lt, neg}
+use lib.Ieee.{Float, lt, neg}
 use Rattle.binary64.specs.Operators.{_⊕_, _⊖_, _⊗_, _⊘_}
 use Rattle.binary64.specs.Literals.{«0·0», «1e-30», «0·01», «0·99», «1·0», «2·0», «8·0», «9·0», «10·0», «1000·0», «90000·0», «100000·0»}
 use Rattle.square_root.specs.Root.{sqrtOf}
 use Rattle.min_max.specs.MinMax.{clampOf, signumOf}
 use Rattle.elementary.specs.Asinh.{asinhOf}
+use Rattle.refusal.specs.Ranges.{inRange}
 use Rattle.electrode.specs.declared.ElectrodeParams.{ElectrodeParams}
 use Rattle.electrode.specs.Sheet.{specificArea}
 use Rattle.particle.specs.declared.ParticleDiffusion.{ParticleDiffusion}
@@ -17,14 +17,14 @@ use Rattle.kinetics.specs.declared.SpmConfig.{SpmConfig}
 abbrev pub configFits : SpmConfig → Bool
 configFits s =
     -- -10 to 10, in either order
-    le (neg «10·0») (s .«v_min») && le (s .«v_min») «10·0»
-    && le (neg «10·0») (s .«v_max») && le (s .«v_max») «10·0»
+    inRange (s .«v_min») (neg «10·0») «10·0»
+    && inRange (s .«v_max») (neg «10·0») «10·0»
     -- 9e4 to 1e5
-    && le «90000·0» (s .faraday) && le (s .faraday) «100000·0»
+    && inRange (s .faraday) «90000·0» «100000·0»
     -- 8 to 9
-    && le «8·0» (s .«r_gas») && le (s .«r_gas») «9·0»
+    && inRange (s .«r_gas») «8·0» «9·0»
     -- 0 to 1
-    && le «0·0» (s .«r_electrolyte_ohm_m2») && le (s .«r_electrolyte_ohm_m2») «1·0»
+    && inRange (s .«r_electrolyte_ohm_m2») «0·0» «1·0»
 
 -- a_s * L * F
 unfoldable pub surfaceCurrent : ElectrodeParams → Float → Float

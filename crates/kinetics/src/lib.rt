@@ -2,6 +2,7 @@
 // terminal voltage. A changed translation of src/battery/p2d/solver.rs.
 use electrode::ElectrodeParams;
 use particle::surface_theta;
+use refusal::within;
 ghost use mathlib.Core.Path.{_≡_};
 ghost use Prim.Native.Nat.{_≤_};
 ghost use Rattle.particle.specs.Particle.{particleOf};
@@ -26,16 +27,11 @@ impl SpmConfig {
     pub fn fits(self) -> bool
         ensures { λ r. ⌜ r ≡ configFits self ⌝ }
     {
-        (-10.0 <= self.v_min)
-            & (self.v_min <= 10.0)
-            & (-10.0 <= self.v_max)
-            & (self.v_max <= 10.0)
-            & (9e4 <= self.faraday)
-            & (self.faraday <= 1e5)
-            & (8.0 <= self.r_gas)
-            & (self.r_gas <= 9.0)
-            & (0.0 <= self.r_electrolyte_ohm_m2)
-            & (self.r_electrolyte_ohm_m2 <= 1.0)
+        within(self.v_min, -10.0, 10.0)
+            & within(self.v_max, -10.0, 10.0)
+            & within(self.faraday, 9e4, 1e5)
+            & within(self.r_gas, 8.0, 9.0)
+            & within(self.r_electrolyte_ohm_m2, 0.0, 1.0)
     }
 }
 

@@ -1,7 +1,7 @@
 -- What clamp, max and min give is where it should be: in the clamp's range, at least both, at most both. A NaN is no number, and infinities are. Assumes nothing.
 use mathlib.Core.Path.{_≡_, refl, sym, ap, _∙_, subst}
-use mathlib.Core.Bool.{Bool, true, false, not, _||_, cond, true≢false, false≢true}
-use Prim.Native.Nat.{ℕ, _*_}
+use mathlib.Core.Bool.{Bool, true, false, _||_, cond, true≢false, false≢true}
+use Prim.Native.Nat.{_*_}
 use native.Mathlib.Nat.{le-refl}
 use lib.Dec.{T}
 use lib.Ieee.{Float, nan, inf, fin, up, down, lt, le, eq, isNan}

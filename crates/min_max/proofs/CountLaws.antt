@@ -1,16 +1,16 @@
 -- The least whole number not below q: `ceilDiv` is the least, and the whole part of q, or one more, is it. Assumes nothing.
 use mathlib.Core.Path.{_≡_, refl, sym, ap, _∙_, subst}
-use mathlib.Core.Bool.{Bool, true, false, _&&_, cond, true≢false, false≢true}
-use Prim.Native.Nat.{ℕ, zero, suc, _+_, _-_, _*_, _/_, _%_, _^_, _≤_, _<_, min}
-use native.Mathlib.Nat.{le-refl, le-trans, le-of-eq, le-of-lt, lt-of-le-of-lt, zero-add, mul-le-mul-right, mul-lt-mul-of-pos-right, mul-one, mul-right-comm, add-mul, zero-mul, div-one, div-eq-of-lt, div-le-self, div-mul-le-self, div-eq-of-lt-le, le-div-iff-mul-le, div-lt-iff-lt-mul}
+use mathlib.Core.Bool.{Bool, true, false, true≢false, false≢true}
+use Prim.Native.Nat.{ℕ, zero, suc, _+_, _-_, _*_, _/_, _^_, _≤_, _<_, min}
+use native.Mathlib.Nat.{le-refl, le-trans, le-of-eq, le-of-lt, lt-of-le-of-lt, zero-add, mul-le-mul-right, mul-lt-mul-of-pos-right, mul-one, mul-right-comm, add-mul, div-one, div-eq-of-lt, div-le-self, div-mul-le-self, div-eq-of-lt-le, le-div-iff-mul-le, div-lt-iff-lt-mul}
 use native.Mathlib.Omega.{arith}
 use lib.IntN.{ℤ, pos, negsuc}
-use lib.Dec.{T, ltb, leb, eqb, ltb→lt, lt→ltb, lit<}
+use lib.Dec.{T, ltb, ltb→lt, lt→ltb, lit<}
 use lib.Pow.{pow-pos}
 use lib.Ieee.{Float, nan, inf, fin, binary64, up, down, lt, le, fits, ofBits, ofInt, toUnsigned}
 use lib.Ieee.Back.{round-whole}
 use lib.Ieee.Exact.{HasValue}
-use lib.Ieee.Fits.{down-pos, and-l, and-r}
+use lib.Ieee.Fits.{down-pos}
 use borrow.Author.Tests.{ltb-true, ltb-false, lt-ltb, le-ltb}
 use lib.Ieee.Positive.{num, den, den-pos, positive}
 use Rattle.square_root.proofs.Monotone.{positive-num}

@@ -1,7 +1,7 @@
 -- What `fits` says of a number of the format, how many digits a number has, and the difference of two exponents. Assumes nothing.
-use mathlib.Core.Path.{_≡_, refl, sym, ap, _∙_}
+use mathlib.Core.Path.{_≡_, refl, ap, _∙_}
 use mathlib.Core.Bool.{Bool, true, false, _&&_, cond}
-use Prim.Native.Nat.{ℕ, zero, suc, _-_, _*_, _%_, _^_, _≤_, _<_}
+use Prim.Native.Nat.{ℕ, suc, _-_, _*_, _%_, _^_, _≤_, _<_}
 use native.Mathlib.Nat.{lt-of-lt-of-le, lt-of-not-le, lt-irrefl, le-of-eq, le-of-suc-le-suc, pow-succ'}
 use native.Mathlib.Omega.{arith}
 use lib.Arith.{lt→nleb}

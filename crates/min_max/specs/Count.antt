@@ -1,7 +1,6 @@
 -- The least whole number not below q, as a u64: 0 for a NaN and for what is not above zero, and 2 ^ 64 - 1 where it would be more. Definitions only.
 use Prim.Native.Nat.{ℕ, _+_, _-_, _*_, _/_, _^_, min}
 use mathlib.Core.Bool.{cond}
-use lib.IntN.{ℤ}
 use lib.Ieee.{Float, nan, inf, fin, up, down}
 
 -- the least n with a ≤ n * d

@@ -1,9 +1,9 @@
 -- The images of a Doyle-Fuller-Newman cell's parameters (59 words) and grid (5).
-use Prim.Native.Nat.{ℕ, _+_}
+use Prim.Native.Nat.{ℕ}
 use mathlib.Core.List.{List, [], _∷_}
-use lib.ListN.{length, getD, replicate}
+use lib.ListN.{getD}
 use lib.Ieee.{Float, nan}
-use Rattle.codec.specs.Words.{wordAt, putWord, floatAt, putFloat, placesAt, putRow, putPlaces}
+use Rattle.codec.specs.Words.{wordAt, putWord, floatAt, putFloat, placesAt, putRow}
 use Rattle.dfn_parameters.specs.declared.DfnParams.{DfnParams}
 use Rattle.dfn_parameters.specs.declared.DfnConfig.{DfnConfig}
 use Rattle.image_layout.specs.Layout.{dfnCountNeg, dfnCoefficientsNeg, dfnCountPos, dfnCoefficientsPos, dfnNodesNeg, dfnNodesPos, dfnNodesRadial, dfnVMin, dfnVMax}

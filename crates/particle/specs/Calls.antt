@@ -14,7 +14,8 @@ use Rattle.refusal.specs.Answers.{Outcome, finiteOutcome}
 use Rattle.electrode.specs.Sheet.{sheetFits, diffusivityAt}
 use Rattle.electrode.specs.declared.ElectrodeParams.{ElectrodeParams}
 use Rattle.diffusion.specs.SubStep.{subStep}
-use Rattle.profile.specs.Places.{finiteProfile, filled}
+use Rattle.arrays.specs.Places.{filled}
+use Rattle.profile.specs.Places.{finiteProfile}
 use Rattle.particle.specs.declared.ParticleDiffusion.{ParticleDiffusion}
 use Rattle.particle.specs.declared.ParticleAnswer.{ParticleAnswer}
 use Rattle.particle.specs.Checks.{nodesFit, particleRefusal}
@@ -30,7 +31,7 @@ newRefusal p n = firstRefusal (refusalUnless (nodesFit n) grid) (refusalUnless (
 
 -- all nodes at theta_init * c_s_max
 unfoldable pub fresh : ElectrodeParams → ℕ → ParticleDiffusion
-fresh p n = record { params = p; «n_nodes» = n; «c_s» = filled (p .«theta_init» ⊗ p .«c_s_max») n }
+fresh p n = record { params = p; «n_nodes» = n; «c_s» = filled 64 (p .«theta_init» ⊗ p .«c_s_max») n }
 
 -- the record whose every number is +0 and whose counts are 0, beside a refused build
 abbrev pub noSheet : ElectrodeParams
@@ -78,7 +79,7 @@ stepped p j dt t =
 -- ---- numbers
 unfoldable pub dtStable : ParticleDiffusion → Float → Outcome
 dtStable p t =
-    finiteOutcome (firstRefusal (particleRefusal p) (refusalUnless (temperatureFits t) temperature)) (stableStep p (diffusivityAt (p .params) t))
+    finiteOutcome (firstRefusal (particleRefusal p) (refusalUnless (temperatureFits t) temperature)) (stableStep (p .params) (p .«n_nodes») (diffusivityAt (p .params) t))
 
 unfoldable pub thetaSurface : ParticleDiffusion → Outcome
 thetaSurface p = finiteOutcome (particleRefusal p) (surfaceTheta p)

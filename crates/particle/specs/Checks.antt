@@ -2,11 +2,11 @@
 use Prim.Native.Nat.{ℕ, _≤_}
 use mathlib.Core.Path.{_≡_}
 use native.Mathlib.Nat.{zero-lt-suc}
-use lib.Dec.{T, leb, leb→le}
-use lib.Ieee.Fits.{and-l, and-r}
+use lib.Dec.{T}
 use mathlib.Core.Bool.{Bool, _&&_}
 use Rattle.refusal.specs.Numbers.{firstRefusal, refusalUnless, grid, sheet, neither-refused, passed}
 use Rattle.refusal.specs.Ranges.{countInRange}
+use Rattle.refusal.specs.Chains.{count-between}
 use Rattle.profile.specs.Places.{profileFits}
 use Rattle.electrode.specs.Sheet.{sheetFits}
 use Rattle.particle.specs.declared.ParticleDiffusion.{ParticleDiffusion}
@@ -24,9 +24,7 @@ particleRefusal p = firstRefusal (refusalUnless (nodesFit (p .«n_nodes»)) grid
 
 -- a particle that nothing refuses has 3 to 64 nodes, and its fields fit
 pub nodes-valid : (n : ℕ) → refusalUnless (nodesFit n) grid ≡ 0 → (3 ≤ n) × (n ≤ 64)
-nodes-valid n h =
-    let t = passed (nodesFit n) grid (zero-lt-suc 0) h in
-    (leb→le 3 n (and-l (leb 3 n) (leb n 64) t), leb→le n 64 (and-r (leb 3 n) (leb n 64) t))
+nodes-valid n h = count-between n 3 64 (passed (nodesFit n) grid (zero-lt-suc 0) h)
 
 pub nodes-of : (p : ParticleDiffusion) → particleRefusal p ≡ 0 → (3 ≤ p .«n_nodes») × (p .«n_nodes» ≤ 64)
 unfolding particleRefusal

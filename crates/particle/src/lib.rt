@@ -16,7 +16,7 @@ ghost use Rattle.refusal.specs.Answers.{outcomeOf};
 ghost use Rattle.iterate.specs.Iterate.{times};
 ghost use Rattle.diffusion.specs.SubStep.{subStep};
 ghost use Rattle.particle.specs.Checks.{fieldsFit, particleRefusal};
-ghost use Rattle.particle.specs.Particle.{particleOf, SpacingOf, subStepParamsOf, surfaceTheta, surfacePotential, StableStepOf, average, averageTheta};
+ghost use Rattle.particle.specs.Particle.{particleOf, spacing, subStepParamsOf, surfaceTheta, surfacePotential, stableStep, average, averageTheta};
 ghost use Rattle.particle.specs.Calls.{noParticle, made, stepRefusal, accepted, stepped, dtStable, thetaSurface, thetaAvg, cAvg, ocpSurface};
 
 pub struct ParticleDiffusion {
@@ -37,7 +37,6 @@ pub struct ParticleAnswer {
 
 // Whether the sheet and the profile are as they must be.
 pub fn fields_fit(params: ElectrodeParams, n: usize, c: &[f64; 64]) -> bool
-    requires { ⌜ n ≤ 64 ⌝ }
     ensures { λ r. ⌜ r ≡ fieldsFit (particleOf params n (now (c .entry))) ⌝ }
 {
     params.fits() & profile_fits(c, n, params.c_s_max)
@@ -46,7 +45,7 @@ pub fn fields_fit(params: ElectrodeParams, n: usize, c: &[f64; 64]) -> bool
 // The distance between two nodes.
 fn spacing(params: ElectrodeParams, n: usize) -> f64
     requires { ⌜ (3 ≤ n) × (n ≤ 64) ⌝ }
-    ensures { λ r. ⌜ SpacingOf params n r ⌝ }
+    ensures { λ r. ⌜ r ≡ spacing params n ⌝ }
 {
     params.r_particle / count_f64(n - 1)
 }
@@ -71,7 +70,7 @@ pub fn surface_potential(params: ElectrodeParams, n: usize, c: &[f64; 64]) -> f6
 // The longest stable interval at a diffusivity.
 pub fn stable_step(params: ElectrodeParams, n: usize, d_s: f64) -> f64
     requires { ⌜ (3 ≤ n) × (n ≤ 64) ⌝ }
-    ensures { λ r. ⌜ StableStepOf params n «d_s» r ⌝ }
+    ensures { λ r. ⌜ r ≡ stableStep params n «d_s» ⌝ }
 {
     let dr = spacing(params, n);
     0.5 * dr * dr / d_s

@@ -3,7 +3,7 @@
 use Prim.Native.Nat.{ℕ, zero, suc, _<_, _≤_}
 use mathlib.Core.Path.{_≡_, refl, sym, _∙_}
 use mathlib.Core.Bool.{Bool, true, false, cond}
-use mathlib.Core.List.{List, [], _∷_}
+use mathlib.Core.List.{[], _∷_}
 use borrow.Author.Tests.{ltb-true, ltb-false}
 use native.Mathlib.Nat.{zero-lt-suc}
 use native.Mathlib.Omega.{arith}
@@ -12,7 +12,7 @@ use lib.Ieee.{Float, nan, inf, fin, binary64, le, fits, ofBits, toBits}
 use lib.Ieee.Bits.{is-true}
 use lib.Ieee.Fits.{and-i}
 use lib.Ieee.Scale.{finite}
-use lib.ListN.{getD, replicate, getD-replicate}
+use lib.ListN.{getD}
 use Rattle.fraction.specs.Fraction.{whole, nat, _≈F_}
 use Rattle.fraction.specs.Field.{≈F-sym, ≤F-of-≈F, ≤F-trans, le-of-lt}
 use Rattle.fraction.specs.Order.{lit≈F}
@@ -28,20 +28,21 @@ use Rattle.binary64.specs.Literals.{«0·0»}
 use Rattle.elementary.specs.Exp.{one}
 use Rattle.refusal.specs.Numbers.{grid, sheet, neither-refused, passed}
 use Rattle.refusal.specs.Ranges.{inRange, plusZero}
-use Rattle.iterate.specs.Iterate.{all-of, first-below, first-above}
+use Rattle.iterate.specs.Iterate.{all-of}
+use Rattle.arrays.specs.Laws.{filled-fits}
 use Rattle.electrode.specs.Sheet.{sheetFits, diffusivityAt}
 use Rattle.electrode.specs.declared.ElectrodeParams.{ElectrodeParams}
 use Rattle.diffusion.specs.SubStep.{SubStepParams, subStep}
 use Rattle.diffusion.specs.Premises.{zero-fine, zero-val}
 use Rattle.diffusion.specs.Profile as Profile
-use Rattle.profile.specs.Places.{finiteProfile, filled}
+use Rattle.profile.specs.Places.{profileFits, finiteProfile}
 use Rattle.particle.specs.declared.ParticleDiffusion.{ParticleDiffusion}
 use Rattle.particle.specs.declared.ParticleAnswer.{ParticleAnswer}
 use Rattle.particle.specs.Checks.{nodesFit, particleRefusal, nodes-valid}
 use Rattle.particle.specs.Particle.{placeOf, withProfile, subStepParamsOf}
 use Rattle.particle.specs.Calls.{particleAnswer, newRefusal, fresh, noParticle, made, stepRefusal, step-particle, accepted, stepped}
 use Rattle.particle_laws.specs.Ranges.{sheet-ranges, nodes-passed, sheet-passed, step-ranged}
-use Rattle.particle_laws.specs.Checked.{unused-passed, particle-in-range, particle-passes}
+use Rattle.particle_laws.specs.Checked.{unused-passed, particle-in-range, particle-fits, particle-passes}
 use Rattle.particle_laws.specs.Nodes.{node-in}
 
 -- ---- every place of a particle that passes is finite
@@ -53,7 +54,6 @@ zero-finite (inf false) t = absurd t
 zero-finite (fin s m e) t = tt
 
 pub places-finite : (p : ParticleDiffusion) → particleRefusal p ≡ 0 → T (finiteProfile (p .«c_s»))
-unfolding finiteProfile
 places-finite p h = all-of (λ i. finite (placeOf p i)) 64 (λ i l. place i l (ltb i (p .«n_nodes»)) refl)
   where
     place : (i : ℕ) → i < 64 → (b : Bool) → ltb i (p .«n_nodes») ≡ b → T (finite (placeOf p i))
@@ -168,10 +168,6 @@ zero-fits : T (fits binary64 «0·0»)
 unfolding ofBits fits
 zero-fits = tt
 
-zero-bits : T (plusZero «0·0»)
-unfolding plusZero toBits ofBits
-zero-bits = tt
-
 -- theta_init * c_s_max is from 0 to c_s_max; c_s_max is a number of binary64, as each f64 of a program is
 start-in : (s : ElectrodeParams) → T (sheetFits s) → T (fits binary64 (s .«c_s_max»)) → T (inRange (s .«theta_init» ⊗ s .«c_s_max») «0·0» (s .«c_s_max»))
 start-in s h f =
@@ -188,14 +184,12 @@ start-in s h f =
     (rounds-le (mul-rounds x M p q) (representable M q f) (le-by (val x ∷ val M ∷ []) 0 (up b ⊠ m) (search quote depth 24) tt))
 
 fresh-passes : (s : ElectrodeParams) (n : ℕ) → T (fits binary64 (s .«c_s_max»)) → newRefusal s n ≡ 0 → particleRefusal (fresh s n) ≡ 0
-unfolding newRefusal fresh filled
+unfolding newRefusal fresh profileFits
 fresh-passes s n f e =
     let g = neither-refused _ _ e in
     let h = passed (sheetFits s) sheet (zero-lt-suc 1) (g .1) in
-    let zeros : List Float = replicate 64 «0·0» in
-    particle-passes (fresh s n) (passed (nodesFit n) grid (zero-lt-suc 0) (g .0)) h
-    (λ i l. rw (first-below (λ k. s .«theta_init» ⊗ s .«c_s_max») zeros n i nan l (nodes-valid n (g .0) .1)) (start-in s h f))
-    (λ i l m. rw (first-above (λ k. s .«theta_init» ⊗ s .«c_s_max») zeros n i nan l, getD-replicate 64 i «0·0» nan m) zero-bits)
+    particle-fits (fresh s n) (passed (nodesFit n) grid (zero-lt-suc 0) (g .0)) h
+    (filled-fits (λ x. inRange x «0·0» (s .«c_s_max»)) 64 n (s .«theta_init» ⊗ s .«c_s_max») (nodes-valid n (g .0) .1) (start-in s h f))
 
 -- A BUILD THAT IS ACCEPTED passes the checks
 pub build-passes : (s : ElectrodeParams) (n : ℕ) → T (fits binary64 (s .«c_s_max»)) → made s n .refusal ≡ 0 → particleRefusal (made s n .particle) ≡ 0

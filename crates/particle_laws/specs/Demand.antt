@@ -46,14 +46,14 @@ steps p = record {
   ok = λ s q. eqb (answer s q .refusal) 0;
   moves = λ q. record { d_s = diffusivityAt (p .params) (q .temp); j_n = q .flux; dt = q .dt } ∷ [];
   profile = λ s. s .«c_s»;
-  grid = record { n = p .«n_nodes»; dr = spacing p; c_max = p .params .«c_s_max» };
+  grid = record { n = p .«n_nodes»; dr = spacing (p .params) (p .«n_nodes»); c_max = p .params .«c_s_max» };
 }
 
 -- the binary64 numbers of a call, as fractions
 abbrev pub numbersOf : ParticleDiffusion → Call → Numbers
 numbersOf p q = record {
   n = p .«n_nodes»;
-  h = val (spacing p);
+  h = val (spacing (p .params) (p .«n_nodes»));
   D = val (diffusivityAt (p .params) (q .temp));
   M = val (p .params .«c_s_max»);
   flux = val (q .flux);
@@ -86,7 +86,6 @@ abbrev callParams : ParticleDiffusion → Call → SubStepParams
 callParams s q = subStepParamsOf s (diffusivityAt (s .params) (q .temp)) (q .flux) (q .dt)
 
 same-params : (p s : ParticleDiffusion) (q : Call) → Inv p s → callParams s q ≡ callParams p q
-unfolding spacing
 same-params p s q i = rw (i .sheet, i .nodes)
 
 module _ (p : ParticleDiffusion) where

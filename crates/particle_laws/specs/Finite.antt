@@ -65,12 +65,12 @@ pow-sized f h = bounded-most {P = zero-lt-suc 0} h
 
 module _ (p : ParticleDiffusion) (h : particleRefusal p ≡ 0) where
   -- a share of the volume is at most 2 ^ -6
-  share-most : (i : ℕ) → i ≤ 63 → Most (share (p .«n_nodes») (spacing p) i) false 1 (2 ^ 6)
+  share-most : (i : ℕ) → i ≤ 63 → Most (share (p .«n_nodes») (spacing (p .params) (p .«n_nodes»)) i) false 1 (2 ^ 6)
   share-most i l =
       let r = mul-most (count-within i 63 0 l zero-le (le-trans l (lit≤ tt)) .0) (spacing-range p h .0) 1 (2 ^ 4) tt tt in
       mul-most (mul-most (weight-range (p .«n_nodes») i .0) r 1 (2 ^ 2) tt tt) r 1 (2 ^ 6) tt tt
 
-  content-bounded : (k : ℕ) → k ≤ p .«n_nodes» → Bounded (content (p .«n_nodes») (spacing p) (placeOf p) k) (pow2 (11 + k))
+  content-bounded : (k : ℕ) → k ≤ p .«n_nodes» → Bounded (content (p .«n_nodes») (spacing (p .params) (p .«n_nodes»)) (placeOf p) k) (pow2 (11 + k))
   unfolding content ofBits
   content-bounded zero l = most-pow 11 (literal «0·0» (2 ^ 11) 1 0 1 tt tt tt tt tt .0)
   content-bounded (suc k) l =
@@ -86,11 +86,11 @@ module _ (p : ParticleDiffusion) (h : particleRefusal p ≡ 0) where
       let n = nodes-of p h in
       let f = nodes-of p h .1 in
       let b = content-bounded (p .«n_nodes») (le-refl (p .«n_nodes»)) in
-      let c : Sized (content (p .«n_nodes») (spacing p) (placeOf p) (p .«n_nodes»)) (2 ^ 75) 1 = pow-sized 75 (record { fine = b .fine; size = within-weaken (b .size) (pow2-mono (11 + p .«n_nodes») 75 (omega arith)) }) in
+      let c : Sized (content (p .«n_nodes») (spacing (p .params) (p .«n_nodes»)) (placeOf p) (p .«n_nodes»)) (2 ^ 75) 1 = pow-sized 75 (record { fine = b .fine; size = within-weaken (b .size) (pow2-mono (11 + p .«n_nodes») 75 (omega arith)) }) in
       let r = sheet-ranges (p .params) (sheet-passed p h) .radius in
       let cube = mul-between (mul-between r r 1 (2 ^ 18) 1 (2 ^ 54) tt tt tt tt) r 1 (2 ^ 27) 1 (2 ^ 81) tt tt tt tt in
       let three = literal «3·0» 3 1 3 1 tt tt tt tt tt in
-      either (lt (shares (p .«n_nodes») (spacing p) (p .«n_nodes»)) «1e-30»)
+      either (lt (shares (p .«n_nodes») (spacing (p .params) (p .«n_nodes»)) (p .«n_nodes»)) «1e-30»)
       (most-wider (place-sized p h 0 (le-trans (lit≤ tt) (n .0))) (2 ^ 149) 1 tt tt)
       (sized (div-most (mul-most (div-most (mul-most (three .0) c (2 ^ 77) 1 tt tt) cube (2 ^ 158) 1 tt tt tt) (spacing-range p h .0) (2 ^ 148) 1 tt tt) three (2 ^ 149) 1 tt tt tt))
 
@@ -104,7 +104,7 @@ module _ (p : ParticleDiffusion) (h : particleRefusal p ≡ 0) where
       let n = nodes-of p h .0 in
       div-most (place-sized p h (p .«n_nodes» - 1) (omega arith)) (sheet-ranges (p .params) (sheet-passed p h) .most) (2 ^ 17) 1 tt tt tt .fine
 
-  pub stable-step-fine : (t : Float) → T (temperatureFits t) → T (finite (stableStep p (diffusivityAt (p .params) t)))
+  pub stable-step-fine : (t : Float) → T (temperatureFits t) → T (finite (stableStep (p .params) (p .«n_nodes») (diffusivityAt (p .params) t)))
   unfolding stableStep ofBits
   stable-step-fine t k =
       let half = literal «0·5» 1 2 1 2 tt tt tt tt tt in
@@ -112,10 +112,10 @@ module _ (p : ParticleDiffusion) (h : particleRefusal p ≡ 0) where
       div-most (mul-most (mul-most (half .0) d 1 (2 ^ 11) tt tt) d 1 (2 ^ 21) tt tt) (diffusivity-range (p .params) t (sheet-passed p h) k) (2 ^ 76) 1 tt tt tt .fine
 
 -- ---- what the calls answer: the table's number, or the value
-pub dt-stable-is : (p : ParticleDiffusion) (t : Float) → dtStable p t ≡ outcome (firstRefusal (particleRefusal p) (refusalUnless (temperatureFits t) temperature)) (stableStep p (diffusivityAt (p .params) t))
+pub dt-stable-is : (p : ParticleDiffusion) (t : Float) → dtStable p t ≡ outcome (firstRefusal (particleRefusal p) (refusalUnless (temperatureFits t) temperature)) (stableStep (p .params) (p .«n_nodes») (diffusivityAt (p .params) t))
 unfolding dtStable
 dt-stable-is p t =
-    finite-outcome (firstRefusal (particleRefusal p) (refusalUnless (temperatureFits t) temperature)) (stableStep p (diffusivityAt (p .params) t))
+    finite-outcome (firstRefusal (particleRefusal p) (refusalUnless (temperatureFits t) temperature)) (stableStep (p .params) (p .«n_nodes») (diffusivityAt (p .params) t))
     (λ e. let a = neither-refused _ _ e in stable-step-fine p (a .0) t (passed (temperatureFits t) temperature (zero-lt-suc 4) (a .1)))
 
 pub theta-surface-is : (p : ParticleDiffusion) → thetaSurface p ≡ outcome (particleRefusal p) (surfaceTheta p)

@@ -17,7 +17,6 @@ use Rattle.iterate.specs.Iterate.{firstBy}
 use Rattle.diffusion.specs.SubStep.{rate, node, subStep}
 use Rattle.diffusion.specs.Premises.{StepConditions}
 use Rattle.diffusion.specs.Run.{Each}
-use Rattle.profile.specs.Places.{filled}
 use Rattle.particle.specs.declared.ParticleDiffusion.{ParticleDiffusion}
 use Rattle.particle.specs.Checks.{particleRefusal}
 use Rattle.particle.specs.Particle.{spacing, placeOf}
@@ -54,8 +53,8 @@ discharge = draw ∷ no-flux ∷ draw ∷ no-time ∷ draw ∷ []
 
 -- ---- the binary64 numbers
 -- 1.25e-6
-spacing-is : spacing start ≡ «1·25e-6»
-unfolding spacing made newRefusal fresh firstRefusal refusalUnless graphiteAnode le div ofInt ofBits
+spacing-is : spacing graphiteAnode 11 ≡ «1·25e-6»
+unfolding spacing graphiteAnode div ofInt ofBits
 spacing-is = refl
 
 -- at the reference temperature the exponent is 0, and E(0) = 1
@@ -90,7 +89,7 @@ unfolding fitting callRefusal firstRefusal refusalUnless le lt neg ofBits
 chosen = refl
 
 draw-conditions : StepConditions (numbersOf start draw)
-draw-conditions = rw (sheet-is, diffusivity-is, spacing-is, nodes-are) closed-conditions
+draw-conditions = rw (sheet-is, nodes-are, diffusivity-is, spacing-is) closed-conditions
 
 pub discharge-taken : taken start discharge ≡ draw ∷ draw ∷ draw ∷ []
 discharge-taken = taken-are start discharge start-passes ∙ chosen
@@ -115,8 +114,8 @@ draw-passes : stepRefusal start (draw .flux) (draw .dt) (draw .temp) ≡ 0
 draw-passes = sym (step-number start (draw .flux) (draw .dt) (draw .temp)) ∙ answer-number start draw start-passes ∙ draw-fits
 
 closed-surface : getD (subStep (record { n = 11; dr = «1·25e-6»; d_s = «3·9e-14»; c_max = graphiteAnode .«c_s_max»; j_n = draw .flux; dt = draw .dt }) (start .«c_s»)) 10 nan ≡ «25290·4»
-unfolding made newRefusal fresh firstRefusal refusalUnless graphiteAnode filled firstBy subStep node rate le lt neg add sub mul div ofInt ofBits
+unfolding made newRefusal fresh firstRefusal refusalUnless graphiteAnode firstBy subStep node rate le lt neg add sub mul div ofInt ofBits
 closed-surface = refl
 
 surface-drawn : placeOf (answer start draw .particle) 10 ≡ «25290·4»
-surface-drawn = rw (step-moved start (draw .flux) (draw .dt) (draw .temp) draw-passes, sheet-is, diffusivity-is, spacing-is, nodes-are) closed-surface
+surface-drawn = rw (step-moved start (draw .flux) (draw .dt) (draw .temp) draw-passes, sheet-is, nodes-are, diffusivity-is, spacing-is) closed-surface

@@ -1,7 +1,7 @@
 -- The ranges of what a particle that passes the checks works with: its sheet's numbers, the spacing, the diffusivity from 200 to 400 K; so every accepted call is sound. Assumes nothing.
 use Prim.Native.Nat.{ℕ, _-_, _*_, _^_, _≤_}
 use mathlib.Core.Path.{_≡_}
-use mathlib.Core.Bool.{Bool, true, false, _&&_, cond}
+use mathlib.Core.Bool.{Bool, true, false, cond}
 use mathlib.Core.List.{List, [], _∷_}
 use native.Mathlib.Nat.{le-trans, zero-lt-suc}
 use native.Mathlib.Omega.{arith}
@@ -23,11 +23,11 @@ use Rattle.elementary.proofs.ArrheniusRange.{arrhenius-298}
 use Rattle.min_max.proofs.ChoiceLaws.{lt-le}
 use Rattle.refusal.specs.Numbers.{grid, load, interval, temperature, neither-refused, passed}
 use Rattle.refusal.specs.Ranges.{loadFits, intervalFits, temperatureFits}
-use Rattle.electrode.specs.Sheet.{sheetFits, diffusivityAt}
+use Rattle.refusal.specs.Chains.{Between, between, Row, row, row-at}
+use Rattle.electrode.specs.Sheet.{chemistryFits, sheetFits, diffusivityAt}
 use Rattle.electrode.specs.declared.ElectrodeParams.{ElectrodeParams}
 use Rattle.diffusion.specs.Premises.{ParametersInRange, zero-val}
 use Rattle.diffusion.specs.SubStep.{SubStepParams}
-use Rattle.diffusion.specs.Run.{Each}
 use Rattle.profile.specs.Places.{profileFits}
 use Rattle.particle.specs.declared.ParticleDiffusion.{ParticleDiffusion}
 use Rattle.particle.specs.Checks.{nodesFit, particleRefusal, nodes-of, fields-of}
@@ -35,49 +35,18 @@ use Rattle.particle.specs.Particle.{spacing, subStepParamsOf}
 use Rattle.particle.specs.Calls.{stepRefusal}
 
 -- ---- the sheet
--- a row of a sheet's table: low ≤ x ≤ high
-record Row : Type 0 where
-  low : Float
-  x : Float
-  high : Float
-
-abbrev row : Float → Float → Float → Row
-row l x h = record { low = l; x = x; high = h }
-
-abbrev tested : Bool → List Row → Bool
-tested b [] = b
-tested b (r ∷ rs) = tested (b && le (r .low) (r .x) && le (r .x) (r .high)) rs
-
-record Tested (r : Row) : Type 0 where
-  above : T (le (r .low) (r .x))
-  below : T (le (r .x) (r .high))
-
-rows-tested : (b : Bool) (rs : List Row) → T (tested b rs) → T b × Each Tested rs
-rows-tested b [] t = (t, Each.none)
-rows-tested b (r ∷ rs) t =
-    let l = le (r .low) (r .x) in
-    let h = le (r .x) (r .high) in
-    let g = rows-tested (b && l && h) rs t in
-    (and-l b l (and-l (b && l) h (g .0)), Each.more (record { above = and-r b l (and-l (b && l) h (g .0)); below = and-r (b && l) h (g .0) }) (g .1))
-
-first : {P : Row → Type 0} {r : Row} {rs : List Row} → Each P (r ∷ rs) → P r
-first (Each.more p ps) = p
-
-rest : {P : Row → Type 0} {r : Row} {rs : List Row} → Each P (r ∷ rs) → Each P rs
-rest (Each.more p ps) = ps
-
 -- `sheetFits` by its rows
 abbrev rows : ElectrodeParams → List Row
 rows s =
-    row «1e-8» (s .«r_particle») «0·001»
-    ∷ row «1e-20» (s .«d_s_ref») «1e-8»
-    ∷ row «1·0» (s .«c_s_max») «131072·0»
-    ∷ row «0·0» (s .«theta_init») «1·0»
-    ∷ row «1e-7» (s .thickness) «0·01»
-    ∷ row «0·01» (s .«epsilon_s») «1·0»
-    ∷ row «1e-6» (s .area) «10000·0»
-    ∷ row «0·0» (s .«e_a_ds») «100000·0»
-    ∷ row «1e-16» (s .«k_bv») «1·0»
+    row (s .«r_particle») «1e-8» «0·001»
+    ∷ row (s .«d_s_ref») «1e-20» «1e-8»
+    ∷ row (s .«c_s_max») «1·0» «131072·0»
+    ∷ row (s .«theta_init») «0·0» «1·0»
+    ∷ row (s .thickness) «1e-7» «0·01»
+    ∷ row (s .«epsilon_s») «0·01» «1·0»
+    ∷ row (s .area) «1e-6» «10000·0»
+    ∷ row (s .«e_a_ds») «0·0» «100000·0»
+    ∷ row (s .«k_bv») «1e-16» «1·0»
     ∷ []
 
 -- each number of a sheet that fits, between powers of 2
@@ -101,38 +70,30 @@ pub either : (b : Bool) {x y : Float} {A C : ℕ} → Sized x A C → Sized y A 
 either true h k = h
 either false h k = k
 
-within : {r : Row} → Tested r → T (positive (r .low)) → T (positive (r .high)) → Within (r .x) (num (r .high)) (den (r .high)) (num (r .low)) (den (r .low))
-within {r} t p q = tested-within (r .low) (r .x) (r .high) p q (t .above) (t .below)
+pub within : {low x high : Float} → Between low x high → T (positive low) → T (positive high) → Within x (num high) (den high) (num low) (den low)
+within {low} {x} {high} t p q = tested-within low x high p q (t .above) (t .below)
 
 pub sheet-ranges : (s : ElectrodeParams) → T (sheetFits s) → SheetRanges s
 unfolding ofBits
 sheet-ranges s t =
-    let a = rows-tested (leb 1 (s .«electrode_type») && leb (s .«electrode_type») 3) (rows s) t .1 in
-    let b = rest a in
-    let c = rest b in
-    let d = rest c in
-    let e = rest d in
-    let f = rest e in
-    let g = rest f in
-    let h = rest g in
-    let i = rest h in
+    let at = row-at (chemistryFits (s .«electrode_type»)) (rows s) t in
     record {
-      radius = wider (within (first a) tt tt) 1 (2 ^ 9) 1 (2 ^ 27) tt tt tt tt;
-      reference = wider (within (first b) tt tt) 1 (2 ^ 26) 1 (2 ^ 67) tt tt tt tt;
-      most = wider (within (first c) tt tt) (2 ^ 17) 1 1 1 tt tt tt tt;
-      initial-low = first d .above;
-      initial-high = first d .below;
-      thick = wider (within (first e) tt tt) 1 (2 ^ 6) 1 (2 ^ 24) tt tt tt tt;
-      solid = wider (within (first f) tt tt) 1 1 1 (2 ^ 7) tt tt tt tt;
-      plate = wider (within (first g) tt tt) (2 ^ 14) 1 1 (2 ^ 20) tt tt tt tt;
-      activation = most-wider (tested-sized «0·0» (s .«e_a_ds») «100000·0» tt tt tt (first h .above) (first h .below)) 100000 1 tt tt;
-      reaction = wider (within (first i) tt tt) 1 1 1 (2 ^ 54) tt tt tt tt;
+      radius = wider (within (at 0) tt tt) 1 (2 ^ 9) 1 (2 ^ 27) tt tt tt tt;
+      reference = wider (within (at 1) tt tt) 1 (2 ^ 26) 1 (2 ^ 67) tt tt tt tt;
+      most = wider (within (at 2) tt tt) (2 ^ 17) 1 1 1 tt tt tt tt;
+      initial-low = at 3 .above;
+      initial-high = at 3 .below;
+      thick = wider (within (at 4) tt tt) 1 (2 ^ 6) 1 (2 ^ 24) tt tt tt tt;
+      solid = wider (within (at 5) tt tt) 1 1 1 (2 ^ 7) tt tt tt tt;
+      plate = wider (within (at 6) tt tt) (2 ^ 14) 1 1 (2 ^ 20) tt tt tt tt;
+      activation = most-wider (tested-sized «0·0» (s .«e_a_ds») «100000·0» tt tt tt (at 7 .above) (at 7 .below)) 100000 1 tt tt;
+      reaction = wider (within (at 8) tt tt) 1 1 1 (2 ^ 54) tt tt tt tt;
     }
 
 -- ---- the diffusivity, from 200 to 400 K
 temperature-range : (t : Float) → T (temperatureFits t) → Within t 400 1 200 1
 unfolding ofBits
-temperature-range t h = wider (tested-within «200·0» t «400·0» tt tt (and-l (le «200·0» t) (le t «400·0») h) (and-r (le «200·0» t) (le t «400·0») h)) 400 1 200 1 tt tt tt tt
+temperature-range t h = wider (within (between t «200·0» «400·0» h) tt tt) 400 1 200 1 tt tt tt tt
 
 -- from 2 ^ -97 to 2 ^ 4
 pub diffusivity-range : (s : ElectrodeParams) (t : Float) → T (sheetFits s) → T (temperatureFits t) → Within (diffusivityAt s t) (2 ^ 4) 1 1 (2 ^ 97)
@@ -176,7 +137,7 @@ module _ (p : ParticleDiffusion) (h : particleRefusal p ≡ 0) where
   profile-passed = and-r (sheetFits (p .params)) (profileFits (p .«c_s») (p .«n_nodes») (p .params .«c_s_max»)) (fields-of p h)
 
   -- from 2 ^ -33 to 2 ^ -10
-  pub spacing-range : Within (spacing p) 1 (2 ^ 10) 1 (2 ^ 33)
+  pub spacing-range : Within (spacing (p .params) (p .«n_nodes»)) 1 (2 ^ 10) 1 (2 ^ 33)
   unfolding spacing
   spacing-range =
       let n = nodes-of p h in

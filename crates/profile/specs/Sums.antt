@@ -2,10 +2,10 @@
 use Prim.Native.Nat.{ℕ, zero, suc}
 use mathlib.Core.Path.{_≡_, refl, ap}
 use mathlib.Core.List.{List}
-use lib.ListN.{getD}
-use lib.Ieee.{Float, nan}
+use lib.Ieee.{Float}
 use Rattle.binary64.specs.Operators.{_⊕_, _⊗_}
 use Rattle.binary64.specs.Literals.{«0·0»}
+use Rattle.arrays.specs.Places.{at}
 use Rattle.profile.specs.Weights.{weight, shareBy, shares, content}
 use Rattle.profile.specs.declared.Sums.{Sums}
 
@@ -21,9 +21,9 @@ addedTo s n dr i c = addedBy s (weight n i) dr i c
 
 unfoldable pub sumsAfter : List Float → ℕ → Float → ℕ → Sums
 sumsAfter c n dr zero = bothSums «0·0» «0·0»
-sumsAfter c n dr (suc k) = addedTo (sumsAfter c n dr k) n dr k (getD c k nan)
+sumsAfter c n dr (suc k) = addedTo (sumsAfter c n dr k) n dr k (at c k)
 
-pub sums-are : (c : List Float) (n : ℕ) (dr : Float) (k : ℕ) → sumsAfter c n dr k ≡ bothSums (shares n dr k) (content n dr (λ i. getD c i nan) k)
+pub sums-are : (c : List Float) (n : ℕ) (dr : Float) (k : ℕ) → sumsAfter c n dr k ≡ bothSums (shares n dr k) (content n dr (at c) k)
 unfolding sumsAfter shares content
 sums-are c n dr zero = refl
-sums-are c n dr (suc k) = ap (λ (s : Sums). addedTo s n dr k (getD c k nan)) (sums-are c n dr k)
+sums-are c n dr (suc k) = ap (λ (s : Sums). addedTo s n dr k (at c k)) (sums-are c n dr k)

@@ -3,64 +3,32 @@
 use sub_step::count_f64;
 ghost use mathlib.Core.Path.{_≡_};
 ghost use Prim.Native.Nat.{_≤_, _<_};
-ghost use Rattle.profile.specs.Places.{placeFits, placesFit, profileFits, finiteProfile, filled};
+ghost use Rattle.arrays.specs.Places.{filled};
+ghost use Rattle.profile.specs.Places.{profileFits, finiteProfile};
 ghost use Rattle.profile.specs.Weights.{weight, AreInnerWeights};
 ghost use Rattle.profile.specs.Sums.{addedBy, sumsAfter};
 
-// Whether a place of a profile is as it must be: a used one in 0 to c_max, an unused one +0.
-fn place_fits(x: f64, used: bool, c_max: f64) -> bool
-    ensures { λ r. ⌜ r ≡ placeFits x used «c_max» ⌝ }
-{
-    if used {
-        return refusal::within(x, 0.0, c_max);
-    }
-    refusal::plus_zero(x)
-}
-
-// Whether the first n places, all used, are as they must be.
-fn used_fit(c: &[f64; 64], n: usize, c_max: f64) -> bool
-    requires { ⌜ n ≤ 64 ⌝ }
-    ensures { λ r. ⌜ r ≡ placesFit n (now (c .entry)) n «c_max» ⌝ }
-{
-    let mut ok = true;
-    for i in 0..n {
-        ok = ok & place_fits(c[i], true, c_max);
-    }
-    ok
-}
-
-// Whether every place of a profile of n nodes is as it must be.
+// Whether the first n places are in 0 to c_max and the others +0.
 pub fn profile_fits(c: &[f64; 64], n: usize, c_max: f64) -> bool
-    requires { ⌜ n ≤ 64 ⌝ }
     ensures { λ r. ⌜ r ≡ profileFits (now (c .entry)) n «c_max» ⌝ }
 {
-    let mut ok = used_fit(c, n, c_max);
-    for i in n..64 {
-        ok = ok & place_fits(c[i], false, c_max);
-    }
-    ok
+    arrays::places_fit(c, n, 0.0, c_max)
 }
 
 // Whether every place is finite.
 pub fn profile_finite(c: &[f64; 64]) -> bool
     ensures { λ r. ⌜ r ≡ finiteProfile (now (c .entry)) ⌝ }
 {
-    let mut ok = true;
-    for i in 0..64 {
-        ok = ok & refusal::is_finite(c[i]);
-    }
-    ok
+    arrays::all_finite(c, 64)
 }
 
 // x in the first n places, +0 in the others.
 pub fn uniform(x: f64, n: usize) -> [f64; 64]
     requires { ⌜ n ≤ 64 ⌝ }
-    ensures { λ r. ⌜ r ≡ filled x n ⌝ }
+    ensures { λ r. ⌜ r ≡ filled 64 x n ⌝ }
 {
     let mut c_s = [0.0; 64];
-    for i in 0..n {
-        c_s[i] = x;
-    }
+    arrays::fill(&mut c_s, n, x);
     c_s
 }
 

@@ -1,9 +1,8 @@
 -- The images of a sheet (10 words), a particle (75) and a single-particle cell's configuration (6).
 use Prim.Native.Nat.{ℕ, _+_}
 use mathlib.Core.List.{List, [], _∷_}
-use lib.ListN.{length}
 use lib.Ieee.{Float}
-use Rattle.codec.specs.Words.{wordAt, putWord, floatAt, placesAt, putRow, putPlaces}
+use Rattle.codec.specs.Words.{wordAt, putWord, floatAt, placesAt, putRow}
 use Rattle.electrode.specs.declared.ElectrodeParams.{ElectrodeParams}
 use Rattle.particle.specs.declared.ParticleDiffusion.{ParticleDiffusion}
 use Rattle.kinetics.specs.declared.SpmConfig.{SpmConfig}

@@ -4,7 +4,7 @@ use Prim.Native.Nat.{ℕ, _≤_}
 use mathlib.Core.Path.{_≡_, sym, subst}
 use mathlib.Core.Bool.{Bool, cond, _&&_}
 use native.Mathlib.Nat.{zero-lt-suc}
-use lib.Dec.{T, eqb, leb, leb→le, eqb→eq}
+use lib.Dec.{T, eqb, eqb→eq}
 use lib.Ieee.{Float}
 use lib.Ieee.Fits.{and-l, and-r}
 use Rattle.binary64.specs.Operators.{_⊖_, _⊘_}
@@ -12,6 +12,7 @@ use Rattle.binary64.specs.Literals.{«0·0», «0·2», «0·8», «1·0»}
 use Rattle.min_max.specs.MinMax.{clampOf}
 use Rattle.refusal.specs.Numbers.{firstRefusal, refusalUnless, grid, sheet, neither-refused, passed}
 use Rattle.refusal.specs.Ranges.{clockFits}
+use Rattle.refusal.specs.Chains.{count-between}
 use Rattle.refusal.specs.Answers.{Outcome, finiteOutcome}
 use Rattle.electrode.specs.declared.ElectrodeParams.{ElectrodeParams}
 use Rattle.electrode.specs.Sheet.{sheetFits, graphiteAnode}
@@ -28,8 +29,7 @@ use Rattle.solver.specs.declared.SpmBuildAnswer.{SpmBuildAnswer}
 -- the config's count of nodes is in range, and is that of both particles
 abbrev pub gridFits : SpmSolver → Bool
 gridFits s =
-    leb 3 (s .config .«n_nodes») && leb (s .config .«n_nodes») 64 && eqb (s .anode .«n_nodes») (s .config .«n_nodes»)
-    && eqb (s .cathode .«n_nodes») (s .config .«n_nodes»)
+    nodesFit (s .config .«n_nodes») && eqb (s .anode .«n_nodes») (s .config .«n_nodes») && eqb (s .cathode .«n_nodes») (s .config .«n_nodes»)
 
 abbrev pub cellFits : SpmSolver → Bool
 cellFits s = configFits (s .config) && fieldsFit (s .anode) && fieldsFit (s .cathode) && clockFits (s .«time_s»)
@@ -87,23 +87,17 @@ module _ (s : SpmSolver) (g : T (gridFits s)) where
   abbrev n : ℕ
   n = s .config .«n_nodes»
 
-  abbrev front : Bool
-  front = leb 3 n && leb n 64 && eqb (s .anode .«n_nodes») n
-
-  least : 3 ≤ n
-  least = leb→le 3 n (and-l (leb 3 n) (leb n 64) (and-l (leb 3 n && leb n 64) (eqb (s .anode .«n_nodes») n) (and-l front (eqb (s .cathode .«n_nodes») n) g)))
-
-  most : n ≤ 64
-  most = leb→le n 64 (and-r (leb 3 n) (leb n 64) (and-l (leb 3 n && leb n 64) (eqb (s .anode .«n_nodes») n) (and-l front (eqb (s .cathode .«n_nodes») n) g)))
+  front : T (nodesFit n && eqb (s .anode .«n_nodes») n)
+  front = and-l (nodesFit n && eqb (s .anode .«n_nodes») n) (eqb (s .cathode .«n_nodes») n) g
 
   valid : (m : ℕ) → m ≡ n → (3 ≤ m) × (m ≤ 64)
-  valid m e = subst (λ (k : ℕ). (3 ≤ k) × (k ≤ 64)) (sym e) (least, most)
+  valid m e = subst (λ (k : ℕ). (3 ≤ k) × (k ≤ 64)) (sym e) (count-between n 3 64 (and-l (nodesFit n) (eqb (s .anode .«n_nodes») n) front))
 
   pub grid-anode : NodesValid (s .anode)
-  grid-anode = valid (s .anode .«n_nodes») (eqb→eq _ _ (and-r (leb 3 n && leb n 64) (eqb (s .anode .«n_nodes») n) (and-l front (eqb (s .cathode .«n_nodes») n) g)))
+  grid-anode = valid (s .anode .«n_nodes») (eqb→eq _ _ (and-r (nodesFit n) (eqb (s .anode .«n_nodes») n) front))
 
   pub grid-cathode : NodesValid (s .cathode)
-  grid-cathode = valid (s .cathode .«n_nodes») (eqb→eq _ _ (and-r front (eqb (s .cathode .«n_nodes») n) g))
+  grid-cathode = valid (s .cathode .«n_nodes») (eqb→eq _ _ (and-r (nodesFit n && eqb (s .anode .«n_nodes») n) (eqb (s .cathode .«n_nodes») n) g))
 
 pub grid-passed : (s : SpmSolver) → refusalUnless (gridFits s) grid ≡ 0 → T (gridFits s)
 grid-passed s h = passed (gridFits s) grid (zero-lt-suc 0) h

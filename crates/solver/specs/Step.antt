@@ -2,20 +2,19 @@
 -- what a step that is not refused has met. Assumes nothing.
 use Prim.Native.Nat.{ℕ}
 use mathlib.Core.Path.{_≡_}
-use mathlib.Core.Bool.{Bool, cond, _&&_, _||_}
+use mathlib.Core.Bool.{Bool, cond}
 use lib.Dec.{eqb}
-use lib.Ieee.{Float, lt, neg}
-use Rattle.binary64.specs.Operators.{_⊕_, _⊗_, _⊘_}
+use lib.Ieee.{Float}
+use Rattle.binary64.specs.Operators.{_⊕_, _⊘_}
 use Rattle.refusal.specs.Numbers.{firstRefusal, notFinite, neither-refused}
-use Rattle.profile.specs.Places.{finiteProfile}
-use Rattle.particle.specs.Particle.{withProfile, surfaceTheta, surfacePotential, averageTheta}
-use Rattle.kinetics.specs.Kinetics.{overpotential, terminalVoltage}
+use Rattle.particle.specs.Particle.{withProfile}
 use Rattle.solver_plan.specs.declared.Plan.{Plan}
-use Rattle.solver_plan.specs.Plans.{quotientWith, planWith, planRefusal, subStepsOf}
+use Rattle.solver_plan.specs.Plans.{planWith, planRefusal, subStepsOf}
 use Rattle.solver_report.specs.declared.SpmState.{SpmState}
-use Rattle.solver_report.specs.Report.{finiteWith, noState}
+use Rattle.solver_report.specs.declared.SurfaceState.{SurfaceState}
+use Rattle.solver_report.specs.Report.{surfaceState, voltageWith, reportAt, noState}
 use Rattle.solver_plan.specs.Arguments.{argumentRefusal}
-use Rattle.solver_step.specs.Moves.{profileAfter}
+use Rattle.solver_step.specs.Moves.{profileAfter, finiteOn}
 use Rattle.solver.specs.declared.SpmSolver.{SpmSolver}
 use Rattle.solver.specs.declared.SpmStepAnswer.{SpmStepAnswer}
 use Rattle.solver.specs.Cell.{cellRefusal}
@@ -29,12 +28,9 @@ inputRefusal s i dt t = firstRefusal (cellRefusal s) (argumentRefusal i dt t)
 unfoldable pub currentDensity : SpmSolver → Float → Float
 currentDensity s i = i ⊘ s .anode .params .area
 
--- dt / dt_use, dt_use the least of dt and the electrodes' longest sub-steps
-abbrev pub quotient : SpmSolver → Float → Float → Float → Float
-quotient s dt dNeg dPos = quotientWith (s .anode) (s .cathode) dt dNeg dPos
-
 unfoldable pub planOf : SpmSolver → Float → Float → Float → Plan
-planOf s i dt t = planWith (s .anode) (s .cathode) (s .config .faraday) (currentDensity s i) dt t
+planOf s i dt t =
+    planWith (s .anode .params) (s .anode .«n_nodes») (s .cathode .params) (s .cathode .«n_nodes») (s .config .faraday) (currentDensity s i) dt t
 
 -- ---- the cell after the step: that many sub-steps of dt / count at each electrode, the clock raised once by dt
 unfoldable pub advanced : SpmSolver → Plan → Float → SpmSolver
@@ -46,32 +42,21 @@ advanced s p dt = record {
 }
 
 -- ---- the report, of the cell after the step with the fluxes of the plan
-unfoldable pub voltageOf : SpmSolver → Plan → Float → Float → Float
-voltageOf s p i t =
-    terminalVoltage (surfacePotential (s .anode)) (surfacePotential (s .cathode)) (neg (overpotential (s .config) (p .«j_neg») (s .anode) t))
-    (neg (overpotential (s .config) (p .«j_pos») (s .cathode) t)) (currentDensity s i ⊗ s .config .«r_electrolyte_ohm_m2») i
+abbrev negWall : SpmSolver → Plan → Float → SurfaceState
+negWall s p t = surfaceState (s .config) (s .anode) (p .«j_neg») t
 
--- outside the voltage limits
-abbrev pub cutOff : SpmSolver → Float → Bool
-cutOff s v = lt v (s .config .«v_min») || lt (s .config .«v_max») v
+abbrev posWall : SpmSolver → Plan → Float → SurfaceState
+posWall s p t = surfaceState (s .config) (s .cathode) (p .«j_pos») t
+
+unfoldable pub voltageOf : SpmSolver → Plan → Float → Float → Float
+voltageOf s p i t = voltageWith (s .config) (currentDensity s i) (negWall s p t) (posWall s p t) i
 
 unfoldable pub reported : SpmSolver → Plan → Float → Float → SpmState
-reported s p i t =
-    let v = voltageOf s p i t in
-    record {
-      voltage = v;
-      current = i;
-      «theta_neg» = surfaceTheta (s .anode);
-      «theta_pos» = surfaceTheta (s .cathode);
-      «theta_neg_avg» = averageTheta (s .anode);
-      «theta_pos_avg» = averageTheta (s .cathode);
-      «time_s» = s .«time_s»;
-      cutoff = cutOff s v;
-    }
+reported s p i t = reportAt (s .config) (negWall s p t) (posWall s p t) i (s .«time_s») (voltageOf s p i t)
 
 -- 8: no NaN and no infinity in the new profiles and the report (the current is the one that was given)
 unfoldable pub finiteStep : SpmSolver → SpmState → Bool
-finiteStep s r = finiteWith (finiteProfile (s .anode .«c_s») && finiteProfile (s .cathode .«c_s»)) r
+finiteStep s r = finiteOn (s .anode .«c_s») (s .cathode .«c_s») r
 
 -- ---- the whole step
 abbrev pub refusedStep : ℕ → SpmSolver → SpmStepAnswer

@@ -24,7 +24,7 @@ ghost use Rattle.refusal.specs.Answers.{outcomeOf};
 ghost use Rattle.solver.specs.Cell.{gridFits, cellRefusal, noSolver, built, ready, ocvCall, socCall};
 ghost use Rattle.solver.specs.Step.{refusedStep, stepped};
 ghost use Rattle.solver.specs.Parts.{cellOf, partsOf, StepOf};
-ghost use Rattle.solver_plan.specs.Plans.{PlanOf};
+ghost use Rattle.solver_plan.specs.Plans.{planWith};
 ghost use Rattle.electrode.specs.Sheet.{lfpCathode, nmcCathode};
 
 pub struct SpmSolver {
@@ -76,7 +76,7 @@ fn cell_refusal<'a>(q: SpmParts, c_neg: &'a [f64; 64], c_pos: &'a [f64; 64]) -> 
     ensures { λ r. ⌜ r ≡ cellRefusal (cellOf q (now («c_neg» .entry)) (now («c_pos» .entry))) ⌝ }
 {
     let n = q.config.n_nodes;
-    let counts = (3 <= n) & (n <= 64) & (q.n_neg == n) & (q.n_pos == n);
+    let counts = refusal::count_within(n as u64, 3, 64) & (q.n_neg == n) & (q.n_pos == n);
     let grid = refusal::refusal_unless(counts, refusal::GRID);
     if grid != 0 {
         return grid;
@@ -91,7 +91,7 @@ fn cell_refusal<'a>(q: SpmParts, c_neg: &'a [f64; 64], c_pos: &'a [f64; 64]) -> 
 // What a step works with.
 fn plan_of(q: SpmParts, i_app: f64, dt: f64, temp_k: f64) -> Plan
     requires { ⌜ ((3 ≤ q .«n_neg») × (q .«n_neg» ≤ 64)) × ((3 ≤ q .«n_pos») × (q .«n_pos» ≤ 64)) ⌝ }
-    ensures { λ r. ⌜ PlanOf (q .neg) (q .«n_neg») (q .pos) (q .«n_pos») (q .config .faraday) «i_app» dt «temp_k» r ⌝ }
+    ensures { λ r. ⌜ r ≡ planWith (q .neg) (q .«n_neg») (q .pos) (q .«n_pos») (q .config .faraday) «i_app» dt «temp_k» ⌝ }
 {
     let faraday = q.config.faraday;
     plan_for(q.neg, q.n_neg, q.pos, q.n_pos, faraday, i_app, dt, temp_k)
@@ -193,7 +193,9 @@ impl SpmSolver {
         ensures { λ r. ⌜ r ≡ gridFits self ⌝ }
     {
         let n = self.config.n_nodes;
-        (3 <= n) & (n <= 64) & (self.anode.n_nodes == n) & (self.cathode.n_nodes == n)
+        refusal::count_within(n as u64, 3, 64)
+            & (self.anode.n_nodes == n)
+            & (self.cathode.n_nodes == n)
     }
 
     // The cell without its profiles.

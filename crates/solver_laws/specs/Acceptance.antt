@@ -45,6 +45,7 @@ use Rattle.kinetics.specs.Kinetics.{configFits, exchange, overpotential}
 use Rattle.solver.specs.declared.SpmSolver.{SpmSolver}
 use Rattle.solver_plan.specs.declared.Plan.{Plan}
 use Rattle.solver_plan.specs.Plans.{planRefusal}
+use Rattle.solver_step.specs.Moves.{finiteOn}
 use Rattle.solver.specs.Step.{inputRefusal, currentDensity, planOf, advanced, voltageOf, reported, finiteStep, stepped}
 use Rattle.solver_laws.specs.Electrodes.{Electrode, particleAt, config-ranges, config-passed, cell-passed, current-fits, temperature-fits, flux-range}
 use Rattle.solver_laws.specs.Closure.{next, electrode-next, accepted-where}
@@ -192,7 +193,7 @@ module _ (s : SpmSolver) (h : (e : Electrode) → particleRefusal (particleAt e 
       sub-most (sub-most (add-most b y (2 ^ 151) 1 tt tt) (add-most a x (2 ^ 151) 1 tt tt) (2 ^ 152) 1 tt tt) ohm (2 ^ 153) 1 tt tt .fine
 
   all-fine : (p : Plan) (i t : Float) → T (finite (voltageOf s p i t)) → T (finite (s .«time_s»)) → T (finiteStep s (reported s p i t))
-  unfolding finiteStep reported
+  unfolding finiteStep finiteOn reported
   all-fine p i t v k =
       let a = finiteProfile (s .anode .«c_s») in
       let b = finiteProfile (s .cathode .«c_s») in

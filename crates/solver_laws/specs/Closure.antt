@@ -36,7 +36,7 @@ use Rattle.solver.specs.declared.SpmStepAnswer.{SpmStepAnswer}
 use Rattle.solver_plan.specs.declared.Plan.{Plan}
 use Rattle.solver.specs.Cell.{gridFits, cellRefusal}
 use Rattle.solver_plan.specs.Plans.{planRefusal, subStepsOf}
-use Rattle.solver_step.specs.Moves.{profileAfter}
+use Rattle.solver_step.specs.Moves.{profileAfter, finiteOn}
 use Rattle.solver.specs.Step.{inputRefusal, planOf, advanced, reported, finiteStep, refusedStep, finished, planned, stepped}
 use Rattle.solver_laws.specs.Electrodes.{Electrode, particleAt, diffusivityIn, fluxIn, config-passed, clock-passed, electrode-passes, grid-passed, count-most, cell-passed, interval-size, sub-step-ranged}
 
@@ -56,7 +56,7 @@ times-passes p d j dt r h zero = h
 times-passes p d j dt r h (suc k) = sub-step-passes p (times k (subStep (subStepParamsOf p d j dt)) (p .«c_s»)) d j dt r (times-passes p d j dt r h k)
 
 clock-reported : (s : SpmSolver) (r : SpmState) → T (finiteStep s r) → T (finite (r .«time_s»))
-unfolding finiteStep
+unfolding finiteStep finiteOn
 clock-reported s r h =
     and-r (finiteProfile (s .anode .«c_s») && finiteProfile (s .cathode .«c_s») && finite (r .voltage) && finite (r .«theta_neg») && finite (r .«theta_pos») && finite (r .«theta_neg_avg») && finite (r .«theta_pos_avg»))
     (finite (r .«time_s»)) h

@@ -17,7 +17,7 @@ use Rattle.diffusion.specs.Run.{Grid, Move, subStepParams, run, exactRun, Each}
 use Rattle.diffusion.specs.Calls.{Stepper, after, accepted, total, exactAfter, Lawful}
 use Rattle.diffusion.specs.CallLaws.{calls-near, each-with}
 use Rattle.diffusion.specs.Copies.{run-times, each-copies}
-use Rattle.particle.specs.Particle.{spacing, placeOf, stableStep}
+use Rattle.particle.specs.Particle.{spacing, placeOf}
 use Rattle.particle_laws.specs.Ranges.{ranged-parameters}
 use Rattle.particle_laws.specs.Checked.{particle-in-range}
 use Rattle.solver.specs.declared.SpmSolver.{SpmSolver}
@@ -69,7 +69,7 @@ abbrev pub movesBy : Electrode → Plan → Float → List Move
 movesBy e p dt = replicate (subStepsOf p) (moveBy e p dt)
 
 abbrev pub gridAt : Electrode → SpmSolver → Grid
-gridAt e s = record { n = particleAt e s .«n_nodes»; dr = spacing (particleAt e s); c_max = particleAt e s .params .«c_s_max» }
+gridAt e s = record { n = particleAt e s .«n_nodes»; dr = spacing (particleAt e s .params) (particleAt e s .«n_nodes»); c_max = particleAt e s .params .«c_s_max» }
 
 -- A cell s and its calls, at one electrode: an accepted call makes its plan's count of equal sub-steps
 abbrev pub steps : Electrode → SpmSolver → Stepper SpmSolver Call
@@ -85,7 +85,7 @@ steps e s = record {
 abbrev pub numbersAt : Electrode → SpmSolver → Call → Numbers
 numbersAt e s q = record {
   n = particleAt e s .«n_nodes»;
-  h = val (spacing (particleAt e s));
+  h = val (spacing (particleAt e s .params) (particleAt e s .«n_nodes»));
   D = val (diffusivityIn e (planFor s q));
   M = val (particleAt e s .params .«c_s_max»);
   flux = val (fluxIn e (planFor s q));
@@ -123,11 +123,10 @@ stays s r q v =
     }
 
 pub same-plan : (s r : SpmSolver) (q : Call) → SameMake s r → planFor r q ≡ planFor s q
-unfolding planOf currentDensity stableStep spacing
+unfolding planOf currentDensity
 same-plan s r q m = rw (m .config, m .sheet Electrode.anode, m .sheet Electrode.cathode, m .nodes Electrode.anode, m .nodes Electrode.cathode)
 
 pub same-grid : (e : Electrode) (s r : SpmSolver) → SameMake s r → gridAt e r ≡ gridAt e s
-unfolding spacing
 same-grid e s r m = rw (m .sheet e, m .nodes e)
 
 -- ---- what is to be shown of an electrode

@@ -2,6 +2,7 @@
 use Prim.Native.Nat.{ℕ, suc, _*_, _^_, _≤_}
 use mathlib.Core.Path.{_≡_, refl}
 use mathlib.Core.Bool.{Bool, true, false, not, _&&_}
+use mathlib.Core.List.{[], _∷_}
 use native.Mathlib.Nat.{le-trans, zero-lt-suc}
 use native.Mathlib.Omega.{arith}
 use borrow.Author.Tests.{ltb-false}
@@ -14,7 +15,7 @@ use Rattle.fraction.specs.Fraction.{nat, _≤F_, _<F_}
 use Rattle.fraction.specs.Size.{size-pos}
 use Rattle.binary64.specs.Operators.{_⊘_, count, negative}
 use Rattle.binary64.specs.Range.{Within, Most, Sized, sized, most-wider, neg-most}
-use Rattle.binary64.specs.RangeTests.{literal, tested-within, tested-sized}
+use Rattle.binary64.specs.RangeTests.{literal, tested-sized}
 use Rattle.binary64.specs.RangeOps.{mul-between, div-between, div-most, div-count}
 use Rattle.binary64.specs.Bounds.{within-scaled}
 use Rattle.binary64.specs.Order.{neg-le}
@@ -24,13 +25,14 @@ use Rattle.binary64.specs.Literals.{«0·0», «1·0», «3·0», «8·0», «9
 use Rattle.min_max.specs.Count.{ceilOf}
 use Rattle.min_max.proofs.CountLaws.{ceil-least}
 use Rattle.refusal.specs.Numbers.{firstRefusal, refusalUnless, grid, load, interval, temperature, subSteps, neither-refused, passed}
-use Rattle.refusal.specs.Ranges.{loadFits, intervalFits, temperatureFits, clockFits}
+use Rattle.refusal.specs.Ranges.{inRange, loadFits, intervalFits, temperatureFits, clockFits}
+use Rattle.refusal.specs.Chains.{row, row-at}
 use Rattle.electrode.specs.declared.ElectrodeParams.{ElectrodeParams}
 use Rattle.electrode.specs.Sheet.{sheetFits, specificArea}
 use Rattle.particle.specs.declared.ParticleDiffusion.{ParticleDiffusion}
 use Rattle.particle.specs.Checks.{nodesFit, fieldsFit, particleRefusal}
 use Rattle.particle.specs.Particle.{subStepParamsOf}
-use Rattle.particle_laws.specs.Ranges.{Ranged, sheet-ranges, sheet-passed, wider, particle-ranged, diffusivity-range, interval-range}
+use Rattle.particle_laws.specs.Ranges.{Ranged, sheet-ranges, sheet-passed, within, wider, particle-ranged, diffusivity-range, interval-range}
 use Rattle.kinetics.specs.declared.SpmConfig.{SpmConfig}
 use Rattle.kinetics.specs.Kinetics.{configFits, surfaceCurrent}
 use Rattle.solver.specs.declared.SpmSolver.{SpmSolver}
@@ -111,26 +113,15 @@ pub record ConfigRanges (g : SpmConfig) : Type 0 where
 pub config-ranges : (g : SpmConfig) → T (configFits g) → ConfigRanges g
 unfolding ofBits
 config-ranges g t =
-    let v1 = le (neg «10·0») (g .«v_min») in
-    let v2 = le (g .«v_min») «10·0» in
-    let v3 = le (neg «10·0») (g .«v_max») in
-    let v4 = le (g .«v_max») «10·0» in
-    let f1 = le «90000·0» (g .faraday) in
-    let f2 = le (g .faraday) «100000·0» in
-    let r1 = le «8·0» (g .«r_gas») in
-    let r2 = le (g .«r_gas») «9·0» in
-    let o1 = le «0·0» (g .«r_electrolyte_ohm_m2») in
-    let o2 = le (g .«r_electrolyte_ohm_m2») «1·0» in
-    let v = v1 && v2 && v3 && v4 in
-    let f = v && f1 && f2 in
-    let t9 = and-l (f && r1 && r2 && o1) o2 t in
-    let t8 = and-l (f && r1 && r2) o1 t9 in
-    let t7 = and-l (f && r1) r2 t8 in
-    let t6 = and-l f r1 t7 in
+    let v = inRange (g .«v_min») (neg «10·0») «10·0» in
+    let w = row (g .«v_max») (neg «10·0») «10·0» in
+    let f = row (g .faraday) «90000·0» «100000·0» in
+    let r = row (g .«r_gas») «8·0» «9·0» in
+    let at = row-at v (w ∷ f ∷ r ∷ row (g .«r_electrolyte_ohm_m2») «0·0» «1·0» ∷ []) t in
     record {
-      faraday = wider (tested-within «90000·0» (g .faraday) «100000·0» tt tt (and-r v f1 (and-l (v && f1) f2 t6)) (and-r (v && f1) f2 t6)) (2 ^ 17) 1 (2 ^ 16) 1 tt tt tt tt;
-      gas = wider (tested-within «8·0» (g .«r_gas») «9·0» tt tt (and-r f r1 t7) (and-r (f && r1) r2 t8)) 9 1 8 1 tt tt tt tt;
-      resistance = most-wider (tested-sized «0·0» (g .«r_electrolyte_ohm_m2») «1·0» tt tt tt (and-r (f && r1 && r2) o1 t9) (and-r (f && r1 && r2 && o1) o2 t)) 1 1 tt tt;
+      faraday = wider (within (at 1) tt tt) (2 ^ 17) 1 (2 ^ 16) 1 tt tt tt tt;
+      gas = wider (within (at 2) tt tt) 9 1 8 1 tt tt tt tt;
+      resistance = most-wider (tested-sized «0·0» (g .«r_electrolyte_ohm_m2») «1·0» tt tt tt (at 3 .above) (at 3 .below)) 1 1 tt tt;
     }
 
 -- ---- a_s * L * F

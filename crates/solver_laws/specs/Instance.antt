@@ -35,8 +35,8 @@ use Rattle.kinetics.specs.Kinetics.{configFits, surfaceCurrent}
 use Rattle.solver.specs.declared.SpmSolver.{SpmSolver}
 use Rattle.solver.specs.Cell.{cellRefusal, buildRefusal, freshSolver, built, ready, cell-valid}
 use Rattle.solver_plan.specs.declared.Plan.{Plan}
-use Rattle.solver_plan.specs.Plans.{planRefusal, subStepsOf}
-use Rattle.solver.specs.Step.{inputRefusal, currentDensity, quotient, planOf, planned, stepped}
+use Rattle.solver_plan.specs.Plans.{quotientWith, planRefusal, subStepsOf}
+use Rattle.solver.specs.Step.{inputRefusal, currentDensity, planOf, planned, stepped}
 use Rattle.solver_laws.specs.Electrodes.{Electrode, particleAt, diffusivityIn, fluxIn, nodes-are, grid-passed, current-range, cathode-flux, anode-flux}
 use Rattle.solver_laws.specs.Closure.{step-count, step-clock}
 use Rattle.solver_laws.specs.Build.{cell-passes, build-passes}
@@ -161,6 +161,9 @@ unfolding diffusivityAt lfpCathode
 cathode-diffusivity = ap (λ (x : Float). dPos ⊗ expOf x) (exponents .1) ∙ ap (λ (x : Float). dPos ⊗ x) exp-0 ∙ times-one .1
 
 -- ---- the plan of any current and interval
+abbrev quotient : Float → Float
+quotient dt = quotientWith graphiteAnode 11 lfpCathode 11 dt dNeg dPos
+
 abbrev planBy : Float → Float → Float → Plan
 planBy i dt q = record {
   «d_neg» = dNeg;
@@ -170,14 +173,14 @@ planBy i dt q = record {
   q = q;
 }
 
-plan-is : (i dt q : Float) → quotient start dt dNeg dPos ≡ q → planFor start (draw i dt) ≡ planBy i dt q
+plan-is : (i dt q : Float) → quotient dt ≡ q → planFor start (draw i dt) ≡ planBy i dt q
 unfolding planOf fresh
 plan-is i dt q e = rw (anode-diffusivity, cathode-diffusivity, e)
 
 -- an interval of k sub-steps of 1 s
 record Split (dt : Float) (k : ℕ) : Type 0 where
   q : Float
-  quotient-is : quotient start dt dNeg dPos ≡ q
+  quotient-is : quotient dt ≡ q
   passes : (i : Float) → planRefusal (planBy i dt q) ≡ 0
   count-is : ceilOf q ≡ k
   part : dt ⊘ count k ≡ one
@@ -195,7 +198,7 @@ two-split = record { q = f64 0x3ff6_c16c_16c1_6c14; quotient-is = refl; passes =
 abbrev dayQuotient : Float
 dayQuotient = f64 0x40ed_ffff_ffff_fffc
 
-day-split : (quotient start day dNeg dPos ≡ dayQuotient) × (((i : Float) → planRefusal (planBy i day dayQuotient) ≡ 7) × T (intervalFits day))
+day-split : (quotient day ≡ dayQuotient) × (((i : Float) → planRefusal (planBy i day dayQuotient) ≡ 7) × T (intervalFits day))
 unfolding fresh spacing stableStep planRefusal firstRefusal refusalUnless graphiteAnode lfpCathode isNan le lt mul div round size ofInt ofBits
 day-split = (refl, (λ i. refl, tt))
 
@@ -240,10 +243,13 @@ abbrev diffusivityOf : Electrode → Float
 diffusivityOf Electrode.anode = dNeg
 diffusivityOf Electrode.cathode = dPos
 
+abbrev spacingAt : Electrode → Float
+spacingAt e = spacing (particleAt e start .params) (particleAt e start .«n_nodes»)
+
 record Conditions (e : Electrode) : Type 0 where
-  spaced : nat 0 ≤F val (spacing (particleAt e start))
-  stable : nat 6 *F val (diffusivityOf e) *F val one ≤F val (spacing (particleAt e start)) *F val (spacing (particleAt e start))
-  flux : nat 2 *F val (spacing (particleAt e start)) *F val (fluxMost e) ≤F val (diffusivityOf e) *F val (particleAt e start .params .«c_s_max»)
+  spaced : nat 0 ≤F val (spacingAt e)
+  stable : nat 6 *F val (diffusivityOf e) *F val one ≤F val (spacingAt e) *F val (spacingAt e)
+  flux : nat 2 *F val (spacingAt e) *F val (fluxMost e) ≤F val (diffusivityOf e) *F val (particleAt e start .params .«c_s_max»)
 
 conditions : (e : Electrode) → Conditions e
 unfolding fresh spacing graphiteAnode lfpCathode val whole _*F_ div round size ofInt ofBits
@@ -261,7 +267,7 @@ draw-conditions e i dt k c m h =
     let t : dt ⊘ count (subStepsOf (planFor start (draw i dt))) ≡ one = ap (λ (p : Plan). dt ⊘ count (subStepsOf p)) plan ∙ ap (λ (n : ℕ). dt ⊘ count n) (c .count-is) ∙ c .part in
     let f = abs-of-within (flux-within e i dt m h) in
     let s = conditions e in
-    let w = val (spacing (particleAt e start)) in
+    let w = val (spacingAt e) in
     let j = ∣ val (fluxIn e (planFor start (draw i dt))) ∣ in
     let d = val (diffusivityOf e) in
     let M = val (particleAt e start .params .«c_s_max») in
@@ -278,7 +284,7 @@ module _ (r : SpmSolver) (v : Inv start r) where
   unfolding inputRefusal firstRefusal refusalUnless
   draw-input i dt h k = rw (v .passes, is-true (loadFits i «1e6») h, is-true (intervalFits dt) k, is-true (temperatureFits room) room-fits)
 
-  draw-plan : (i dt q : Float) → quotient start dt dNeg dPos ≡ q → planFor r (draw i dt) ≡ planBy i dt q
+  draw-plan : (i dt q : Float) → quotient dt ≡ q → planFor r (draw i dt) ≡ planBy i dt q
   draw-plan i dt q e = same-plan start r (draw i dt) (v .make) ∙ plan-is i dt q e
 
   -- A DRAW is accepted, whatever the profiles, and reports its sub-steps

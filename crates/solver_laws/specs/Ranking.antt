@@ -27,7 +27,8 @@ use Rattle.solver_plan.specs.Plans.{subStepsOf}
 use Rattle.solver.specs.Step.{planOf}
 use Rattle.solver_laws.specs.Electrodes.{Electrode, particleAt, diffusivityIn, nodes-are, current-fits, cathode-flux, anode-flux}
 use Rattle.solver_laws.specs.Closure.{SameMake, Leads, leads}
-use Rattle.solver_laws.specs.Ordered.{Ordered, ordered-calls, both-with, both-copied}
+use Rattle.diffusion.specs.Ordered.{Ordered}
+use Rattle.solver_laws.specs.Ordered.{ordered-calls, both-with, both-copied}
 use Rattle.solver_laws.specs.Demand.{Call, answer, taken, K, planFor, moveBy, movesBy, gridAt, steps, numbersAt, StepConditionsAt, place, Inv, itself, same-plan, same-grid, lawful, taken-is, total-is, keeps, in-range, near-from}
 
 -- two accepted calls: alike in interval and temperature, the second's current no less

@@ -1,8 +1,6 @@
 -- What a step works with, and what is refused of it. Definitions only.
 use Prim.Native.Nat.{ℕ}
-use mathlib.Core.Path.{_≡_}
 use mathlib.Core.Bool.{not, _&&_}
-use mathlib.Core.List.{List}
 use lib.Ieee.{Float, lt, neg}
 use Rattle.binary64.specs.Operators.{_⊗_, _⊘_}
 use Rattle.binary64.specs.Literals.{«1e-20», «1e-8», «0·45», «4096·0»}
@@ -12,35 +10,30 @@ use Rattle.refusal.specs.Numbers.{firstRefusal, refusalUnless, diffusivity, sub
 use Rattle.refusal.specs.Ranges.{inRange}
 use Rattle.electrode.specs.declared.ElectrodeParams.{ElectrodeParams}
 use Rattle.electrode.specs.Sheet.{diffusivityAt}
-use Rattle.particle.specs.declared.ParticleDiffusion.{ParticleDiffusion}
-use Rattle.particle.specs.Particle.{particleOf, stableStep}
+use Rattle.particle.specs.Particle.{stableStep}
 use Rattle.kinetics.specs.Kinetics.{surfaceCurrent}
 use Rattle.solver_plan.specs.declared.Plan.{Plan}
 
 -- an electrode's longest sub-step: dt_stable * 0.45
-abbrev pub longest : ParticleDiffusion → Float → Float
-longest p d = stableStep p d ⊗ «0·45»
+abbrev longest : ElectrodeParams → ℕ → Float → Float
+longest e n d = stableStep e n d ⊗ «0·45»
 
 -- dt / dt_use, dt_use the least of dt and the electrodes' longest sub-steps
-abbrev pub quotientWith : ParticleDiffusion → ParticleDiffusion → Float → Float → Float → Float
-quotientWith a c dt dNeg dPos = dt ⊘ minOf (minOf dt (longest a dNeg)) (longest c dPos)
+abbrev pub quotientWith : ElectrodeParams → ℕ → ElectrodeParams → ℕ → Float → Float → Float → Float
+quotientWith a n c m dt dNeg dPos = dt ⊘ minOf (minOf dt (longest a n dNeg)) (longest c m dPos)
 
--- anode, cathode, Faraday's constant, current density, interval, temperature
-abbrev pub planWith : ParticleDiffusion → ParticleDiffusion → Float → Float → Float → Float → Plan
-planWith a c faraday j dt t =
-    let dNeg = diffusivityAt (a .params) t in
-    let dPos = diffusivityAt (c .params) t in
+-- the anode's sheet and count of nodes, the cathode's, Faraday's constant, current density, interval, temperature
+abbrev pub planWith : ElectrodeParams → ℕ → ElectrodeParams → ℕ → Float → Float → Float → Float → Plan
+planWith a n c m faraday j dt t =
+    let dNeg = diffusivityAt a t in
+    let dPos = diffusivityAt c t in
     record {
       «d_neg» = dNeg;
       «d_pos» = dPos;
-      «j_neg» = neg j ⊘ surfaceCurrent (a .params) faraday;
-      «j_pos» = j ⊘ surfaceCurrent (c .params) faraday;
-      q = quotientWith a c dt dNeg dPos;
+      «j_neg» = neg j ⊘ surfaceCurrent a faraday;
+      «j_pos» = j ⊘ surfaceCurrent c faraday;
+      q = quotientWith a n c m dt dNeg dPos;
     }
-
--- r is the plan of two electrodes by their sheets and counts of nodes, whatever their profiles
-abbrev pub PlanOf : ElectrodeParams → ℕ → ElectrodeParams → ℕ → Float → Float → Float → Float → Plan → Type 0
-PlanOf a n c m faraday j dt t r = (p q : List Float) → r ≡ planWith (particleOf a n p) (particleOf c m q) faraday j dt t
 
 -- corrected D from 1e-20 to 1e-8 in both electrodes; no more than 4,096 sub-steps
 unfoldable pub planRefusal : Plan → ℕ

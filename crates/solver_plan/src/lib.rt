@@ -6,7 +6,7 @@ use particle::stable_step;
 ghost use mathlib.Core.Path.{_≡_};
 ghost use Prim.Native.Nat.{_≤_};
 ghost use Rattle.solver_plan.specs.Arguments.{argumentRefusal};
-ghost use Rattle.solver_plan.specs.Plans.{PlanOf, planRefusal};
+ghost use Rattle.solver_plan.specs.Plans.{planWith, planRefusal};
 
 // What a step works with: diffusivities, fluxes, and the interval in units of the longest sub-step.
 pub struct Plan {
@@ -30,7 +30,7 @@ pub fn plan_for(
     temp_k: f64,
 ) -> Plan
     requires { ⌜ ((3 ≤ «n_neg») × («n_neg» ≤ 64)) × ((3 ≤ «n_pos») × («n_pos» ≤ 64)) ⌝ }
-    ensures { λ r. ⌜ PlanOf neg «n_neg» pos «n_pos» faraday «i_app» dt «temp_k» r ⌝ }
+    ensures { λ r. ⌜ r ≡ planWith neg «n_neg» pos «n_pos» faraday «i_app» dt «temp_k» ⌝ }
 {
     let d_neg = neg.diffusivity_at(temp_k);
     let d_pos = pos.diffusivity_at(temp_k);

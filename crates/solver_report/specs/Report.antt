@@ -20,7 +20,16 @@ surfaceState g p j t = record {
   overpotential = overpotential g j p t;
 }
 
-abbrev reportAt : SpmConfig → SurfaceState → SurfaceState → Float → Float → Float → SpmState
+-- outside the voltage limits
+abbrev cutOff : SpmConfig → Float → Bool
+cutOff g v = lt v (g .«v_min») || lt (g .«v_max») v
+
+-- from both surfaces, the current density and the current
+abbrev pub voltageWith : SpmConfig → Float → SurfaceState → SurfaceState → Float → Float
+voltageWith g density a c i = terminalVoltage (a .potential) (c .potential) (neg (a .overpotential)) (neg (c .overpotential)) (density ⊗ g .«r_electrolyte_ohm_m2») i
+
+-- from both surfaces, the current, the clock and the voltage
+abbrev pub reportAt : SpmConfig → SurfaceState → SurfaceState → Float → Float → Float → SpmState
 reportAt g a c i time v = record {
   voltage = v;
   current = i;
@@ -29,14 +38,11 @@ reportAt g a c i time v = record {
   «theta_neg_avg» = a .«theta_avg»;
   «theta_pos_avg» = c .«theta_avg»;
   «time_s» = time;
-  cutoff = lt v (g .«v_min») || lt (g .«v_max») v;
+  cutoff = cutOff g v;
 }
 
--- from both surfaces
 abbrev pub reportWith : SpmConfig → Float → SurfaceState → SurfaceState → Float → Float → SpmState
-reportWith g density a c i time =
-    reportAt g a c i time
-    (terminalVoltage (a .potential) (c .potential) (neg (a .overpotential)) (neg (c .overpotential)) (density ⊗ g .«r_electrolyte_ohm_m2») i)
+reportWith g density a c i time = reportAt g a c i time (voltageWith g density a c i)
 
 -- 8: no NaN and no infinity in the new profiles and the report (the current is the one that was given)
 abbrev pub finiteWith : Bool → SpmState → Bool

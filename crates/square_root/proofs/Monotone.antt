@@ -1,9 +1,9 @@
 -- S keeps the order of numbers that are not negative. It follows from what IEEE 754 asks, whatever the root is worked out by. Assumes nothing.
-use mathlib.Core.Path.{_≡_, refl, sym, ap, _∙_, subst}
+use mathlib.Core.Path.{_≡_, sym, ap, _∙_, subst}
 use mathlib.Core.Bool.{true, false}
 use mathlib.Core.List.{[], _∷_}
 use mathlib.Core.Logic.{_⊎_, inl, inr}
-use Prim.Native.Nat.{ℕ, zero, suc, _*_, _≤_, _<_, zero-le}
+use Prim.Native.Nat.{ℕ, zero, suc, _*_, _<_, zero-le}
 use native.Mathlib.Nat.{le-trans, le-of-eq, not-le-of-lt, mul-pos, zero-mul, zero-lt-suc}
 use lib.Dec.{T, lt→ltb, ltb→lt}
 use lib.Ieee.{Float, nan, inf, fin, binary64, up, le, fits}

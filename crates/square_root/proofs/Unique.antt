@@ -1,7 +1,7 @@
 -- What IEEE 754 asks of a square root leaves one value: two that meet it are the same. Assumes nothing.
-use mathlib.Core.Path.{_≡_, refl, sym, ap, _∙_, subst}
+use mathlib.Core.Path.{_≡_, refl, sym, ap, _∙_}
 use mathlib.Core.Bool.{Bool, true, false}
-use Prim.Native.Nat.{ℕ, zero, suc, _*_}
+use Prim.Native.Nat.{zero, suc}
 use native.Mathlib.Nat.{le-antisymm, zero-lt-suc}
 use lib.Dec.{T, lt→ltb}
 use lib.Ieee.{Float, nan, inf, fin, binary64, fits, round}

@@ -3,14 +3,12 @@ use Prim.Native.Nat.{ℕ, zero, suc, _+_, _-_, _<_, _≤_}
 use mathlib.Core.Path.{_≡_, refl, ap, _∙_}
 use mathlib.Core.Bool.{Bool, true, false, cond}
 use mathlib.Core.List.{List}
-use native.Mathlib.Omega.{arith}
-use native.Mathlib.Nat.{le-trans}
 use lib.Dec.{ltb, eqb·suc-zero}
 use lib.ListN.{getD, replicate}
 use lib.Ieee.{Float, nan}
 use Rattle.binary64.specs.Operators.{_⊕_, _⊗_, _⊘_, count}
 use Rattle.binary64.specs.Literals.{«0·0»}
-use Rattle.iterate.specs.Iterate.{firstBy, first-below, first-cong}
+use Rattle.iterate.specs.Iterate.{first-below, first-cong}
 use Rattle.diffusion.specs.SubStep as S
 use Rattle.sub_step.specs.declared.SubStepCoefficients.{SubStepCoefficients}
 use Rattle.sub_step.specs.SubSteps.{prepared, inverseRadius, inverseRadii, placesOf, movedBy, shellBy, nodeBy, subStepBy}

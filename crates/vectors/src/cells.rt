@@ -8,7 +8,6 @@ use crate::list::same;
 use crate::particles::next_particle;
 use crate::particles::same_particle;
 use crate::sheets::next_sheet;
-use electrode::ElectrodeParams;
 use kinetics::SpmConfig;
 use particle::ParticleDiffusion;
 use solver::SpmBuildAnswer;

@@ -7,7 +7,6 @@ use crate::list::read_array;
 use crate::list::same_arrays;
 use crate::sheets::next_sheet;
 use crate::sheets::same_sheet;
-use electrode::ElectrodeParams;
 use particle::ParticleAnswer;
 use particle::ParticleDiffusion;
 

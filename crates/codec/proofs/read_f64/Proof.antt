@@ -1,17 +1,9 @@
 -- `codec::read_f64` meets its contract. Assumes nothing.
-use Prim.Native.Nat.{ℕ, suc, _≤_, _<_, _+_, _-_, _*_}
-use mathlib.Core.Path.{_≡_, refl, sym, _∙_, ap}
-use native.Mathlib.Omega.{arith}
-use native.Mathlib.Numerals.{add-one}
 use borrow.Author.Needs.{needs}
 use Rattle.codec.specs.Words.{floatAt}
 use borrow.Author.Needs.{needs}
 use Rattle.codec.proofs.read_f64.Statement.{statement}
 use Rattle.codec.proofs.read_f64.Tie as tie
-use Rattle.codec.proofs.read_f64.Reads as reads
-use Rattle.codec.proofs.read_f64.Lts as lts
-use Rattle.codec.proofs.read_word.Reads as read-word-reads
-use Rattle.words.proofs.from_bits.Reads as from-bits-reads
 
 read-word-requires : tie.Need-read-word-requires
 read-word-requires c κs = search needs

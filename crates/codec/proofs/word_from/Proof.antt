@@ -3,9 +3,6 @@ use Rattle.codec.specs.Words.{bytesAt}
 use borrow.Author.Needs.{needs}
 use Rattle.codec.proofs.word_from.Statement.{statement}
 use Rattle.codec.proofs.word_from.Tie as tie
-use Rattle.codec.proofs.word_from.Reads as reads
-use Rattle.codec.proofs.word_from.Lts as lts
-use Rattle.codec.proofs.joined.Reads as joined-reads
 
 add-a1 : tie.Need-add-a1
 add-a1 c = search needs

@@ -1,17 +1,11 @@
 -- `codec::write_bytes` meets its contract. Assumes nothing.
-use Prim.Native.Nat.{ℕ, suc, _≤_, _<_, _+_, _-_, _*_}
-use mathlib.Core.Path.{_≡_, refl, sym, _∙_, ap}
 use native.Mathlib.Omega.{arith}
-use native.Mathlib.Numerals.{add-one}
 use borrow.Author.Needs.{needs}
-use lib.ListN.{length, length-set}
+use lib.ListN.{length-set}
 use Rattle.codec.specs.Words.{putBytes}
 use borrow.Author.Needs.{needs}
 use Rattle.codec.proofs.write_bytes.Statement.{statement}
 use Rattle.codec.proofs.write_bytes.Tie as tie
-use Rattle.codec.proofs.write_bytes.Reads as reads
-use Rattle.codec.proofs.write_bytes.Lts as lts
-use Rattle.codec.proofs.low_byte.Reads as low-byte-reads
 
 add-a1 : tie.Need-add-a1
 add-a1 c = search needs

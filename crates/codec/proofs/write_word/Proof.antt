@@ -1,8 +1,6 @@
 -- `codec::write_word` meets its contract. Assumes nothing.
-use Prim.Native.Nat.{ℕ, suc, _≤_, _<_, _+_, _-_, _*_}
-use mathlib.Core.Path.{_≡_, refl, sym, _∙_, ap}
+use Prim.Native.Nat.{_+_, _*_}
 use native.Mathlib.Omega.{arith}
-use native.Mathlib.Numerals.{add-one}
 use borrow.Author.Needs.{needs}
 use lib.ListN.{length}
 use borrow.Author.Tests.{le-leb, lt-leb}
@@ -10,9 +8,6 @@ use Rattle.codec.specs.Words.{putWord}
 use borrow.Author.Needs.{needs}
 use Rattle.codec.proofs.write_word.Statement.{statement}
 use Rattle.codec.proofs.write_word.Tie as tie
-use Rattle.codec.proofs.write_word.Reads as reads
-use Rattle.codec.proofs.write_word.Lts as lts
-use Rattle.codec.proofs.write_bytes.Reads as write-bytes-reads
 
 mul-write-bytes : tie.Need-mul-write-bytes
 mul-write-bytes c = search needs

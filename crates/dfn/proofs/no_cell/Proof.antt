@@ -1,5 +1,5 @@
 -- `dfn::no_cell` meets its contract. Assumes nothing.
-use mathlib.Core.Path.{_≡_, refl}
+use mathlib.Core.Path.{refl}
 use Rattle.dfn.specs.Build.{noCell}
 use Rattle.dfn.proofs.no_cell.Statement.{statement}
 use Rattle.dfn.proofs.no_cell.Tie as tie

@@ -1,5 +1,5 @@
 -- `dfn::no_report` meets its contract. Assumes nothing.
-use mathlib.Core.Path.{_≡_, refl}
+use mathlib.Core.Path.{refl}
 use Rattle.dfn.specs.Step.{noReport}
 use Rattle.dfn.proofs.no_report.Statement.{statement}
 use Rattle.dfn.proofs.no_report.Tie as tie

@@ -5,7 +5,8 @@ use mathlib.Core.Path.{_≡_, refl}
 use native.Mathlib.Omega.{arith}
 use native.Mathlib.Numerals.{add-one}
 use Rattle.iterate.specs.Iterate.{firstBy}
-use Rattle.dfn_solid.specs.Solid.{at, dSolid, dSolids}
+use Rattle.arrays.specs.Places.{at}
+use Rattle.dfn_solid.specs.Solid.{dSolid, dSolids}
 use borrow.Author.Needs.{needs}
 use Rattle.dfn_solid.proofs.diffusivities.Statement.{statement}
 use Rattle.dfn_solid.proofs.diffusivities.Tie as tie

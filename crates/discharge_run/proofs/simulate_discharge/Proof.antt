@@ -1,6 +1,4 @@
 -- `discharge_run::simulate_discharge` meets its contract: a run that is refused changes nothing, any other makes its turns. Assumes nothing.
-use Prim.Native.Nat.{_/_}
-use mathlib.Core.Path.{_≡_, refl, sym, _∙_, ap}
 use native.Mathlib.Omega.{arith}
 use borrow.Author.Tests.{eq-eqb, ne-eqb}
 use Rattle.discharge_run.specs.Discharge.{started, discharged, dischargedRows}

@@ -4,12 +4,12 @@ use Rattle.electrolyte_parameters.specs.Params.{atTemperature}
 use Rattle.electrolyte_parameters.proofs.at_temperature.Statement.{statement}
 use Rattle.electrolyte_parameters.proofs.at_temperature.Tie as tie
 
-exp-requires : tie.Need-exp-requires
-exp-requires c κs = search needs
+arrhenius-requires : tie.Need-arrhenius-requires
+arrhenius-requires c κs = search needs
 
 returns : tie.Need-returns
 unfolding atTemperature
-returns c = rw (c .exp .ensures)
+returns c = rw (c .arrhenius .ensures)
 
 pub at-temperature-spec : {M : Type 1} → statement M
-at-temperature-spec = tie.close (tie.spec exp-requires returns)
+at-temperature-spec = tie.close (tie.spec arrhenius-requires returns)

@@ -3,23 +3,21 @@ use Prim.Native.Nat.{_≤_, _-_}
 use mathlib.Core.Path.{_≡_, refl}
 use native.Mathlib.Omega.{arith}
 use native.Mathlib.Numerals.{add-one}
-use lib.Dec.{ltb}
-use lib.ListN.{getD}
-use lib.Ieee.{nan}
 use borrow.Author.Needs.{needs}
 use Rattle.iterate.specs.Iterate.{allBelow}
-use Rattle.electrolyte_profile.specs.Places.{placeFits, profileFits}
+use Rattle.arrays.specs.Places.{placesFit}
+use Rattle.electrolyte_profile.specs.Places.{aboveFloor, profileFits}
 use Rattle.electrolyte_profile.proofs.profile_fits.Statement.{statement}
 use Rattle.electrolyte_profile.proofs.profile_fits.Tie as tie
 
 abbrev Inv-loop : tie.InvT-loop
-Inv-loop n c ok₀ i₀ ok i = (i ≤ 96) × (ok ≡ allBelow i (λ k. placeFits (getD c k nan) (ltb k n)))
+Inv-loop n c ok₀ i₀ ok i = (i ≤ 96) × (ok ≡ placesFit aboveFloor c n i)
 
 abbrev μ-loop : tie.MeasureT-loop
 μ-loop n c ok₀ i₀ ok i = 96 - i
 
 loop-holds : tie.Need-loop-holds Inv-loop μ-loop
-unfolding allBelow
+unfolding placesFit allBelow
 loop-holds c = (search needs, refl)
 
 mul-place-fits : tie.Need-mul-place-fits Inv-loop μ-loop
@@ -38,7 +36,7 @@ loop-less : tie.Need-loop-less Inv-loop μ-loop
 loop-less c = search needs
 
 loop-again : tie.Need-loop-again Inv-loop μ-loop
-unfolding allBelow
+unfolding placesFit allBelow
 loop-again c = (search needs, rw (add-one, c .place-fits .ensures, c .before .before .loop .inv .1))
 
 returns : tie.Need-returns Inv-loop μ-loop

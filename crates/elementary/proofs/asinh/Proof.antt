@@ -1,10 +1,8 @@
 -- `asinh` meets its contract. Assumes nothing.
-use mathlib.Core.Path.{_≡_, refl, sym, ap, _∙_}
+use mathlib.Core.Path.{_≡_, sym, ap, _∙_}
 use mathlib.Core.Bool.{Bool, true, false, cond}
 use lib.Ieee.{Float, neg}
-use Rattle.binary64.specs.Operators.{_⊕_, _⊗_, negative}
-use Rattle.square_root.specs.Root.{sqrtOf}
-use Rattle.elementary.specs.Exp.{one}
+use Rattle.binary64.specs.Operators.{_⊕_, negative}
 use Rattle.elementary.specs.Ln.{lnOf}
 use Rattle.min_max.specs.MinMax.{absOf}
 use Rattle.elementary.specs.Asinh.{asinhAt, asinhOf}

@@ -4,7 +4,7 @@ use Prim.Native.Nat.{_≤_}
 use native.Mathlib.Omega.{arith}
 use borrow.Author.Needs.{needs}
 use lib.Ieee.{Float}
-use Rattle.binary64.specs.Operators.{_⊕_, _⊖_, _⊗_, _⊘_, f64}
+use Rattle.binary64.specs.Operators.{_⊕_, _⊖_, _⊗_, _⊘_}
 use Rattle.square_root.proofs.Patterns.{no-nan-bits}
 use Rattle.elementary.specs.Exp.{one}
 use Rattle.elementary.specs.Ln.{two, ln2, terms, twentyThree}

@@ -1,5 +1,5 @@
 -- `powf` meets its contract. Assumes nothing.
-use mathlib.Core.Path.{_≡_, ap, _∙_}
+use mathlib.Core.Path.{ap, _∙_}
 use lib.Ieee.{Float}
 use Rattle.binary64.specs.Operators.{_⊗_}
 use Rattle.elementary.specs.Exp.{expOf}

@@ -1,5 +1,4 @@
 -- `galvanostatic_run::run_galvanostatic` meets its contract: a run that is refused changes nothing, any other makes its turns. Assumes nothing.
-use mathlib.Core.Path.{_≡_, refl}
 use native.Mathlib.Omega.{arith}
 use borrow.Author.Tests.{eq-eqb, ne-eqb}
 use Rattle.galvanostatic_run.specs.Galvanostatic.{started, galvanostatic, galvanostaticRows}

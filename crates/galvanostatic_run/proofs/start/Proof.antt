@@ -1,5 +1,5 @@
 -- `galvanostatic_run::start` meets its contract. Assumes nothing.
-use mathlib.Core.Path.{_≡_, refl}
+use mathlib.Core.Path.{refl}
 use Rattle.galvanostatic_run.specs.Galvanostatic.{started}
 use Rattle.galvanostatic_run.proofs.start.Statement.{statement}
 use Rattle.galvanostatic_run.proofs.start.Tie as tie

@@ -2,7 +2,6 @@
 use native.Mathlib.Omega.{arith}
 use borrow.Author.Tests.{ne-eqb, le-leb, lt-leb}
 use Rattle.image_builds.specs.Builds.{buildLength}
-use borrow.Author.Needs.{needs}
 use Rattle.image_builds.proofs.build_length.Statement.{statement}
 use Rattle.image_builds.proofs.build_length.Tie as tie
 

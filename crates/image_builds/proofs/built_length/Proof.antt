@@ -2,7 +2,6 @@
 use native.Mathlib.Omega.{arith}
 use borrow.Author.Tests.{ne-eqb, le-leb, lt-leb}
 use Rattle.image_builds.specs.Builds.{builtLength}
-use borrow.Author.Needs.{needs}
 use Rattle.image_builds.proofs.built_length.Statement.{statement}
 use Rattle.image_builds.proofs.built_length.Tie as tie
 

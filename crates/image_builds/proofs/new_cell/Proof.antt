@@ -3,7 +3,6 @@ use borrow.Author.Needs.{needs}
 use Rattle.solver.specs.declared.SpmBuildAnswer.{SpmBuildAnswer}
 use Rattle.cell_images.specs.Images.{putCell}
 use Rattle.image_rows.specs.Written.{accepted, refused}
-use Rattle.image_builds.specs.Builds.{cellBuilt}
 use Rattle.image_builds.proofs.new_cell.Statement.{statement}
 use Rattle.image_builds.proofs.new_cell.Tie as tie
 

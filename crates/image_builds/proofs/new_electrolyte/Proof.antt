@@ -3,7 +3,6 @@ use borrow.Author.Needs.{needs}
 use Rattle.electrolyte.specs.declared.ElectrolyteAnswer.{ElectrolyteAnswer}
 use Rattle.electrolyte_images.specs.Images.{putElectrolyte}
 use Rattle.image_rows.specs.Written.{accepted, refused}
-use Rattle.image_builds.specs.Builds.{electrolyteBuilt}
 use Rattle.image_builds.proofs.new_electrolyte.Statement.{statement}
 use Rattle.image_builds.proofs.new_electrolyte.Tie as tie
 

@@ -4,10 +4,6 @@ use borrow.Author.Tests.{ne-eqb}
 use borrow.Author.Needs.{needs}
 use Rattle.image_numbers.proofs.cell_number.Statement.{statement}
 use Rattle.image_numbers.proofs.cell_number.Tie as tie
-use Rattle.image_numbers.proofs.cell_number.Reads as reads
-use Rattle.image_numbers.proofs.cell_number.Lts as lts
-use Rattle.solver.proofs.SpmSolver.ocv.Reads as ocv-reads
-use Rattle.solver.proofs.SpmSolver.soc_estimate.Reads as soc-estimate-reads
 
 ocv-requires : tie.Need-ocv-requires
 ocv-requires c κs = search needs

@@ -4,11 +4,6 @@ use borrow.Author.Tests.{ne-eqb}
 use borrow.Author.Needs.{needs}
 use Rattle.image_numbers.proofs.electrolyte_number.Statement.{statement}
 use Rattle.image_numbers.proofs.electrolyte_number.Tie as tie
-use Rattle.image_numbers.proofs.electrolyte_number.Reads as reads
-use Rattle.image_numbers.proofs.electrolyte_number.Lts as lts
-use Rattle.electrolyte.proofs.ElectrolyteState.c_avg.Reads as c-avg-reads
-use Rattle.electrolyte.proofs.ElectrolyteState.dt_stable.Reads as dt-stable-reads
-use Rattle.image_numbers.proofs.nodes_number.Reads as nodes-number-reads
 
 nodes-number-requires : tie.Need-nodes-number-requires
 nodes-number-requires c κs = search needs

@@ -5,10 +5,6 @@ use Rattle.electrolyte.specs.Calls.{counted}
 use borrow.Author.Needs.{needs}
 use Rattle.image_numbers.proofs.nodes_number.Statement.{statement}
 use Rattle.image_numbers.proofs.nodes_number.Tie as tie
-use Rattle.image_numbers.proofs.nodes_number.Reads as reads
-use Rattle.image_numbers.proofs.nodes_number.Lts as lts
-use Rattle.electrolyte.proofs.ElectrolyteState.n_total.Reads as n-total-reads
-use Rattle.std.proofs.num.nearest_u64_to_f64.Reads as nearest-u64-to-f64-reads
 
 n-total-requires : tie.Need-n-total-requires
 n-total-requires c κs = search needs

@@ -2,7 +2,6 @@
 use native.Mathlib.Omega.{arith}
 use borrow.Author.Tests.{ne-eqb, le-leb, lt-leb}
 use Rattle.image_numbers.specs.Numbers.{numberLength}
-use borrow.Author.Needs.{needs}
 use Rattle.image_numbers.proofs.number_length.Statement.{statement}
 use Rattle.image_numbers.proofs.number_length.Tie as tie
 

@@ -5,18 +5,6 @@ use borrow.Author.Tests.{le-leb, lt-leb}
 use borrow.Author.Needs.{needs}
 use Rattle.image_numbers.proofs.number_of.Statement.{statement}
 use Rattle.image_numbers.proofs.number_of.Tie as tie
-use Rattle.image_numbers.proofs.number_of.Reads as reads
-use Rattle.image_numbers.proofs.number_of.Lts as lts
-use Rattle.cell_images.proofs.cell_at.Reads as cell-at-reads
-use Rattle.sheet_images.proofs.particle_at.Reads as particle-at-reads
-use Rattle.sheet_images.proofs.sheet_at.Reads as sheet-at-reads
-use Rattle.image_numbers.proofs.cell_number.Reads as cell-number-reads
-use Rattle.image_numbers.proofs.electrolyte_number.Reads as electrolyte-number-reads
-use Rattle.image_numbers.proofs.particle_number.Reads as particle-number-reads
-use Rattle.image_numbers.proofs.rate_number.Reads as rate-number-reads
-use Rattle.image_numbers.proofs.sheet_number.Reads as sheet-number-reads
-use Rattle.electrolyte_images.proofs.electrolyte_at.Reads as electrolyte-at-reads
-use Rattle.electrolyte_images.proofs.electrolyte_params_at.Reads as electrolyte-params-at-reads
 
 sheet-at-requires : tie.Need-sheet-at-requires
 sheet-at-requires c κs = search needs

@@ -4,13 +4,6 @@ use borrow.Author.Tests.{ne-eqb}
 use borrow.Author.Needs.{needs}
 use Rattle.image_numbers.proofs.particle_number.Statement.{statement}
 use Rattle.image_numbers.proofs.particle_number.Tie as tie
-use Rattle.image_numbers.proofs.particle_number.Reads as reads
-use Rattle.image_numbers.proofs.particle_number.Lts as lts
-use Rattle.particle.proofs.ParticleDiffusion.c_avg.Reads as c-avg-reads
-use Rattle.particle.proofs.ParticleDiffusion.dt_stable.Reads as dt-stable-reads
-use Rattle.particle.proofs.ParticleDiffusion.ocp_surface.Reads as ocp-surface-reads
-use Rattle.particle.proofs.ParticleDiffusion.theta_avg.Reads as theta-avg-reads
-use Rattle.particle.proofs.ParticleDiffusion.theta_surface.Reads as theta-surface-reads
 
 dt-stable-requires : tie.Need-dt-stable-requires
 dt-stable-requires c κs = search needs

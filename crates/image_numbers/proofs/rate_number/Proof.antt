@@ -4,12 +4,6 @@ use borrow.Author.Tests.{ne-eqb}
 use borrow.Author.Needs.{needs}
 use Rattle.image_numbers.proofs.rate_number.Statement.{statement}
 use Rattle.image_numbers.proofs.rate_number.Tie as tie
-use Rattle.image_numbers.proofs.rate_number.Reads as reads
-use Rattle.image_numbers.proofs.rate_number.Lts as lts
-use Rattle.electrolyte_parameters.proofs.ElectrolyteParams.d_e.Reads as d-e-reads
-use Rattle.electrolyte_parameters.proofs.ElectrolyteParams.d_e_eff.Reads as d-e-eff-reads
-use Rattle.electrolyte_parameters.proofs.ElectrolyteParams.kappa.Reads as kappa-reads
-use Rattle.electrolyte_parameters.proofs.ElectrolyteParams.kappa_eff.Reads as kappa-eff-reads
 
 d-e-requires : tie.Need-d-e-requires
 d-e-requires c κs = search needs

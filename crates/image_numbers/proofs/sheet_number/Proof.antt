@@ -4,13 +4,6 @@ use borrow.Author.Tests.{ne-eqb}
 use borrow.Author.Needs.{needs}
 use Rattle.image_numbers.proofs.sheet_number.Statement.{statement}
 use Rattle.image_numbers.proofs.sheet_number.Tie as tie
-use Rattle.image_numbers.proofs.sheet_number.Reads as reads
-use Rattle.image_numbers.proofs.sheet_number.Lts as lts
-use Rattle.electrode.proofs.ElectrodeParams.d_s.Reads as d-s-reads
-use Rattle.electrode.proofs.ElectrodeParams.docp_dtheta.Reads as docp-dtheta-reads
-use Rattle.electrode.proofs.ElectrodeParams.ocp.Reads as ocp-reads
-use Rattle.electrode.proofs.ElectrodeParams.specific_area.Reads as specific-area-reads
-use Rattle.electrode.proofs.sphere_volume.Reads as sphere-volume-reads
 
 d-s-requires : tie.Need-d-s-requires
 d-s-requires c κs = search needs

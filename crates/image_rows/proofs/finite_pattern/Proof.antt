@@ -1,7 +1,6 @@
 -- `image_rows::finite_pattern` meets its contract. Assumes nothing.
 use mathlib.Core.Path.{refl}
 use Rattle.image_rows.specs.Rows.{finitePattern}
-use borrow.Author.Needs.{needs}
 use Rattle.image_rows.proofs.finite_pattern.Statement.{statement}
 use Rattle.image_rows.proofs.finite_pattern.Tie as tie
 

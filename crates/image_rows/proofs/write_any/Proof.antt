@@ -1,11 +1,10 @@
 -- `image_rows::write_any` meets its contract: k places are written after k turns. Assumes nothing.
-use Prim.Native.Nat.{ℕ, suc, _≤_, _<_, _+_, _-_, _*_}
-use mathlib.Core.Path.{_≡_, refl, sym, _∙_, ap}
+use Prim.Native.Nat.{_≤_, _-_}
+use mathlib.Core.Path.{_≡_, refl}
 use native.Mathlib.Omega.{arith}
 use native.Mathlib.Numerals.{add-one}
 use borrow.Author.Needs.{needs}
-use lib.ListN.{length, getD}
-use lib.Ieee.{nan}
+use lib.ListN.{length}
 use Rattle.codec.specs.Words.{putPlaces}
 use Rattle.image_rows.proofs.write_any.Statement.{statement}
 use Rattle.image_rows.proofs.write_any.Tie as tie

@@ -1,9 +1,6 @@
 -- `image_rows::write_places` meets its contract: each way out has what was tested. Assumes nothing.
-use Prim.Native.Nat.{_+_, _*_, _≤_}
 use mathlib.Core.Path.{sym, _∙_, subst}
-use native.Mathlib.Omega.{arith}
 use lib.Dec.{T}
-use lib.ListN.{length}
 use borrow.Author.Needs.{needs}
 use Rattle.image_rows.proofs.write_places.Statement.{statement}
 use Rattle.image_rows.proofs.write_places.Tie as tie

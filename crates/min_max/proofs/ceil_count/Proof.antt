@@ -1,10 +1,8 @@
 -- `ceil_count` meets its contract. Assumes nothing.
-use mathlib.Core.Path.{_≡_, refl, sym, ap, _∙_, subst}
-use Prim.Native.Nat.{_+_}
+use mathlib.Core.Path.{sym, subst}
 use native.Mathlib.Omega.{arith}
 use borrow.Author.Tests.{not-true, not-false}
 use lib.Dec.{T}
-use lib.Ieee.{binary64, fits, toUnsigned}
 use Rattle.min_max.proofs.CountLaws.{Counted, CountedBy, ceil-zero, ceil-top, in-range, counted}
 use borrow.Author.Needs.{needs}
 use Rattle.min_max.proofs.ceil_count.Statement.{statement}

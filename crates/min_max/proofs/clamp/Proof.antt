@@ -1,8 +1,8 @@
 -- `clamp` meets its contract. Assumes nothing.
-use mathlib.Core.Path.{_≡_, refl, _∙_}
-use mathlib.Core.Bool.{Bool, cond}
+use mathlib.Core.Path.{_≡_}
+use mathlib.Core.Bool.{cond}
 use mathlib.Core.Logic.{⊎-elim}
-use lib.Ieee.{Float, lt}
+use lib.Ieee.{lt}
 use Rattle.min_max.proofs.clamp.Statement.{statement}
 use Rattle.min_max.proofs.clamp.Tie as tie
 

@@ -2,7 +2,6 @@
 use mathlib.Core.Path.{sym, ap, subst}
 use mathlib.Core.Bool.{false}
 use lib.Dec.{T}
-use lib.Ieee.{binary64, fits}
 use Rattle.binary64.specs.Operators.{negative}
 use Rattle.square_root.proofs.Patterns.{not-nan}
 use Rattle.min_max.proofs.SignLaws.{is-nan, nan-test, sign-bit}

@@ -1,7 +1,5 @@
 -- `signum` meets its contract. Assumes nothing.
-use mathlib.Core.Path.{_≡_, refl, sym, _∙_}
 use mathlib.Core.Bool.{true, false}
-use Rattle.binary64.specs.Operators.{negative}
 use Rattle.min_max.proofs.SignLaws.{is-nan, nan-test}
 use borrow.Author.Needs.{needs}
 use Rattle.min_max.proofs.signum.Statement.{statement}

@@ -21,7 +21,7 @@ sub-steps-requires c κs = rw (c .before .before .prepare .ensures) (c .before .
 returns : tie.Need-returns
 returns c = let a = c .before .before .before .before .before .args in
     let p = particleOf (a .params) (a .n) (a .c) in
-    rw (c .sub-steps .ensures, c .before .before .before .prepare .ensures, c .before .before .inverse-radii .ensures, c .before .before .before .before .spacing .ensures (a .c))
+    rw (c .sub-steps .ensures, c .before .before .before .prepare .ensures, c .before .before .inverse-radii .ensures, c .before .before .before .before .spacing .ensures)
     (times-cong _ _ (a .turns) (same-sub-step (subStepParamsOf p (a .d-s) (a .j-n) (a .dt)) (c .before .before .before .before .before .pre .1)) (a .c))
 
 pub advance-spec : {M : Type 1} → statement M

@@ -23,7 +23,7 @@ returns c =
     let args = c .before .before .before .before .before .args in
     let a = args in
     let p = particleOf (a .params) (a .n) (a .c .now) in
-    let e : sums-of .result ≡ sumsAfter (p .«c_s») (p .«n_nodes») (spacing p) (p .«n_nodes») = rw (sums-of .ensures, spacing′ .ensures (a .c .now)) in
+    let e : sums-of .result ≡ sumsAfter (p .«c_s») (p .«n_nodes») (spacing (a .params) (a .n)) (p .«n_nodes») = rw (sums-of .ensures, spacing′ .ensures) in
     rw (average-by p (sums-of .result) e, if1 .taken)
 
 returns-2 : tie.Need-returns-2
@@ -34,8 +34,8 @@ returns-2 c =
     let args = c .before .before .before .before .before .args in
     let a = args in
     let p = particleOf (a .params) (a .n) (a .c .now) in
-    let e : sums-of .result ≡ sumsAfter (p .«c_s») (p .«n_nodes») (spacing p) (p .«n_nodes») = rw (sums-of .ensures, spacing′ .ensures (a .c .now)) in
-    rw (average-by p (sums-of .result) e, if1 .left, spacing′ .ensures (a .c .now))
+    let e : sums-of .result ≡ sumsAfter (p .«c_s») (p .«n_nodes») (spacing (a .params) (a .n)) (p .«n_nodes») = rw (sums-of .ensures, spacing′ .ensures) in
+    rw (average-by p (sums-of .result) e, if1 .left, spacing′ .ensures)
 
 pub average-spec : {M : Type 1} → statement M
 average-spec =

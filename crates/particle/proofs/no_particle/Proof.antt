@@ -1,5 +1,5 @@
 -- `particle::no_particle` meets its contract. Assumes nothing.
-use mathlib.Core.Path.{_≡_, refl}
+use mathlib.Core.Path.{refl}
 use Rattle.particle.specs.Calls.{noParticle}
 use Rattle.particle.proofs.no_particle.Statement.{statement}
 use Rattle.particle.proofs.no_particle.Tie as tie

@@ -12,7 +12,7 @@ count-f64-requires c κs = search needs
 
 returns : tie.Need-returns
 unfolding spacing
-returns c = λ _. rw (c .before .count-f64 .ensures)
+returns c = rw (c .before .count-f64 .ensures)
 
 pub spacing-spec : {M : Type 1} → statement M
 spacing-spec = tie.close (tie.spec sub-count-f64 count-f64-requires returns)

@@ -9,7 +9,7 @@ spacing-requires c κs = search needs
 
 returns : tie.Need-returns
 unfolding stableStep
-returns c = λ l. rw (c .spacing .ensures l)
+returns c = rw (c .spacing .ensures)
 
 pub stable-step-spec : {M : Type 1} → statement M
 stable-step-spec = tie.close (tie.spec spacing-requires returns)

@@ -1,5 +1,5 @@
 -- `particle::surface_theta` meets its contract. Assumes nothing.
-use mathlib.Core.Path.{_≡_, refl}
+use mathlib.Core.Path.{refl}
 use Rattle.particle.specs.Particle.{surfaceTheta}
 use borrow.Author.Needs.{needs}
 use Rattle.particle.proofs.surface_theta.Statement.{statement}

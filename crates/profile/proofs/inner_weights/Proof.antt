@@ -6,7 +6,6 @@ use lib.Dec.{eqb}
 use lib.Ieee.{binary64, ofBits}
 use Rattle.profile.specs.Weights.{innerWeight}
 use Rattle.profile.proofs.FloatTable.{float-at}
-use borrow.Author.Needs.{needs}
 use Rattle.profile.proofs.inner_weights.Statement.{statement}
 use Rattle.profile.proofs.inner_weights.Tie as tie
 

@@ -1,36 +1,29 @@
 -- `solver::cell_refusal` meets its contract: each way out has what the test found. Assumes nothing.
-use mathlib.Core.Path.{_≡_}
 use borrow.Author.Tests.{eq-eqb, ne-eqb}
-use Rattle.refusal.specs.Numbers.{firstRefusal, refusalUnless, grid}
-use Rattle.solver.specs.Cell.{gridFits, cellRefusal, grid-passed, grid-anode, grid-cathode}
-use Rattle.solver.specs.Parts.{cellOf}
+use Rattle.refusal.specs.Numbers.{firstRefusal}
+use Rattle.solver.specs.Cell.{cellRefusal}
 use borrow.Author.Needs.{needs}
 use Rattle.solver.proofs.cell_refusal.Statement.{statement}
 use Rattle.solver.proofs.cell_refusal.Tie as tie
+
+count-within-requires : tie.Need-count-within-requires
+count-within-requires c κs = search needs
 
 refusal-unless-requires : tie.Need-refusal-unless-requires
 refusal-unless-requires c κs = search needs
 
 returns : tie.Need-returns
 unfolding cellRefusal firstRefusal
-returns c = rw (← c .before .refusal-unless .ensures, ne-eqb _ _ (c .if1 .taken))
+returns c = rw (← c .before .before .before .before .count-within .ensures, ← c .before .refusal-unless .ensures, ne-eqb _ _ (c .if1 .taken))
 
 fits-requires : tie.Need-fits-requires
 fits-requires c κs = search needs
 
 fields-fit-requires : tie.Need-fields-fit-requires
-fields-fit-requires c κs =
-    let a = c .before .before .before .before .before .args in
-    let s = cellOf (a .q) (a .c-neg .now) (a .c-pos .now) in
-    let e : refusalUnless (gridFits s) grid ≡ 0 = rw (← c .before .before .refusal-unless .ensures) (c .before .if1 .left) in
-    grid-anode s (grid-passed s e) .1
+fields-fit-requires c κs = search needs
 
 fields-fit-requires-2 : tie.Need-fields-fit-requires-2
-fields-fit-requires-2 c κs =
-    let a = c .before .before .before .before .before .before .args in
-    let s = cellOf (a .q) (a .c-neg .now) (a .c-pos .now) in
-    let e : refusalUnless (gridFits s) grid ≡ 0 = rw (← c .before .before .before .refusal-unless .ensures) (c .before .before .if1 .left) in
-    grid-cathode s (grid-passed s e) .1
+fields-fit-requires-2 c κs = search needs
 
 clock-fits-requires : tie.Need-clock-fits-requires
 clock-fits-requires c κs = search needs
@@ -42,6 +35,7 @@ returns-2 : tie.Need-returns-2
 unfolding cellRefusal firstRefusal
 returns-2 c =
     rw (
+      ← c .before .before .before .before .before .before .before .before .before .count-within .ensures,
       ← c .before .before .before .before .before .before .refusal-unless .ensures,
       eq-eqb _ _ (c .before .before .before .before .before .if1 .left),
       c .refusal-unless2 .ensures,
@@ -55,6 +49,7 @@ pub cell-refusal-spec : {M : Type 1} → statement M
 cell-refusal-spec =
     tie.close
     (tie.spec
+    count-within-requires
     refusal-unless-requires
     returns
     fits-requires

@@ -118,8 +118,8 @@ returns-2 c =
     let args = c .before .before .before .before .before .before .before .before .before .before .before .args in
     let a = args in
     let s = cellOf (a .q) (a .c-neg .now) (a .c-pos .now) in
-    rw (refused-late s (a .current-a) (a .dt) (a .temp-k) _ _ _ (cell-refusal .ensures) (argument-refusal .ensures) (first-refusal .ensures) (if1 .left) _
-        (plan-of .ensures _ _) _ (plan-refusal .ensures) (if2 .taken), c .refused-move2 .ensures)
+    rw (refused-late s (a .current-a) (a .dt) (a .temp-k) _ _ _ (cell-refusal .ensures) (argument-refusal .ensures) (first-refusal .ensures) (if1 .left) _ (plan-of .ensures) _
+        (plan-refusal .ensures) (if2 .taken), c .refused-move2 .ensures)
     (refl, (refl, (refl, (refl, refl))))
 
 follow-requires : tie.Need-follow-requires
@@ -146,7 +146,7 @@ returns-3 c =
     let args = c .before .before .before .before .before .before .before .before .before .before .before .before .before .args in
     let a = args in
     let s = cellOf (a .q) (a .c-neg .now) (a .c-pos .now) in
-    rw (to-end s (a .current-a) (a .dt) (a .temp-k) _ _ _ (cell-refusal .ensures) (argument-refusal .ensures) (first-refusal .ensures) (if1 .left) _ (plan-of .ensures _ _) _
+    rw (to-end s (a .current-a) (a .dt) (a .temp-k) _ _ _ (cell-refusal .ensures) (argument-refusal .ensures) (first-refusal .ensures) (if1 .left) _ (plan-of .ensures) _
         (plan-refusal .ensures) (if2 .left))
     (followed-agrees (a .q) _ (a .c-neg .now) (a .c-pos .now) (a .current-a) (a .dt) (a .temp-k) _ _ _ (c .follow .ensures))
 

@@ -28,14 +28,14 @@ surface-current-requires-2 : tie.Need-surface-current-requires-2
 surface-current-requires-2 c κs = search needs
 
 returns : tie.Need-returns
-returns c = λ p q.
+returns c =
     rw (
       c .surface-current2 .ensures,
       c .before .surface-current .ensures,
       c .before .before .min2 .ensures,
       c .before .before .before .min .ensures,
-      c .before .before .before .before .stable-step2 .ensures q,
-      c .before .before .before .before .before .stable-step .ensures p,
+      c .before .before .before .before .stable-step2 .ensures,
+      c .before .before .before .before .before .stable-step .ensures,
       c .before .before .before .before .before .before .diffusivity-at2 .ensures,
       c .before .before .before .before .before .before .before .diffusivity-at .ensures,
     )

@@ -1,5 +1,5 @@
 -- `solver_report::no_state` meets its contract. Assumes nothing.
-use mathlib.Core.Path.{_≡_, refl}
+use mathlib.Core.Path.{refl}
 use Rattle.solver_report.specs.Report.{noState}
 use Rattle.solver_report.proofs.no_state.Statement.{statement}
 use Rattle.solver_report.proofs.no_state.Tie as tie

@@ -1,9 +1,9 @@
 -- `parts_of` meets its contract. Assumes nothing.
 use mathlib.Core.Logic.{⊎-elim}
 use mathlib.Core.Path.{refl}
-use Prim.Native.Nat.{ℕ, _-_, _*_, _/_, _%_, _^_, _≤_, _<_}
+use Prim.Native.Nat.{_-_, _*_, _/_, _%_, _^_, _≤_, _<_}
 use native.Mathlib.Omega.{arith}
-use Rattle.square_root.specs.Parts.{unitsOf, PartsOf}
+use Rattle.square_root.specs.Parts.{unitsOf}
 use Rattle.square_root.proofs.Patterns.{positive-units}
 use Rattle.square_root.proofs.Normalised.{Scaled, scaled-step, scaled-low, scaled-high, scaled-moved, normal-of}
 use Rattle.square_root.proofs.parts_of.Statement.{statement}

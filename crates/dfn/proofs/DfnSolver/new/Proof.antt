@@ -4,7 +4,7 @@ use borrow.Author.Tests.{not-true, not-false}
 use native.Mathlib.Omega.{arith}
 use Rattle.refusal.specs.Numbers.{refusalUnless, firstRefusal}
 use Rattle.dfn_solid.specs.Room.{room}
-use Rattle.dfn.specs.Checks.{Grid, grid-of}
+use Rattle.dfn.specs.Checks.{grid-of}
 use Rattle.dfn.specs.Build.{newRefusal, fresh, made}
 use borrow.Author.Needs.{needs}
 use Rattle.dfn.proofs.DfnSolver.new.Statement.{statement}

@@ -1,5 +1,5 @@
 -- `dfn_parameters::DfnParams::lfp_graphite` meets its contract. Assumes nothing.
-use mathlib.Core.Path.{_≡_, refl}
+use mathlib.Core.Path.{refl}
 use Rattle.dfn_parameters.specs.Ready.{lfpGraphite}
 use Rattle.dfn_parameters.proofs.DfnParams.lfp_graphite.Statement.{statement}
 use Rattle.dfn_parameters.proofs.DfnParams.lfp_graphite.Tie as tie

@@ -1,5 +1,5 @@
 -- `electrode::ElectrodeParams::area_per_volume` meets its contract. Assumes nothing.
-use mathlib.Core.Path.{_≡_, refl}
+use mathlib.Core.Path.{refl}
 use Rattle.electrode.specs.Sheet.{specificArea}
 use Rattle.electrode.proofs.ElectrodeParams.area_per_volume.Statement.{statement}
 use Rattle.electrode.proofs.ElectrodeParams.area_per_volume.Tie as tie

@@ -1,6 +1,5 @@
 -- `electrode::ElectrodeParams::fits` meets its contract. Assumes nothing.
-use mathlib.Core.Path.{_≡_, refl, ap, _∙_}
-use Prim.Native.Nat.{ℕ}
+use mathlib.Core.Path.{_≡_, refl}
 use mathlib.Core.Bool.{Bool, true, false}
 use lib.Dec.{eqb}
 use borrow.Author.Needs.{needs}
@@ -18,11 +17,10 @@ chemistry-refusal-requires : tie.Need-chemistry-refusal-requires
 chemistry-refusal-requires c κs = search needs
 
 returns : tie.Need-returns
-returns c =
-    let called = c .before .before .before .before .before .before .before .before .before .before .before .before .before .before .before .before .before .before in
-    let known : eqb (called .chemistry-refusal .result) 0 ≡ chemistryFits (called .before .args .self .«electrode_type») =
-    ap (λ (k : ℕ). eqb k 0) (called .chemistry-refusal .ensures) ∙ none-where _ in
-    rw known
+returns c = cc (none-where (chemistryFits (c .before .before .before .before .before .before .before .before .before .before .args .self .«electrode_type»)))
 
 pub fits-spec : {M : Type 1} → statement M
-fits-spec = tie.close (tie.spec chemistry-refusal-requires returns)
+fits-spec =
+    tie.close
+    (tie.spec chemistry-refusal-requires (λ c κs. search needs) (λ c κs. search needs) (λ c κs. search needs) (λ c κs. search needs) (λ c κs. search needs)
+    (λ c κs. search needs) (λ c κs. search needs) (λ c κs. search needs) (λ c κs. search needs) returns)

@@ -1,5 +1,5 @@
 -- `electrode::ElectrodeParams::graphite_anode` meets its contract. Assumes nothing.
-use mathlib.Core.Path.{_≡_, refl}
+use mathlib.Core.Path.{refl}
 use Rattle.electrode.specs.Sheet.{graphiteAnode}
 use Rattle.electrode.proofs.ElectrodeParams.graphite_anode.Statement.{statement}
 use Rattle.electrode.proofs.ElectrodeParams.graphite_anode.Tie as tie

@@ -1,5 +1,5 @@
 -- `electrode::ElectrodeParams::lfp_cathode` meets its contract. Assumes nothing.
-use mathlib.Core.Path.{_≡_, refl}
+use mathlib.Core.Path.{refl}
 use Rattle.electrode.specs.Sheet.{lfpCathode}
 use Rattle.electrode.proofs.ElectrodeParams.lfp_cathode.Statement.{statement}
 use Rattle.electrode.proofs.ElectrodeParams.lfp_cathode.Tie as tie

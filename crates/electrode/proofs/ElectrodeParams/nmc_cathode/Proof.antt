@@ -1,5 +1,5 @@
 -- `electrode::ElectrodeParams::nmc_cathode` meets its contract. Assumes nothing.
-use mathlib.Core.Path.{_≡_, refl}
+use mathlib.Core.Path.{refl}
 use Rattle.electrode.specs.Sheet.{nmcCathode}
 use Rattle.electrode.proofs.ElectrodeParams.nmc_cathode.Statement.{statement}
 use Rattle.electrode.proofs.ElectrodeParams.nmc_cathode.Tie as tie

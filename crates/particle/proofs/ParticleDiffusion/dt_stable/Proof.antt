@@ -39,7 +39,7 @@ returns c =
     let a = args in
     let e : first-refusal .result ≡ firstRefusal (particleRefusal (a .self)) (refusalUnless (temperatureFits (a .temp-k)) temperature) = rw (first-refusal .ensures,
         refusal .ensures, refusal-unless .ensures, temperature-fits .ensures) in
-    rw (← e, c .answered .ensures) (refused-outcome _ «0·0» (stableStep (a .self) (diffusivityAt (a .self .params) (a .temp-k))) (if1 .taken))
+    rw (← e, c .answered .ensures) (refused-outcome _ «0·0» (stableStep (a .self .params) (a .self .«n_nodes») (diffusivityAt (a .self .params) (a .temp-k))) (if1 .taken))
 
 diffusivity-at-requires : tie.Need-diffusivity-at-requires
 diffusivity-at-requires c κs = search needs
@@ -74,7 +74,7 @@ returns-2 c =
     let a = args in
     let e : first-refusal .result ≡ firstRefusal (particleRefusal (a .self)) (refusalUnless (temperatureFits (a .temp-k)) temperature) = rw (first-refusal .ensures,
         refusal .ensures, refusal-unless .ensures, temperature-fits .ensures) in
-    rw (← e, c .answered2 .ensures, stable-step .ensures (a .self .«c_s»), diffusivity-at .ensures)
+    rw (← e, c .answered2 .ensures, stable-step .ensures, diffusivity-at .ensures)
 
 pub dt-stable-spec : {M : Type 1} → statement M
 dt-stable-spec =

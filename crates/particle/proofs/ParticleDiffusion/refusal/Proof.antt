@@ -1,8 +1,7 @@
 -- `particle::ParticleDiffusion::refusal` meets its contract: each way out has what the test found. Assumes nothing.
-use mathlib.Core.Path.{_≡_, sym, _∙_}
 use borrow.Author.Tests.{eq-eqb, ne-eqb}
-use Rattle.refusal.specs.Numbers.{firstRefusal, refusalUnless, grid}
-use Rattle.particle.specs.Checks.{nodesFit, nodes-valid, particleRefusal}
+use Rattle.refusal.specs.Numbers.{firstRefusal}
+use Rattle.particle.specs.Checks.{particleRefusal}
 use borrow.Author.Needs.{needs}
 use Rattle.particle.proofs.ParticleDiffusion.refusal.Statement.{statement}
 use Rattle.particle.proofs.ParticleDiffusion.refusal.Tie as tie
@@ -18,13 +17,7 @@ unfolding particleRefusal firstRefusal
 returns c = rw (← c .before .before .count-within .ensures, ← c .before .refusal-unless .ensures, ne-eqb _ _ (c .if1 .taken))
 
 fields-fit-requires : tie.Need-fields-fit-requires
-fields-fit-requires c κs =
-    let if1 = c .before .before .before .if1 in
-    let refusal-unless = c .before .before .before .before .refusal-unless in
-    let count-within = c .before .before .before .before .before .count-within in
-    let args = c .before .before .before .before .before .before .args in
-    let e : refusalUnless (nodesFit (args .t1 .«n_nodes»)) grid ≡ 0 = rw (← count-within .ensures, ← refusal-unless .ensures) (if1 .left) in
-    nodes-valid _ e .1
+fields-fit-requires c κs = search needs
 
 refusal-unless-requires-2 : tie.Need-refusal-unless-requires-2
 refusal-unless-requires-2 c κs = search needs

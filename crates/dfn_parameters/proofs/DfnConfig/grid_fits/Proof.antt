@@ -1,0 +1,12 @@
+-- `dfn_parameters::DfnConfig::grid_fits` meets its contract. Assumes nothing.
+use borrow.Author.Needs.{needs}
+use Rattle.dfn_parameters.proofs.DfnConfig.grid_fits.Statement.{statement}
+use Rattle.dfn_parameters.proofs.DfnConfig.grid_fits.Tie as tie
+
+returns : tie.Need-returns
+returns c = cc
+
+pub grid-fits-spec : {M : Type 1} → statement M
+grid-fits-spec =
+    tie.close
+    (tie.spec (λ c κs. search needs) (λ c κs. search needs) (λ c κs. search needs) returns)

@@ -1,0 +1,13 @@
+-- `dfn_parameters::Side::fits` meets its contract. Assumes nothing.
+use borrow.Author.Needs.{needs}
+use Rattle.dfn_parameters.proofs.Side.fits.Statement.{statement}
+use Rattle.dfn_parameters.proofs.Side.fits.Tie as tie
+
+returns : tie.Need-returns
+returns c = cc
+
+pub fits-spec : {M : Type 1} → statement M
+fits-spec =
+    tie.close
+    (tie.spec (λ c κs. search needs) (λ c κs. search needs) (λ c κs. search needs) (λ c κs. search needs) (λ c κs. search needs)
+    (λ c κs. search needs) (λ c κs. search needs) returns)

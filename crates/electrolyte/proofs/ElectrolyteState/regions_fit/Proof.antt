@@ -1,0 +1,13 @@
+-- `electrolyte::ElectrolyteState::regions_fit` meets its contract. Assumes nothing.
+use borrow.Author.Needs.{needs}
+use Rattle.electrolyte.proofs.ElectrolyteState.regions_fit.Statement.{statement}
+use Rattle.electrolyte.proofs.ElectrolyteState.regions_fit.Tie as tie
+
+returns : tie.Need-returns
+returns c = cc
+
+pub regions-fit-spec : {M : Type 1} → statement M
+regions-fit-spec =
+    tie.close
+    (tie.spec (λ c κs. search needs) (λ c κs. search needs) (λ c κs. search needs) (λ c κs. search needs) (λ c κs. search needs)
+    (λ c κs. search needs) returns)
