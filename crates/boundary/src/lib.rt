@@ -132,7 +132,12 @@ pub extern "C" fn pj_electrolyte_step(
     ensures number { λ r. ⌜ r ≡ electrolyteReturn (now (electrolyte .entry)) «j_n_neg» «j_n_pos» dt «temp_k» (length (now (answer .entry))) ⌝ }
     ensures written { λ _. ⌜ now (answer .exit) ≡ electrolyteAfter (now (electrolyte .entry)) «j_n_neg» «j_n_pos» dt «temp_k» (now (answer .entry)) ⌝ }
 {
-    if !lengths_fit(electrolyte.len(), ELECTROLYTE_BYTES, answer.len(), ELECTROLYTE_BYTES) {
+    if !lengths_fit(
+        electrolyte.len(),
+        ELECTROLYTE_BYTES,
+        answer.len(),
+        ELECTROLYTE_BYTES,
+    ) {
         return refusal::LENGTH;
     }
     dfn_calls::electrolyte_step(electrolyte, j_n_neg, j_n_pos, dt, temp_k, answer)

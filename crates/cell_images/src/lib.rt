@@ -70,7 +70,13 @@ pub fn put_cell(s: &mut [u8], cell: SpmSolver)
     ensures { λ _. ⌜ now (s .exit) ≡ putCell (now (s .entry)) cell ⌝ }
 {
     put_config(s, cell.config);
-    put_parts(s, CELL_ANODE, cell.anode.params, cell.anode.n_nodes, &cell.anode.c_s);
+    put_parts(
+        s,
+        CELL_ANODE,
+        cell.anode.params,
+        cell.anode.n_nodes,
+        &cell.anode.c_s,
+    );
     put_parts(
         s,
         CELL_CATHODE,

@@ -77,7 +77,13 @@ fn centre_node(v: ParticleParams, c: &[f64; 512], d: &[f64; 512], base: usize) -
 
 // Puts the particle at `base` anew, each node held to 0 to the largest concentration: the centre, the nodes between, whose loop has no
 // branch, and the surface.
-fn move_particle(v: ParticleParams, c: &[f64; 512], d: &[f64; 512], base: usize, out: &mut [f64; 512])
+fn move_particle(
+    v: ParticleParams,
+    c: &[f64; 512],
+    d: &[f64; 512],
+    base: usize,
+    out: &mut [f64; 512],
+)
     requires { ⌜ (2 ≤ v .n) × (base + v .n ≤ 512) ⌝ }
     ensures { λ _. ⌜ now (out .exit) ≡ particleWith v (now (c .entry)) (now (d .entry)) base (now (out .entry)) ⌝ }
 {

@@ -149,7 +149,10 @@ impl ElectrodeParams {
     {
         let unfit = refusal::refusal_unless(self.fits(), refusal::SHEET);
         let out = refusal::refusal_unless(refusal::temperature_fits(temp_k), refusal::TEMPERATURE);
-        refusal::answered(refusal::first_refusal(unfit, out), self.diffusivity_at(temp_k))
+        refusal::answered(
+            refusal::first_refusal(unfit, out),
+            self.diffusivity_at(temp_k),
+        )
     }
 
     // Interfacial area of a volume of electrode, 1/m.

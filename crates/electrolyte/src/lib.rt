@@ -321,7 +321,13 @@ impl ElectrolyteState {
 
     // The state after one explicit step of dt seconds. j_n_neg and j_n_pos are the reactions in anode and cathode, mol/(m^3 s).
     // WARNING: salt is not conserved where two regions meet, and what would fall below 1e-10 becomes 1e-10.
-    pub fn step_concentration(self, j_n_neg: f64, j_n_pos: f64, dt: f64, temp_k: f64) -> ElectrolyteAnswer
+    pub fn step_concentration(
+        self,
+        j_n_neg: f64,
+        j_n_pos: f64,
+        dt: f64,
+        temp_k: f64,
+    ) -> ElectrolyteAnswer
         ensures { λ r. ⌜ r ≡ stepped self «j_n_neg» «j_n_pos» dt «temp_k» ⌝ }
     {
         let refusal = self.step_refusal(j_n_neg, j_n_pos, dt, temp_k);

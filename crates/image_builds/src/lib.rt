@@ -80,7 +80,11 @@ fn built_cell(call: u64, image: &[u8]) -> SpmBuildAnswer
     match call {
         8 => SpmSolver::graphite_lfp(config),
         9 => SpmSolver::graphite_nmc(config),
-        _ => SpmSolver::new(config, sheet_at(image, NEW_CELL_ANODE), sheet_at(image, NEW_CELL_CATHODE)),
+        _ => SpmSolver::new(
+            config,
+            sheet_at(image, NEW_CELL_ANODE),
+            sheet_at(image, NEW_CELL_CATHODE),
+        ),
     }
 }
 
@@ -107,7 +111,10 @@ fn new_particle(image: &[u8], answer: &mut [u8]) -> u64
     ensures number { λ r. ⌜ r ≡ particleMade (now (image .entry)) .refusal ⌝ }
     ensures written { λ _. ⌜ now (answer .exit) ≡ written (particleMade (now (image .entry)) .refusal) (putParticle (now (answer .entry)) 0 (particleMade (now (image .entry)) .particle)) (now (answer .entry)) ⌝ }
 {
-    let new = ParticleDiffusion::new(sheet_at(image, 0), read_word(image, PARTICLE_NODES) as usize);
+    let new = ParticleDiffusion::new(
+        sheet_at(image, 0),
+        read_word(image, PARTICLE_NODES) as usize,
+    );
     let refusal = new.refusal;
     if refusal == 0 {
         let made = new.particle;

@@ -14,8 +14,8 @@ use solver_plan::plan_for;
 use solver_plan::plan_refusal;
 use solver_report::SpmState;
 use solver_report::no_state;
-use solver_step::SpmReported;
 use solver_step::SpmParts;
+use solver_step::SpmReported;
 use solver_step::follow;
 use solver_step::refused_move;
 ghost use mathlib.Core.Path.{_≡_};
@@ -125,7 +125,11 @@ impl SpmSolver {
     // ---- builds
 
     // A cell from two sheets, with the config's count of nodes in both.
-    pub fn new(config: SpmConfig, anode: ElectrodeParams, cathode: ElectrodeParams) -> SpmBuildAnswer
+    pub fn new(
+        config: SpmConfig,
+        anode: ElectrodeParams,
+        cathode: ElectrodeParams,
+    ) -> SpmBuildAnswer
         ensures { λ r. ⌜ r ≡ built config anode cathode ⌝ }
     {
         let n_nodes = config.n_nodes;

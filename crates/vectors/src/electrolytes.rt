@@ -7,8 +7,8 @@ use crate::list::read_array;
 use crate::list::same;
 use crate::list::same_arrays;
 use electrolyte::Count;
-use electrolyte::ElectrolyteState;
 use electrolyte::ElectrolyteAnswer;
+use electrolyte::ElectrolyteState;
 use electrolyte_parameters::ElectrolyteParams;
 
 // Parameters whose first number is read already.
@@ -144,7 +144,12 @@ fn zero_state() -> ElectrolyteState {
 
 // Whether the next answer, a number of the table and a profile where that is 0, is a. Where it is 0 the regions must be
 // those of `given`, and else the whole state that of `refused`.
-fn is_state(fd: i32, a: ElectrolyteAnswer, given: ElectrolyteState, refused: ElectrolyteState) -> bool {
+fn is_state(
+    fd: i32,
+    a: ElectrolyteAnswer,
+    given: ElectrolyteState,
+    refused: ElectrolyteState,
+) -> bool {
     let number = next_u64(fd);
     let state = a.state;
     if number != 0 {

@@ -32,8 +32,14 @@ returns-2 c =
     let build-length = c .before .before .before .build-length in
     let if1 = c .before .before .before .before .if1 in
     let is-listed = c .before .before .before .before .before .is-listed in
-    rw (← is-listed .ensures, on (is-listed .result) (if1 .left), ← build-length .ensures, ← built-length .ensures, ← lengths-fit .ensures,
-        off (lengths-fit .result) (c .if2 .taken)) (refl, refl)
+    rw (
+      ← is-listed .ensures,
+      on (is-listed .result) (if1 .left),
+      ← build-length .ensures,
+      ← built-length .ensures,
+      ← lengths-fit .ensures,
+      off (lengths-fit .result) (c .if2 .taken),
+    ) (refl, refl)
 
 put-ready-requires : tie.Need-put-ready-requires
 put-ready-requires c κs = search needs
@@ -52,8 +58,15 @@ returns-3 c =
     let if1 = c .before .before .before .before .before .before .before .before .before .if1 in
     let is-listed = c .before .before .before .before .before .before .before .before .before .before .is-listed in
     let args = c .before .before .before .before .before .before .before .before .before .before .before .before .before .args in
-    rw (← is-listed .ensures, on (is-listed .result) (if1 .left), ← build-length .ensures, ← built-length .ensures, ← lengths-fit .ensures, on (lengths-fit .result) (if2 .left),
-        le-leb (args .call) 6 (omega arith)) (refl, put-ready .ensures)
+    rw (
+      ← is-listed .ensures,
+      on (is-listed .result) (if1 .left),
+      ← build-length .ensures,
+      ← built-length .ensures,
+      ← lengths-fit .ensures,
+      on (lengths-fit .result) (if2 .left),
+      le-leb (args .call) 6 (omega arith),
+    ) (refl, put-ready .ensures)
 
 put-new-requires : tie.Need-put-new-requires
 put-new-requires c κs = search needs
@@ -72,8 +85,15 @@ returns-4 c =
     let if1 = c .before .before .before .before .before .before .before .before .before .if1 in
     let is-listed = c .before .before .before .before .before .before .before .before .before .before .is-listed in
     let args = c .before .before .before .before .before .before .before .before .before .before .before .before .before .args in
-    rw (← is-listed .ensures, on (is-listed .result) (if1 .left), ← build-length .ensures, ← built-length .ensures, ← lengths-fit .ensures, on (lengths-fit .result) (if2 .left),
-        lt-leb (args .call) 6 (omega arith)) (put-new .ensures)
+    rw (
+      ← is-listed .ensures,
+      on (is-listed .result) (if1 .left),
+      ← build-length .ensures,
+      ← built-length .ensures,
+      ← lengths-fit .ensures,
+      on (lengths-fit .result) (if2 .left),
+      lt-leb (args .call) 6 (omega arith),
+    ) (put-new .ensures)
 
 pub pj-build-spec : {M : Type 1} → statement M
 pj-build-spec =

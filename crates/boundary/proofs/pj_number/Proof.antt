@@ -56,8 +56,13 @@ returns-3 c =
     let number-length = c .before .before .before .before .before .before .before .before .before .before .number-length in
     let if1 = c .before .before .before .before .before .before .before .before .before .before .before .if1 in
     let is-listed = c .before .before .before .before .before .before .before .before .before .before .before .before .is-listed in
-    rw (← is-listed .ensures, on (is-listed .result) (if1 .left), ← number-length .ensures, ← lengths-fit .ensures,
-        on (lengths-fit .result) (if2 .left)) (value-answered _ _ _ _ (ap outcomeOf (sym (outcome .given .1)) ∙ number-of .ensures) (write-f64 .ensures))
+    rw (
+      ← is-listed .ensures,
+      on (is-listed .result) (if1 .left),
+      ← number-length .ensures,
+      ← lengths-fit .ensures,
+      on (lengths-fit .result) (if2 .left),
+    ) (value-answered _ _ _ _ (ap outcomeOf (sym (outcome .given .1)) ∙ number-of .ensures) (write-f64 .ensures))
 
 returns-4 : tie.Need-returns-4
 unfolding numberCall
@@ -69,8 +74,13 @@ returns-4 c =
     let number-length = c .before .before .before .before .before .before .number-length in
     let if1 = c .before .before .before .before .before .before .before .if1 in
     let is-listed = c .before .before .before .before .before .before .before .before .is-listed in
-    rw (← is-listed .ensures, on (is-listed .result) (if1 .left), ← number-length .ensures, ← lengths-fit .ensures,
-        on (lengths-fit .result) (if2 .left)) (refusal-answered _ _ _ (ap outcomeOf (sym (outcome2 .given .1)) ∙ number-of .ensures))
+    rw (
+      ← is-listed .ensures,
+      on (is-listed .result) (if1 .left),
+      ← number-length .ensures,
+      ← lengths-fit .ensures,
+      on (lengths-fit .result) (if2 .left),
+    ) (refusal-answered _ _ _ (ap outcomeOf (sym (outcome2 .given .1)) ∙ number-of .ensures))
 
 pub pj-number-spec : {M : Type 1} → statement M
 pj-number-spec =

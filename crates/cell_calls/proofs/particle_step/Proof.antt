@@ -28,7 +28,7 @@ returns c =
     let particle-at = c .before .before .before .before .before .before .before .particle-at in
     let args = c .before .before .before .before .before .before .before .before .before .before .args in
     accepted (λ (t : ParticleAnswer). t .refusal) (λ (t : ParticleAnswer). putParticle (args .answer .now) 0 (t .particle)) _ _ _ (rw (particle-at .ensures) at (step .ensures)) _
-        (if1 .taken) (put-particle .ensures)
+    (if1 .taken) (put-particle .ensures)
 
 returns-2 : tie.Need-returns-2
 unfolding particleReturn particleAfter
@@ -37,7 +37,7 @@ returns-2 c =
     let particle-at = c .before .before .particle-at in
     let args = c .before .before .before .before .before .args in
     refused (λ (t : ParticleAnswer). t .refusal) (λ (t : ParticleAnswer). putParticle (args .answer .now) 0 (t .particle)) _ _ _ (rw (particle-at .ensures) at (step .ensures))
-        (c .if1 .left)
+    (c .if1 .left)
 
 pub particle-step-spec : {M : Type 1} → statement M
 particle-step-spec =

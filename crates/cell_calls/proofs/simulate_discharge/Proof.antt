@@ -46,7 +46,7 @@ returns c =
     let args = c .before .before .before .before .before .before .before .before .before .before .before .before .before .before .before .before .before .before .before .before .args in
     let p =
     run-written (λ (t : RunOutcome). t .ended .refusal) (λ (t : RunOutcome). t .rows) (λ (t : RunOutcome). putEnding (putCell (args .answer .now) (t .solver)) 157
-        (t .ended .ending) (t .rows)) _ _ _
+    (t .ended .ending) (t .rows)) _ _ _
     (rw (cell-at .ensures) at (simulate-discharge .ensures .0))
     _ (rw (ending-refusal .ensures) at (if1 .taken)) (rw (put-cell .ensures, ending-number .ensures) at (put-ending .ensures)) in
     (ending-refusal .ensures ∙ p .0, (rw (cell-at .ensures) at (simulate-discharge .ensures .1), p .1))
@@ -63,7 +63,7 @@ returns-2 c =
     let args = c .before .before .before .before .before .before .before .before .before .before .args in
     let p =
     run-kept (λ (t : RunOutcome). t .ended .refusal) (λ (t : RunOutcome). t .rows) (λ (t : RunOutcome). putEnding (putCell (args .answer .now) (t .solver)) 157 (t .ended .ending)
-        (t .rows)) _ _ _
+    (t .rows)) _ _ _
     (rw (cell-at .ensures) at (simulate-discharge .ensures .0))
     (rw (ending-refusal .ensures) at (c .if1 .left)) in
     (ending-refusal .ensures ∙ p .0, (rw (cell-at .ensures) at (simulate-discharge .ensures .1), p .1))

@@ -81,8 +81,17 @@ returns-2 c =
     let fit = c .before .before .before .before .before .before .before .before .before .before .fit in
     let if1 = c .before .before .before .before .before .before .before .before .before .before .before .if1 in
     let grid-fits = c .before .before .before .before .before .before .before .before .before .before .before .before .grid-fits in
-    rw (← grid-fits .ensures, not-false (grid-fits .result) (if1 .left), c .refusal-unless .ensures, fit .ensures, limits-fit .ensures, solid-fits .ensures, solid-fits2 .ensures,
-        electrolyte-fits .ensures, clock-fits .ensures)
+    rw (
+      ← grid-fits .ensures,
+      not-false (grid-fits .result) (if1 .left),
+      c .refusal-unless .ensures,
+      fit .ensures,
+      limits-fit .ensures,
+      solid-fits .ensures,
+      solid-fits2 .ensures,
+      electrolyte-fits .ensures,
+      clock-fits .ensures,
+    )
 
 pub cell-refusal-spec : {M : Type 1} → statement M
 cell-refusal-spec =

@@ -21,7 +21,7 @@ fit c =
     let cell = cell-refusal in
     let first = first-refusal in
     valid (s .p) (s .g) (s .time-s) (s .neg .now) (s .pos .now) (s .c-e .now) (s .current) (s .dt) (cell .result) (load-refusal .result) (first .result) (cell .ensures)
-        (first .ensures) (c .if1 .left)
+    (first .ensures) (c .if1 .left)
 
 cell-refusal-requires : tie.Need-cell-refusal-requires
 cell-refusal-requires c κs = search needs
@@ -47,7 +47,7 @@ returns c =
     let load = load-refusal in
     let first = first-refusal in
     refused-step (s .p) (s .g) (s .time-s) (s .neg .now) (s .pos .now) (s .c-e .now) (s .current) (s .dt) (cell .result) (load .result) (first .result) (cell .ensures)
-        (first .ensures) (load .ensures)
+    (first .ensures) (load .ensures)
     (if1 .taken) (c .no-report .result) (c .no-report .ensures)
 
 anode-requires : tie.Need-anode-requires

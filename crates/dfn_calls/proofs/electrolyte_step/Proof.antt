@@ -28,7 +28,7 @@ returns c =
     let electrolyte-at = c .before .before .before .before .before .before .before .electrolyte-at in
     let args = c .before .before .before .before .before .before .before .before .before .before .args in
     accepted (λ (t : ElectrolyteAnswer). t .refusal) (λ (t : ElectrolyteAnswer). putElectrolyte (args .answer .now) (t .state)) _ _ _ (rw (electrolyte-at .ensures) at
-        (step-concentration .ensures)) _ (if1 .taken) (put-electrolyte .ensures)
+    (step-concentration .ensures)) _ (if1 .taken) (put-electrolyte .ensures)
 
 returns-2 : tie.Need-returns-2
 unfolding electrolyteReturn electrolyteAfter
@@ -37,7 +37,7 @@ returns-2 c =
     let electrolyte-at = c .before .before .electrolyte-at in
     let args = c .before .before .before .before .before .args in
     refused (λ (t : ElectrolyteAnswer). t .refusal) (λ (t : ElectrolyteAnswer). putElectrolyte (args .answer .now) (t .state)) _ _ _ (rw (electrolyte-at .ensures) at
-        (step-concentration .ensures)) (c .if1 .left)
+    (step-concentration .ensures)) (c .if1 .left)
 
 pub electrolyte-step-spec : {M : Type 1} → statement M
 electrolyte-step-spec =

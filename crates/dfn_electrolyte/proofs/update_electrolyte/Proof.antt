@@ -49,8 +49,17 @@ returns c =
     let pore-flux = c .before .before .before .before .before .before .before .pore-flux in
     let cathode = c .before .before .before .before .before .before .before .before .cathode in
     let anode = c .before .before .before .before .before .before .before .before .before .anode in
-    rw (c .nodes .ensures, diffusivities .ensures, diffusivity-params .ensures, region-of2 .ensures, region-of .ensures, pore-flux2 .ensures, pore-flux .ensures, cathode .ensures,
-        anode .ensures)
+    rw (
+      c .nodes .ensures,
+      diffusivities .ensures,
+      diffusivity-params .ensures,
+      region-of2 .ensures,
+      region-of .ensures,
+      pore-flux2 .ensures,
+      pore-flux .ensures,
+      cathode .ensures,
+      anode .ensures,
+    )
 
 pub update-electrolyte-spec : {M : Type 1} → statement M
 update-electrolyte-spec =

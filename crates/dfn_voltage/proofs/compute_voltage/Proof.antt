@@ -42,8 +42,17 @@ returns c =
     let max = c .before .before .before .before .before .before .max in
     let resistance = c .before .before .before .before .before .before .before .before .before .resistance in
     let open-voltage = c .before .before .before .before .before .before .before .before .before .before .open-voltage in
-    rw (c .clamp .ensures, side-overpotential2 .ensures, cathode .ensures, side-overpotential .ensures, anode .ensures, ln .ensures, max .ensures, resistance .ensures,
-        open-voltage .ensures)
+    rw (
+      c .clamp .ensures,
+      side-overpotential2 .ensures,
+      cathode .ensures,
+      side-overpotential .ensures,
+      anode .ensures,
+      ln .ensures,
+      max .ensures,
+      resistance .ensures,
+      open-voltage .ensures,
+    )
 
 pub compute-voltage-spec : {M : Type 1} → statement M
 compute-voltage-spec =

@@ -93,7 +93,7 @@ returns-3 c =
     let loop = c .before .before .before .before .before .before .before .before .before .before .before .before .before .loop in
     let args = c .before .before .before .before .before .before .before .before .before .before .before .before .before .before .before .before .before .args in
     let q = ends-stopped overOf (turned (args .w)) lastRow _ _ _ _ _ _ (loop .inv .0) _ _ _ (turn .ensures) (if2 .left) (row-of .ensures) (put-row .ensures) (loop-test .taken)
-        (if3 .taken) in
+    (if3 .taken) in
     (c .finished3 .ensures ∙ ap finishedRun (q .0), q .1)
 
 loop-less : tie.Need-loop-less Inv-loop μ-loop

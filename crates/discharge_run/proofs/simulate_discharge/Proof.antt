@@ -29,9 +29,14 @@ returns-2 c =
     let run-rows = c .before .before .run-rows in
     let start = c .before .before .before .before .start in
     let if1 = c .before .before .before .before .before .if1 in
-    let run-refusal = c .before .before .before .before .before .before .run-refusal in
-    (rw (← run-refusal .ensures, eq-eqb _ _ (if1 .left), ← start .ensures) (run-rows .ensures .0), rw (← run-refusal .ensures, eq-eqb _ _ (if1 .left),
-        ← start .ensures) (run-rows .ensures .1))
+    let run-refusal = c .before .before .before .before .before .before .run-refusal in (
+      rw (← run-refusal .ensures, eq-eqb _ _ (if1 .left), ← start .ensures) (run-rows .ensures .0),
+      rw (
+        ← run-refusal .ensures,
+        eq-eqb _ _ (if1 .left),
+        ← start .ensures,
+      ) (run-rows .ensures .1),
+    )
 
 pub simulate-discharge-spec : {M : Type 1} → statement M
 simulate-discharge-spec =

@@ -57,7 +57,7 @@ returns-3 c =
     let start = before in
     let lt : bits start < 2 ^ 64 = toBits-lt binary64 (start .args .x) (representable start) in
     zero-by-zero ∙ sym (subst (λ (v : Float). lnOf v ≡ nan) (back start) (at-negative lnOf nan-ln negative-ln (bits start) (lt-of-le-ne (if2 .taken) (λ e. c .if3 .left
-        (sym e))) lt))
+    (sym e))) lt))
 
 float-from-bits-result-2 : tie.Need-float-from-bits-result-2
 float-from-bits-result-2 c = minus-infinity
@@ -95,7 +95,7 @@ split c =
     let b = bits start in
     ap lnOf (sym (back start))
     ∙ ln-split (f64 b) (unitsOf (b / 2 ^ 52) (b % 2 ^ 52)) (c .parts-of .result .c) (c .parts-of .result .w) (ofBits-fits binary64 b) (positive-value b (if5 .left))
-        (positive-units b (above c)) (normal c)
+    (positive-units b (above c)) (normal c)
 
 add-exponent : tie.Need-add-exponent
 add-exponent c = omega (arith, normal (c .before .before) .top)

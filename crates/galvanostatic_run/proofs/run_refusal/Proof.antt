@@ -42,8 +42,17 @@ returns c =
     let refusal-unless2 = c .before .before .before .before .before .before .refusal-unless2 in
     let refusal-unless = c .before .before .before .before .before .before .before .refusal-unless in
     let grid-fits = c .before .before .before .before .before .before .before .before .grid-fits in
-    rw (c .first-refusal3 .ensures, first-refusal2 .ensures, first-refusal .ensures, step-refusal .ensures, refusal-unless3 .ensures, is-finite .ensures, refusal-unless2 .ensures,
-        refusal-unless .ensures, grid-fits .ensures)
+    rw (
+      c .first-refusal3 .ensures,
+      first-refusal2 .ensures,
+      first-refusal .ensures,
+      step-refusal .ensures,
+      refusal-unless3 .ensures,
+      is-finite .ensures,
+      refusal-unless2 .ensures,
+      refusal-unless .ensures,
+      grid-fits .ensures,
+    )
 
 pub run-refusal-spec : {M : Type 1} → statement M
 run-refusal-spec =

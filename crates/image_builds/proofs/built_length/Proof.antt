@@ -39,8 +39,14 @@ returns-7 c =
     let if4 = c .before .before .if4 in
     let if2 = c .before .before .before .before .if2 in
     let args = c .before .before .before .before .before .before .args in
-    rw (lt-leb (args .call) 3 (omega arith), ne-eqb _ _ (if2 .left), lt-leb (args .call) 6 (omega arith), ne-eqb _ _ (if4 .left), lt-leb (args .call) 10 (omega arith),
-        ne-eqb _ _ (c .if6 .left))
+    rw (
+      lt-leb (args .call) 3 (omega arith),
+      ne-eqb _ _ (if2 .left),
+      lt-leb (args .call) 6 (omega arith),
+      ne-eqb _ _ (if4 .left),
+      lt-leb (args .call) 10 (omega arith),
+      ne-eqb _ _ (c .if6 .left),
+    )
 
 pub built-length-spec : {M : Type 1} → statement M
 built-length-spec =

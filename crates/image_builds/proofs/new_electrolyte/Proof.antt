@@ -22,7 +22,7 @@ returns c =
     let built-electrolyte = c .before .before .before .before .before .before .built-electrolyte in
     let args = c .before .before .before .before .before .before .before .before .before .args in
     accepted (λ (t : ElectrolyteAnswer). t .refusal) (λ (t : ElectrolyteAnswer). putElectrolyte (args .answer .now) (t .state)) _ _ _ (built-electrolyte .ensures) _ (if1 .taken)
-        (put-electrolyte .ensures)
+    (put-electrolyte .ensures)
 
 returns-2 : tie.Need-returns-2
 returns-2 c =

@@ -32,16 +32,26 @@ unfolding numberLength
 returns-5 c =
     let if2 = c .before .before .before .if2 in
     let args = c .before .before .before .before .before .args in
-    rw (lt-leb (args .call) 4 (omega arith), ne-eqb _ _ (if2 .left), lt-leb (args .call) 10 (omega arith), lt-leb (args .call) 12 (omega arith),
-        le-leb (args .call) 16 (omega arith))
+    rw (
+      lt-leb (args .call) 4 (omega arith),
+      ne-eqb _ _ (if2 .left),
+      lt-leb (args .call) 10 (omega arith),
+      lt-leb (args .call) 12 (omega arith),
+      le-leb (args .call) 16 (omega arith),
+    )
 
 returns-6 : tie.Need-returns-6
 unfolding numberLength
 returns-6 c =
     let if2 = c .before .before .before .if2 in
     let args = c .before .before .before .before .before .args in
-    rw (lt-leb (args .call) 4 (omega arith), ne-eqb _ _ (if2 .left), lt-leb (args .call) 10 (omega arith), lt-leb (args .call) 12 (omega arith),
-        lt-leb (args .call) 16 (omega arith))
+    rw (
+      lt-leb (args .call) 4 (omega arith),
+      ne-eqb _ _ (if2 .left),
+      lt-leb (args .call) 10 (omega arith),
+      lt-leb (args .call) 12 (omega arith),
+      lt-leb (args .call) 16 (omega arith),
+    )
 
 pub number-length-spec : {M : Type 1} → statement M
 number-length-spec =

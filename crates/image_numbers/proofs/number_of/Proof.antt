@@ -53,8 +53,13 @@ unfolding numberOutcome
 returns-4 c =
     let electrolyte-params-at = c .before .electrolyte-params-at in
     let args = c .before .before .before .before .before .before .before .args in
-    rw (lt-leb (args .call) 5 (omega arith), lt-leb (args .call) 10 (omega arith), lt-leb (args .call) 12 (omega arith), le-leb (args .call) 16 (omega arith),
-        ← electrolyte-params-at .ensures) (c .rate-number .ensures)
+    rw (
+      lt-leb (args .call) 5 (omega arith),
+      lt-leb (args .call) 10 (omega arith),
+      lt-leb (args .call) 12 (omega arith),
+      le-leb (args .call) 16 (omega arith),
+      ← electrolyte-params-at .ensures,
+    ) (c .rate-number .ensures)
 
 electrolyte-at-requires : tie.Need-electrolyte-at-requires
 electrolyte-at-requires c κs = search needs
@@ -67,8 +72,13 @@ unfolding numberOutcome
 returns-5 c =
     let electrolyte-at = c .before .electrolyte-at in
     let args = c .before .before .before .before .before .before .before .args in
-    rw (lt-leb (args .call) 5 (omega arith), lt-leb (args .call) 10 (omega arith), lt-leb (args .call) 12 (omega arith), lt-leb (args .call) 16 (omega arith),
-        ← electrolyte-at .ensures) (c .electrolyte-number .ensures)
+    rw (
+      lt-leb (args .call) 5 (omega arith),
+      lt-leb (args .call) 10 (omega arith),
+      lt-leb (args .call) 12 (omega arith),
+      lt-leb (args .call) 16 (omega arith),
+      ← electrolyte-at .ensures,
+    ) (c .electrolyte-number .ensures)
 
 pub number-of-spec : {M : Type 1} → statement M
 number-of-spec =

@@ -30,7 +30,7 @@ now c =
     let start = before in
     subst (Counted (start .args .q) (truncating-f64-to-u64 .result)) (sym (c .nearest-u64-to-f64 .ensures))
     (subst (CountedBy (start .args .q)) (sym (truncating-f64-to-u64 .ensures)) (counted (start .args .q) (subst T (sym (start .good .0 .1)) tt) (not-false _ (if1 .left))
-        (if2 .left)))
+    (if2 .left)))
 
 add-result : tie.Need-add-result
 add-result c = omega (arith, now (c .before) .next (c .if3 .taken) .0)

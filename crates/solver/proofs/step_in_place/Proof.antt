@@ -84,8 +84,10 @@ returns c =
     let args = c .before .before .before .before .before .before .before .args in
     let a = args in
     let s = cellOf (a .q) (a .c-neg .now) (a .c-pos .now) in
-    rw (refused-early s (a .current-a) (a .dt) (a .temp-k) _ _ _ (cell-refusal .ensures) (argument-refusal .ensures) (first-refusal .ensures) (if1 .taken),
-        c .refused-move .ensures)
+    rw (
+      refused-early s (a .current-a) (a .dt) (a .temp-k) _ _ _ (cell-refusal .ensures) (argument-refusal .ensures) (first-refusal .ensures) (if1 .taken),
+      c .refused-move .ensures,
+    )
     (refl, (refl, (refl, (refl, refl))))
 
 plan-of-requires : tie.Need-plan-of-requires
@@ -118,8 +120,11 @@ returns-2 c =
     let args = c .before .before .before .before .before .before .before .before .before .before .before .args in
     let a = args in
     let s = cellOf (a .q) (a .c-neg .now) (a .c-pos .now) in
-    rw (refused-late s (a .current-a) (a .dt) (a .temp-k) _ _ _ (cell-refusal .ensures) (argument-refusal .ensures) (first-refusal .ensures) (if1 .left) _ (plan-of .ensures) _
-        (plan-refusal .ensures) (if2 .taken), c .refused-move2 .ensures)
+    rw (
+      refused-late s (a .current-a) (a .dt) (a .temp-k) _ _ _ (cell-refusal .ensures) (argument-refusal .ensures) (first-refusal .ensures) (if1 .left) _ (plan-of .ensures) _
+          (plan-refusal .ensures) (if2 .taken),
+      c .refused-move2 .ensures,
+    )
     (refl, (refl, (refl, (refl, refl))))
 
 follow-requires : tie.Need-follow-requires
@@ -147,7 +152,7 @@ returns-3 c =
     let a = args in
     let s = cellOf (a .q) (a .c-neg .now) (a .c-pos .now) in
     rw (to-end s (a .current-a) (a .dt) (a .temp-k) _ _ _ (cell-refusal .ensures) (argument-refusal .ensures) (first-refusal .ensures) (if1 .left) _ (plan-of .ensures) _
-        (plan-refusal .ensures) (if2 .left))
+    (plan-refusal .ensures) (if2 .left))
     (followed-agrees (a .q) _ (a .c-neg .now) (a .c-pos .now) (a .current-a) (a .dt) (a .temp-k) _ _ _ (c .follow .ensures))
 
 pub step-in-place-spec : {M : Type 1} → statement M

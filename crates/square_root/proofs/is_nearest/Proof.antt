@@ -37,10 +37,12 @@ returns c =
     let start = before in
     let n = start .args .n in
     let x = start .args .x in
-    let le : leb x (s .result .high + (s .result .low + n) / 2 ^ 52) ≡ leb (x * 2 ^ 52) (n * n + n) = words-le (s .result .high) (s .result .low + n) (n * n + n) x (omega (arith,
-        s .ensures .same)) in
+    let le : leb x (s .result .high + (s .result .low + n) / 2 ^ 52) ≡ leb (x * 2 ^ 52) (n * n + n) = words-le (s .result .high) (s .result .low + n) (n * n + n) x (omega (
+      arith,
+      s .ensures .same,
+    )) in
     let lt : ltb (s .result .high + (s .result .low + 2 ^ 53 - n) / 2 ^ 52) (x + 2) ≡ ltb (n * n) (x * 2 ^ 52 + n) = words-lt-more (s .result .high) (s .result .low + 2 ^ 53 - n)
-        (n * n) n x (omega (arith, s .ensures .same)) in
+    (n * n) n x (omega (arith, s .ensures .same)) in
     rw (le, lt)
 
 pub is-nearest-spec : {M : Type 1} → statement M

@@ -60,7 +60,7 @@ returns-3 c =
     let start = before in
     let lt : bits start < 2 ^ 64 = toBits-lt binary64 (start .args .x) (representable start) in
     both start _ (zero-by-zero ∙ sym (subst (λ (v : Float). sqrtOf v ≡ nan) (back start) (at-negative sqrtOf nan-root negative-root (bits start) (lt-of-le-ne (if2 .taken)
-        (λ e. c .if3 .left (sym e))) lt)))
+    (λ e. c .if3 .left (sym e))) lt)))
 
 returns-4 : tie.Need-returns-4
 returns-4 c =

@@ -37,8 +37,14 @@ returns-2 c =
     let fit = c .before .before .before .fit in
     let if1 = c .before .before .before .before .if1 in
     let grid-fits = c .before .before .before .before .before .grid-fits in
-    rw (← grid-fits .ensures, not-false (grid-fits .result) (if1 .left), ← fit .ensures, ← limits-fit .ensures, not-true (fit .result && limits-fit .result) (if2 .taken),
-        c .no-cell2 .ensures)
+    rw (
+      ← grid-fits .ensures,
+      not-false (grid-fits .result) (if1 .left),
+      ← fit .ensures,
+      ← limits-fit .ensures,
+      not-true (fit .result && limits-fit .result) (if2 .taken),
+      c .no-cell2 .ensures,
+    )
 
 mul-uniform-solid : tie.Need-mul-uniform-solid
 mul-uniform-solid c =
@@ -110,8 +116,16 @@ returns-3 c =
     let fit = c .before .before .before .before .before .before .before .before .before .before .before .fit in
     let if1 = c .before .before .before .before .before .before .before .before .before .before .before .before .if1 in
     let grid-fits = c .before .before .before .before .before .before .before .before .before .before .before .before .before .grid-fits in
-    rw (← grid-fits .ensures, not-false (grid-fits .result) (if1 .left), ← fit .ensures, ← limits-fit .ensures, not-false (fit .result && limits-fit .result) (if2 .left),
-        c .uniform-electrolyte .ensures, uniform-solid2 .ensures, uniform-solid .ensures)
+    rw (
+      ← grid-fits .ensures,
+      not-false (grid-fits .result) (if1 .left),
+      ← fit .ensures,
+      ← limits-fit .ensures,
+      not-false (fit .result && limits-fit .result) (if2 .left),
+      c .uniform-electrolyte .ensures,
+      uniform-solid2 .ensures,
+      uniform-solid .ensures,
+    )
 
 pub new-spec : {M : Type 1} → statement M
 new-spec =

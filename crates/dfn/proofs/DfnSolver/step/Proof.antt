@@ -12,14 +12,14 @@ returns c =
     let step-in-place = c .before .before .before .step-in-place in
     let args = c .before .before .before .before .before .before .before .before .before .before .before .before .args in
     answer-kept (args .self) (args .current) (args .dt) (step-in-place .result) _ _ _ (step-in-place .ensures (args .self .voltage) (args .self .current)
-        (args .self .«theta_neg_surf») (args .self .«theta_pos_surf»)) (c .if1 .taken)
+    (args .self .«theta_neg_surf») (args .self .«theta_pos_surf»)) (c .if1 .taken)
 
 returns-2 : tie.Need-returns-2
 returns-2 c =
     let step-in-place = c .before .before .before .step-in-place in
     let args = c .before .before .before .before .before .before .before .before .before .before .before .before .args in
     answer-made (args .self) (args .current) (args .dt) (step-in-place .result) _ _ _ (step-in-place .ensures (args .self .voltage) (args .self .current)
-        (args .self .«theta_neg_surf») (args .self .«theta_pos_surf»)) (c .if1 .left)
+    (args .self .«theta_neg_surf») (args .self .«theta_pos_surf»)) (c .if1 .left)
 
 pub step-spec : {M : Type 1} → statement M
 step-spec = tie.close (tie.spec step-in-place-requires returns returns-2)

@@ -37,8 +37,12 @@ returns c =
     let temperature-fits = c .before .before .before .before .before .temperature-fits in
     let args = c .before .before .before .before .before .before .args in
     let a = args in
-    let e : first-refusal .result ≡ firstRefusal (particleRefusal (a .self)) (refusalUnless (temperatureFits (a .temp-k)) temperature) = rw (first-refusal .ensures,
-        refusal .ensures, refusal-unless .ensures, temperature-fits .ensures) in
+    let e : first-refusal .result ≡ firstRefusal (particleRefusal (a .self)) (refusalUnless (temperatureFits (a .temp-k)) temperature) = rw (
+      first-refusal .ensures,
+      refusal .ensures,
+      refusal-unless .ensures,
+      temperature-fits .ensures,
+    ) in
     rw (← e, c .answered .ensures) (refused-outcome _ «0·0» (stableStep (a .self .params) (a .self .«n_nodes») (diffusivityAt (a .self .params) (a .temp-k))) (if1 .taken))
 
 diffusivity-at-requires : tie.Need-diffusivity-at-requires
@@ -53,8 +57,12 @@ stable-step-requires c κs =
     let temperature-fits = c .before .before .before .before .before .before .temperature-fits in
     let args = c .before .before .before .before .before .before .before .args in
     let a = args in
-    let valid : first-refusal .result ≡ firstRefusal (particleRefusal (a .self)) (refusalUnless (temperatureFits (a .temp-k)) temperature) = rw (first-refusal .ensures,
-        refusal .ensures, refusal-unless .ensures, temperature-fits .ensures) in
+    let valid : first-refusal .result ≡ firstRefusal (particleRefusal (a .self)) (refusalUnless (temperatureFits (a .temp-k)) temperature) = rw (
+      first-refusal .ensures,
+      refusal .ensures,
+      refusal-unless .ensures,
+      temperature-fits .ensures,
+    ) in
     let e : firstRefusal (particleRefusal (a .self)) (refusalUnless (temperatureFits (a .temp-k)) temperature) ≡ 0 = sym valid ∙ if1 .left in
     nodes-of (a .self) (neither-refused _ _ e .0)
 
@@ -72,8 +80,12 @@ returns-2 c =
     let temperature-fits = c .before .before .before .before .before .before .before .before .temperature-fits in
     let args = c .before .before .before .before .before .before .before .before .before .args in
     let a = args in
-    let e : first-refusal .result ≡ firstRefusal (particleRefusal (a .self)) (refusalUnless (temperatureFits (a .temp-k)) temperature) = rw (first-refusal .ensures,
-        refusal .ensures, refusal-unless .ensures, temperature-fits .ensures) in
+    let e : first-refusal .result ≡ firstRefusal (particleRefusal (a .self)) (refusalUnless (temperatureFits (a .temp-k)) temperature) = rw (
+      first-refusal .ensures,
+      refusal .ensures,
+      refusal-unless .ensures,
+      temperature-fits .ensures,
+    ) in
     rw (← e, c .answered2 .ensures, stable-step .ensures, diffusivity-at .ensures)
 
 pub dt-stable-spec : {M : Type 1} → statement M

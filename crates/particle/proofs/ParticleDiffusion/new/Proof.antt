@@ -37,8 +37,13 @@ returns c =
     let count-within = c .before .before .before .before .before .before .count-within in
     let args = c .before .before .before .before .before .before .before .args in
     let a = args in
-    let e : first-refusal .result ≡ newRefusal (a .params) (a .n-nodes) = rw (first-refusal .ensures, refusal-unless2 .ensures, fits2 .ensures, refusal-unless .ensures,
-        count-within .ensures) in
+    let e : first-refusal .result ≡ newRefusal (a .params) (a .n-nodes) = rw (
+      first-refusal .ensures,
+      refusal-unless2 .ensures,
+      fits2 .ensures,
+      refusal-unless .ensures,
+      count-within .ensures,
+    ) in
     rw (← e, ne-eqb _ _ (if1 .taken), c .no-particle .ensures)
 
 uniform-requires : tie.Need-uniform-requires
@@ -52,8 +57,13 @@ uniform-requires c κs =
     let count-within = c .before .before .before .before .before .before .count-within in
     let args = c .before .before .before .before .before .before .before .args in
     let a = args in
-    let valid : first-refusal .result ≡ newRefusal (a .params) (a .n-nodes) = rw (first-refusal .ensures, refusal-unless2 .ensures, fits2 .ensures, refusal-unless .ensures,
-        count-within .ensures) in
+    let valid : first-refusal .result ≡ newRefusal (a .params) (a .n-nodes) = rw (
+      first-refusal .ensures,
+      refusal-unless2 .ensures,
+      fits2 .ensures,
+      refusal-unless .ensures,
+      count-within .ensures,
+    ) in
     let e : newRefusal (a .params) (a .n-nodes) ≡ 0 = sym valid ∙ if1 .left in
     nodes-valid (a .n-nodes) (neither-refused _ _ e .0) .1
 
@@ -68,8 +78,13 @@ returns-2 c =
     let count-within = c .before .before .before .before .before .before .before .count-within in
     let args = c .before .before .before .before .before .before .before .before .args in
     let a = args in
-    let e : first-refusal .result ≡ newRefusal (a .params) (a .n-nodes) = rw (first-refusal .ensures, refusal-unless2 .ensures, fits2 .ensures, refusal-unless .ensures,
-        count-within .ensures) in
+    let e : first-refusal .result ≡ newRefusal (a .params) (a .n-nodes) = rw (
+      first-refusal .ensures,
+      refusal-unless2 .ensures,
+      fits2 .ensures,
+      refusal-unless .ensures,
+      count-within .ensures,
+    ) in
     rw (← e, eq-eqb _ _ (if1 .left), c .uniform .ensures)
 
 pub new-spec : {M : Type 1} → statement M

@@ -46,8 +46,18 @@ returns c =
     let interval-fits = c .before .before .before .before .before .before .before .interval-fits in
     let refusal-unless = c .before .before .before .before .before .before .before .before .refusal-unless in
     let load-fits = c .before .before .before .before .before .before .before .before .before .load-fits in
-    rw (c .first-refusal3 .ensures, first-refusal2 .ensures, first-refusal .ensures, refusal .ensures, refusal-unless3 .ensures, temperature-fits .ensures,
-        refusal-unless2 .ensures, interval-fits .ensures, refusal-unless .ensures, load-fits .ensures)
+    rw (
+      c .first-refusal3 .ensures,
+      first-refusal2 .ensures,
+      first-refusal .ensures,
+      refusal .ensures,
+      refusal-unless3 .ensures,
+      temperature-fits .ensures,
+      refusal-unless2 .ensures,
+      interval-fits .ensures,
+      refusal-unless .ensures,
+      load-fits .ensures,
+    )
 
 pub step-refusal-spec : {M : Type 1} → statement M
 step-refusal-spec =

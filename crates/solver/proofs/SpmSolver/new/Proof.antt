@@ -46,8 +46,15 @@ returns c =
     let count-within = c .before .before .before .before .before .before .before .before .count-within in
     let args = c .before .before .before .before .before .before .before .before .before .args in
     let a = args in
-    let e : first-refusal .result ≡ buildRefusal (a .config) (a .anode) (a .cathode) = rw (first-refusal .ensures, refusal-unless2 .ensures, fits4 .ensures, fits3 .ensures,
-        fits2 .ensures, refusal-unless .ensures, count-within .ensures) in
+    let e : first-refusal .result ≡ buildRefusal (a .config) (a .anode) (a .cathode) = rw (
+      first-refusal .ensures,
+      refusal-unless2 .ensures,
+      fits4 .ensures,
+      fits3 .ensures,
+      fits2 .ensures,
+      refusal-unless .ensures,
+      count-within .ensures,
+    ) in
     rw (← e, ne-eqb _ _ (if1 .taken), c .no-solver .ensures)
 
 uniform-requires : tie.Need-uniform-requires
@@ -63,8 +70,15 @@ uniform-requires c κs =
     let count-within = c .before .before .before .before .before .before .before .before .count-within in
     let args = c .before .before .before .before .before .before .before .before .before .args in
     let a = args in
-    let valid : first-refusal .result ≡ buildRefusal (a .config) (a .anode) (a .cathode) = rw (first-refusal .ensures, refusal-unless2 .ensures, fits4 .ensures, fits3 .ensures,
-        fits2 .ensures, refusal-unless .ensures, count-within .ensures) in
+    let valid : first-refusal .result ≡ buildRefusal (a .config) (a .anode) (a .cathode) = rw (
+      first-refusal .ensures,
+      refusal-unless2 .ensures,
+      fits4 .ensures,
+      fits3 .ensures,
+      fits2 .ensures,
+      refusal-unless .ensures,
+      count-within .ensures,
+    ) in
     let e : buildRefusal (a .config) (a .anode) (a .cathode) ≡ 0 = sym valid ∙ if1 .left in
     nodes-valid (a .config .«n_nodes») (neither-refused _ _ e .0) .1
 
@@ -81,8 +95,15 @@ uniform-requires-2 c κs =
     let count-within = c .before .before .before .before .before .before .before .before .before .before .count-within in
     let args = c .before .before .before .before .before .before .before .before .before .before .before .args in
     let a = args in
-    let valid : first-refusal .result ≡ buildRefusal (a .config) (a .anode) (a .cathode) = rw (first-refusal .ensures, refusal-unless2 .ensures, fits4 .ensures, fits3 .ensures,
-        fits2 .ensures, refusal-unless .ensures, count-within .ensures) in
+    let valid : first-refusal .result ≡ buildRefusal (a .config) (a .anode) (a .cathode) = rw (
+      first-refusal .ensures,
+      refusal-unless2 .ensures,
+      fits4 .ensures,
+      fits3 .ensures,
+      fits2 .ensures,
+      refusal-unless .ensures,
+      count-within .ensures,
+    ) in
     let e : buildRefusal (a .config) (a .anode) (a .cathode) ≡ 0 = sym valid ∙ if1 .left in
     nodes-valid (a .config .«n_nodes») (neither-refused _ _ e .0) .1
 
@@ -100,8 +121,15 @@ returns-2 c =
     let count-within = c .before .before .before .before .before .before .before .before .before .before .before .count-within in
     let args = c .before .before .before .before .before .before .before .before .before .before .before .before .args in
     let a = args in
-    let e : first-refusal .result ≡ buildRefusal (a .config) (a .anode) (a .cathode) = rw (first-refusal .ensures, refusal-unless2 .ensures, fits4 .ensures, fits3 .ensures,
-        fits2 .ensures, refusal-unless .ensures, count-within .ensures) in
+    let e : first-refusal .result ≡ buildRefusal (a .config) (a .anode) (a .cathode) = rw (
+      first-refusal .ensures,
+      refusal-unless2 .ensures,
+      fits4 .ensures,
+      fits3 .ensures,
+      fits2 .ensures,
+      refusal-unless .ensures,
+      count-within .ensures,
+    ) in
     rw (← e, eq-eqb _ _ (if1 .left), c .uniform2 .ensures, uniform .ensures)
 
 pub new-spec : {M : Type 1} → statement M
