@@ -10,7 +10,7 @@ use lib.Ieee.{Float, neg}
 use lib.Ieee.Fits.{and-l, and-r}
 use Rattle.refusal.specs.Numbers.{firstRefusal, refusalUnless, grid, sheet, load, interval, neither-refused, passed}
 use Rattle.refusal.specs.Ranges.{inRange, countInRange, loadFits, intervalFits, clockFits}
-use Rattle.refusal.specs.Chains.{count-between}
+use Rattle.refusal.specs.RangeLaws.{count-between}
 use Rattle.arrays.specs.Places.{placesFit}
 use Rattle.dfn_parameters.specs.Ranges.{numbersFit, coefficientsFit, parametersFit, gridFits, limitsFit}
 use Rattle.dfn_parameters.specs.declared.DfnParams.{DfnParams}

@@ -20,7 +20,7 @@ use Rattle.binary64.specs.Value.{val, le-val}
 use Rattle.binary64.specs.Literals.{«0·0»}
 use Rattle.refusal.specs.Numbers.{grid, sheet, neither-refused, passed}
 use Rattle.refusal.specs.Ranges.{inRange, clockFits}
-use Rattle.refusal.specs.Chains.{Between}
+use Rattle.refusal.specs.RangeLaws.{Between}
 use Rattle.dfn_parameters.specs.Ranges.{parametersFit, gridFits, limitsFit}
 use Rattle.dfn_parameters.specs.declared.DfnParams.{DfnParams}
 use Rattle.dfn_parameters.specs.declared.DfnConfig.{DfnConfig}

@@ -13,7 +13,7 @@ use Rattle.binary64.specs.Order.{between-finite}
 use Rattle.binary64.specs.Literals.{«0·0», «86400·0», «1e6»}
 use Rattle.refusal.specs.Numbers.{firstRefusal, refusalUnless, load, interval, neither-refused, passed}
 use Rattle.refusal.specs.Ranges.{loadFits, intervalFits, clockFits}
-use Rattle.refusal.specs.Chains.{Between}
+use Rattle.refusal.specs.RangeLaws.{Between}
 use Rattle.dfn_parameters.specs.Ranges.{parametersFit, gridFits, limitsFit}
 use Rattle.dfn_parameters.specs.Sides.{anodeOf, cathodeOf, poreFlux}
 use Rattle.arrays.specs.Places.{allFinite}

@@ -1,39 +1,43 @@
 -- The electrode sheet: its ranges, the three ready ones, the diffusivity at a temperature and the interfacial area. Definitions only.
 use Prim.Native.Nat.{ℕ}
-use mathlib.Core.Bool.{Bool, _&&_}
+use mathlib.Core.Bool.{Bool}
+use mathlib.Core.List.{List, [], _∷_}
 use lib.Ieee.{Float}
 use Rattle.binary64.specs.Operators.{_⊗_, _⊘_}
 use Rattle.binary64.specs.Literals.{«0·0», «1e-20», «1e-16», «1e-14», «1·5e-14», «3·9e-14», «2e-11», «1e-8», «1e-7», «1e-6», «2·5e-6», «5e-6», «1·25e-5», «8e-5», «9e-5», «0·0001», «0·001», «0·01», «0·0626», «0·15», «0·2», «0·5», «0·55», «0·6», «0·8», «1·0», «3·0», «298·15», «10000·0», «20000·0», «22806·0», «25000·0», «31833·0», «35000·0», «49000·0», «100000·0», «131072·0»}
 use Rattle.elementary.specs.Arrhenius.{arrheniusOf}
-use Rattle.refusal.specs.Ranges.{inRange, countInRange}
+use Rattle.refusal.specs.Ranges.{Row, row, inRanges, countInRange}
 use Rattle.electrode.specs.declared.ElectrodeParams.{ElectrodeParams}
 
 -- the chemistry is 1 graphite, 2 LFP, 3 NMC
 abbrev pub chemistryFits : ℕ → Bool
 chemistryFits k = countInRange k 1 3
 
--- every field in its closed range
-abbrev pub sheetFits : ElectrodeParams → Bool
-sheetFits p =
-    chemistryFits (p .«electrode_type»)
+-- each number with its closed range
+abbrev pub sheetRows : ElectrodeParams → List Row
+sheetRows p =
     -- 1e-8 to 1e-3
-    && inRange (p .«r_particle») «1e-8» «0·001»
+    row (p .«r_particle») «1e-8» «0·001»
     -- 1e-20 to 1e-8
-    && inRange (p .«d_s_ref») «1e-20» «1e-8»
+    ∷ row (p .«d_s_ref») «1e-20» «1e-8»
     -- 1 to 131,072
-    && inRange (p .«c_s_max») «1·0» «131072·0»
+    ∷ row (p .«c_s_max») «1·0» «131072·0»
     -- 0 to 1
-    && inRange (p .«theta_init») «0·0» «1·0»
+    ∷ row (p .«theta_init») «0·0» «1·0»
     -- 1e-7 to 1e-2
-    && inRange (p .thickness) «1e-7» «0·01»
+    ∷ row (p .thickness) «1e-7» «0·01»
     -- 0.01 to 1
-    && inRange (p .«epsilon_s») «0·01» «1·0»
+    ∷ row (p .«epsilon_s») «0·01» «1·0»
     -- 1e-6 to 1e4
-    && inRange (p .area) «1e-6» «10000·0»
+    ∷ row (p .area) «1e-6» «10000·0»
     -- 0 to 1e5
-    && inRange (p .«e_a_ds») «0·0» «100000·0»
+    ∷ row (p .«e_a_ds») «0·0» «100000·0»
     -- 1e-16 to 1
-    && inRange (p .«k_bv») «1e-16» «1·0»
+    ∷ row (p .«k_bv») «1e-16» «1·0»
+    ∷ []
+
+abbrev pub sheetFits : ElectrodeParams → Bool
+sheetFits p = inRanges (chemistryFits (p .«electrode_type»)) (sheetRows p)
 
 -- ---- the ready sheets
 unfoldable pub graphiteAnode : ElectrodeParams

@@ -8,7 +8,7 @@ use lib.Ieee.{Float}
 use lib.Ieee.Fits.{and-l, and-r}
 use Rattle.refusal.specs.Numbers.{neither-refused, passed, grid, sheet}
 use Rattle.refusal.specs.Ranges.{countInRange}
-use Rattle.refusal.specs.Chains.{count-between}
+use Rattle.refusal.specs.RangeLaws.{count-between}
 use Rattle.electrolyte.specs.declared.ElectrolyteState.{ElectrolyteState}
 use Rattle.electrolyte_parameters.specs.Params.{paramsFit}
 use Rattle.electrolyte_profile.specs.Places.{profileFits}

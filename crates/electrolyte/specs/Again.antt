@@ -3,20 +3,20 @@
 use Prim.Native.Nat.{ℕ, zero, suc, _<_}
 use mathlib.Core.Path.{_≡_, refl}
 use mathlib.Core.Bool.{Bool, true, false, cond}
-use mathlib.Core.List.{List, [], _∷_}
+use mathlib.Core.List.{List}
 use native.Mathlib.Omega.{arith}
 use lib.Dec.{T, eqb, eqb·suc-zero}
 use lib.Ieee.{Float, le, ofBits}
 use lib.Ieee.Fits.{and-i}
 use Rattle.binary64.specs.Order.{between-finite}
 use Rattle.binary64.specs.RangeTests.{tested-within, within-ge}
-use Rattle.binary64.specs.Literals.{«0·0», «100000·0»}
+use Rattle.binary64.specs.Literals.{«100000·0»}
 use Rattle.elementary.specs.Exp.{one}
 use Rattle.refusal.specs.Numbers.{firstRefusal, refusalUnless, sheet, notFinite}
 use Rattle.refusal.specs.Ranges.{finite}
-use Rattle.refusal.specs.Chains.{Between, row, row-at}
+use Rattle.refusal.specs.RangeLaws.{Between, row-at}
 use Rattle.electrolyte_parameters.specs.declared.ElectrolyteParams.{ElectrolyteParams}
-use Rattle.electrolyte_parameters.specs.Params.{transportFit, paramsFit}
+use Rattle.electrolyte_parameters.specs.Params.{paramRows, paramsFit}
 use Rattle.arrays.specs.Places.{allFinite, filled}
 use Rattle.electrolyte_profile.specs.Places.{floor, aboveFloor, profileFits}
 use Rattle.electrolyte_profile.specs.Step.{profileNew}
@@ -38,8 +38,7 @@ init-in-range x b =
     and-i (finite x) (le floor x) (between-finite one x most tt tt (b .above) (b .below)) (within-ge (tested-within one x most tt tt (b .above) (b .below)) floor tt tt tt)
 
 init-fits : (p : ElectrolyteParams) → T (paramsFit p) → T (aboveFloor (p .«c_e_init»))
-init-fits p h =
-    init-in-range (p .«c_e_init») (row-at (transportFit p) (row (p .«c_e_init») one most ∷ row (p .«e_a_de») «0·0» most ∷ row (p .«e_a_kappa») «0·0» most ∷ []) h 0)
+init-fits p h = init-in-range (p .«c_e_init») (row-at true (paramRows p) h 4)
 
 -- ---- what a build hands out
 still-none : (e : ElectrolyteState) (c : List Float) → buildRefusal e ≡ 0 → T (profileFits c (total e)) → stateRefusal (withProfile e c) ≡ 0

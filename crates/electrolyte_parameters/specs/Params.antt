@@ -1,35 +1,36 @@
 -- The electrolyte's seven numbers: their ranges, the ready ones, and the rates at a temperature. Definitions only.
-use mathlib.Core.Bool.{Bool, _&&_}
+use mathlib.Core.Bool.{Bool, true}
+use mathlib.Core.List.{List, [], _∷_}
 use lib.Ieee.{Float}
 use Rattle.binary64.specs.Operators.{_⊗_}
 use Rattle.binary64.specs.Literals.{«0·0», «1e-16», «7·5e-11», «1e-6», «0·364», «1·0», «1·1», «1·5», «4·0», «100·0», «298·15», «1000·0», «12000·0», «17000·0», «100000·0»}
 use Rattle.elementary.specs.Arrhenius.{arrheniusOf}
 use Rattle.elementary.specs.Power.{powfOf}
-use Rattle.refusal.specs.Ranges.{inRange}
+use Rattle.refusal.specs.Ranges.{Row, row, inRanges}
 use Rattle.electrolyte_parameters.specs.declared.ElectrolyteParams.{ElectrolyteParams}
 
 -- ---- ranges
-abbrev pub transportFit : ElectrolyteParams → Bool
-transportFit p =
+-- each number with its closed range
+abbrev pub paramRows : ElectrolyteParams → List Row
+paramRows p =
     -- 1e-16 to 1e-6
-    inRange (p .«d_e_ref») «1e-16» «1e-6»
+    row (p .«d_e_ref») «1e-16» «1e-6»
     -- 1e-6 to 100
-    && inRange (p .«kappa_ref») «1e-6» «100·0»
+    ∷ row (p .«kappa_ref») «1e-6» «100·0»
     -- 0 to 1
-    && inRange (p .«t_plus») «0·0» «1·0»
+    ∷ row (p .«t_plus») «0·0» «1·0»
     -- 0 to 4
-    && inRange (p .bruggeman) «0·0» «4·0»
-
--- every field in its closed range
-abbrev pub paramsFit : ElectrolyteParams → Bool
-paramsFit p =
-    transportFit p
+    ∷ row (p .bruggeman) «0·0» «4·0»
     -- 1 to 1e5
-    && inRange (p .«c_e_init») «1·0» «100000·0»
+    ∷ row (p .«c_e_init») «1·0» «100000·0»
     -- 0 to 1e5
-    && inRange (p .«e_a_de») «0·0» «100000·0»
+    ∷ row (p .«e_a_de») «0·0» «100000·0»
     -- 0 to 1e5
-    && inRange (p .«e_a_kappa») «0·0» «100000·0»
+    ∷ row (p .«e_a_kappa») «0·0» «100000·0»
+    ∷ []
+
+abbrev pub paramsFit : ElectrolyteParams → Bool
+paramsFit p = inRanges true (paramRows p)
 
 -- ---- the ready electrolyte
 -- 1 mol/l of LiPF6 in EC and DMC

@@ -1,30 +1,35 @@
 -- The kinetics of a single-particle cell, from solver.rs. Definitions only.
-use mathlib.Core.Bool.{Bool, cond, _&&_}
+use mathlib.Core.Bool.{Bool, true, cond}
+use mathlib.Core.List.{List, [], _∷_}
 use lib.Ieee.{Float, lt, neg}
 use Rattle.binary64.specs.Operators.{_⊕_, _⊖_, _⊗_, _⊘_}
 use Rattle.binary64.specs.Literals.{«0·0», «1e-30», «0·01», «0·99», «1·0», «2·0», «8·0», «9·0», «10·0», «1000·0», «90000·0», «100000·0»}
 use Rattle.square_root.specs.Root.{sqrtOf}
 use Rattle.min_max.specs.MinMax.{clampOf, signumOf}
 use Rattle.elementary.specs.Asinh.{asinhOf}
-use Rattle.refusal.specs.Ranges.{inRange}
+use Rattle.refusal.specs.Ranges.{Row, row, inRanges}
 use Rattle.electrode.specs.declared.ElectrodeParams.{ElectrodeParams}
 use Rattle.electrode.specs.Sheet.{specificArea}
 use Rattle.particle.specs.declared.ParticleDiffusion.{ParticleDiffusion}
 use Rattle.particle.specs.Particle.{surfaceTheta}
 use Rattle.kinetics.specs.declared.SpmConfig.{SpmConfig}
 
--- every field but the count of nodes in its closed range
-abbrev pub configFits : SpmConfig → Bool
-configFits s =
+-- each field but the count of nodes with its closed range
+abbrev pub configRows : SpmConfig → List Row
+configRows s =
     -- -10 to 10, in either order
-    inRange (s .«v_min») (neg «10·0») «10·0»
-    && inRange (s .«v_max») (neg «10·0») «10·0»
+    row (s .«v_min») (neg «10·0») «10·0»
+    ∷ row (s .«v_max») (neg «10·0») «10·0»
     -- 9e4 to 1e5
-    && inRange (s .faraday) «90000·0» «100000·0»
+    ∷ row (s .faraday) «90000·0» «100000·0»
     -- 8 to 9
-    && inRange (s .«r_gas») «8·0» «9·0»
+    ∷ row (s .«r_gas») «8·0» «9·0»
     -- 0 to 1
-    && inRange (s .«r_electrolyte_ohm_m2») «0·0» «1·0»
+    ∷ row (s .«r_electrolyte_ohm_m2») «0·0» «1·0»
+    ∷ []
+
+abbrev pub configFits : SpmConfig → Bool
+configFits s = inRanges true (configRows s)
 
 -- a_s * L * F
 unfoldable pub surfaceCurrent : ElectrodeParams → Float → Float

@@ -6,7 +6,7 @@ use lib.Dec.{T}
 use mathlib.Core.Bool.{Bool, _&&_}
 use Rattle.refusal.specs.Numbers.{firstRefusal, refusalUnless, grid, sheet, neither-refused, passed}
 use Rattle.refusal.specs.Ranges.{countInRange}
-use Rattle.refusal.specs.Chains.{count-between}
+use Rattle.refusal.specs.RangeLaws.{count-between}
 use Rattle.profile.specs.Places.{profileFits}
 use Rattle.electrode.specs.Sheet.{sheetFits}
 use Rattle.particle.specs.declared.ParticleDiffusion.{ParticleDiffusion}

@@ -17,14 +17,14 @@ use Rattle.binary64.specs.RangeTests.{tested-within, tested-sized, count-within
 use Rattle.binary64.specs.RangeOps.{mul-between, div-between}
 use Rattle.binary64.specs.Bounds.{within-scaled}
 use Rattle.binary64.specs.Value.{val, lt-val}
-use Rattle.binary64.specs.Literals.{«0·0», «1e-20», «1e-16», «1e-8», «1e-7», «1e-6», «0·001», «0·01», «1·0», «200·0», «400·0», «10000·0», «86400·0», «100000·0», «131072·0», «1e13»}
+use Rattle.binary64.specs.Literals.{«0·0», «200·0», «400·0», «86400·0», «100000·0», «1e13»}
 use Rattle.elementary.specs.Exp.{one}
 use Rattle.elementary.proofs.ArrheniusRange.{arrhenius-298}
 use Rattle.min_max.proofs.ChoiceLaws.{lt-le}
 use Rattle.refusal.specs.Numbers.{grid, load, interval, temperature, neither-refused, passed}
 use Rattle.refusal.specs.Ranges.{loadFits, intervalFits, temperatureFits}
-use Rattle.refusal.specs.Chains.{Between, between, Row, row, row-at}
-use Rattle.electrode.specs.Sheet.{chemistryFits, sheetFits, diffusivityAt}
+use Rattle.refusal.specs.RangeLaws.{Between, between, row-at}
+use Rattle.electrode.specs.Sheet.{chemistryFits, sheetRows, sheetFits, diffusivityAt}
 use Rattle.electrode.specs.declared.ElectrodeParams.{ElectrodeParams}
 use Rattle.diffusion.specs.Premises.{ParametersInRange, zero-val}
 use Rattle.diffusion.specs.SubStep.{SubStepParams}
@@ -35,20 +35,6 @@ use Rattle.particle.specs.Particle.{spacing, subStepParamsOf}
 use Rattle.particle.specs.Calls.{stepRefusal}
 
 -- ---- the sheet
--- `sheetFits` by its rows
-abbrev rows : ElectrodeParams → List Row
-rows s =
-    row (s .«r_particle») «1e-8» «0·001»
-    ∷ row (s .«d_s_ref») «1e-20» «1e-8»
-    ∷ row (s .«c_s_max») «1·0» «131072·0»
-    ∷ row (s .«theta_init») «0·0» «1·0»
-    ∷ row (s .thickness) «1e-7» «0·01»
-    ∷ row (s .«epsilon_s») «0·01» «1·0»
-    ∷ row (s .area) «1e-6» «10000·0»
-    ∷ row (s .«e_a_ds») «0·0» «100000·0»
-    ∷ row (s .«k_bv») «1e-16» «1·0»
-    ∷ []
-
 -- each number of a sheet that fits, between powers of 2
 pub record SheetRanges (s : ElectrodeParams) : Type 0 where
   pub radius : Within (s .«r_particle») 1 (2 ^ 9) 1 (2 ^ 27)
@@ -76,7 +62,7 @@ within {low} {x} {high} t p q = tested-within low x high p q (t .above) (t .belo
 pub sheet-ranges : (s : ElectrodeParams) → T (sheetFits s) → SheetRanges s
 unfolding ofBits
 sheet-ranges s t =
-    let at = row-at (chemistryFits (s .«electrode_type»)) (rows s) t in
+    let at = row-at (chemistryFits (s .«electrode_type»)) (sheetRows s) t in
     record {
       radius = wider (within (at 0) tt tt) 1 (2 ^ 9) 1 (2 ^ 27) tt tt tt tt;
       reference = wider (within (at 1) tt tt) 1 (2 ^ 26) 1 (2 ^ 67) tt tt tt tt;

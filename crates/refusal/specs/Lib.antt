@@ -2,7 +2,7 @@
 --
 -- Numbers: the ten numbers by name, the first of two that is met, and what a row that met nothing has passed.
 -- Ranges: the tests on numbers that the rows cite.
--- Chains: what a number that passed has met; each test of a chain.
+-- RangeLaws: what numbers that passed have met.
 -- Answers: what the enum that a call answers with says, and what a call with a number and a value says.
 --
 -- A call's refusal is written as the table has it, its rows in the order 1, 10, 2 to 9:
@@ -11,5 +11,5 @@
 -- and a caller that finds it 0 takes it apart by `neither-refused` and `passed`.
 pub mod Numbers
 pub mod Ranges
-pub mod Chains
+pub mod RangeLaws
 pub mod Answers

@@ -12,7 +12,7 @@ use Rattle.binary64.specs.Literals.{«0·0», «0·2», «0·8», «1·0»}
 use Rattle.min_max.specs.MinMax.{clampOf}
 use Rattle.refusal.specs.Numbers.{firstRefusal, refusalUnless, grid, sheet, neither-refused, passed}
 use Rattle.refusal.specs.Ranges.{clockFits}
-use Rattle.refusal.specs.Chains.{count-between}
+use Rattle.refusal.specs.RangeLaws.{count-between}
 use Rattle.refusal.specs.Answers.{Outcome, finiteOutcome}
 use Rattle.electrode.specs.declared.ElectrodeParams.{ElectrodeParams}
 use Rattle.electrode.specs.Sheet.{sheetFits, graphiteAnode}

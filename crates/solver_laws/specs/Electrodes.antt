@@ -2,7 +2,6 @@
 use Prim.Native.Nat.{ℕ, suc, _*_, _^_, _≤_}
 use mathlib.Core.Path.{_≡_, refl}
 use mathlib.Core.Bool.{Bool, true, false, not, _&&_}
-use mathlib.Core.List.{[], _∷_}
 use native.Mathlib.Nat.{le-trans, zero-lt-suc}
 use native.Mathlib.Omega.{arith}
 use borrow.Author.Tests.{ltb-false}
@@ -21,12 +20,12 @@ use Rattle.binary64.specs.Bounds.{within-scaled}
 use Rattle.binary64.specs.Order.{neg-le}
 use Rattle.binary64.specs.OrderLaws.{div-le}
 use Rattle.binary64.specs.Value.{val, val-is, ratio-nn, le-val}
-use Rattle.binary64.specs.Literals.{«0·0», «1·0», «3·0», «8·0», «9·0», «10·0», «4096·0», «86400·0», «90000·0», «100000·0», «1e6»}
+use Rattle.binary64.specs.Literals.{«0·0», «1·0», «3·0», «4096·0», «86400·0», «1e6»}
 use Rattle.min_max.specs.Count.{ceilOf}
 use Rattle.min_max.proofs.CountLaws.{ceil-least}
 use Rattle.refusal.specs.Numbers.{firstRefusal, refusalUnless, grid, load, interval, temperature, subSteps, neither-refused, passed}
-use Rattle.refusal.specs.Ranges.{inRange, loadFits, intervalFits, temperatureFits, clockFits}
-use Rattle.refusal.specs.Chains.{row, row-at}
+use Rattle.refusal.specs.Ranges.{loadFits, intervalFits, temperatureFits, clockFits}
+use Rattle.refusal.specs.RangeLaws.{row-at}
 use Rattle.electrode.specs.declared.ElectrodeParams.{ElectrodeParams}
 use Rattle.electrode.specs.Sheet.{sheetFits, specificArea}
 use Rattle.particle.specs.declared.ParticleDiffusion.{ParticleDiffusion}
@@ -34,7 +33,7 @@ use Rattle.particle.specs.Checks.{nodesFit, fieldsFit, particleRefusal}
 use Rattle.particle.specs.Particle.{subStepParamsOf}
 use Rattle.particle_laws.specs.Ranges.{Ranged, sheet-ranges, sheet-passed, within, wider, particle-ranged, diffusivity-range, interval-range}
 use Rattle.kinetics.specs.declared.SpmConfig.{SpmConfig}
-use Rattle.kinetics.specs.Kinetics.{configFits, surfaceCurrent}
+use Rattle.kinetics.specs.Kinetics.{configRows, configFits, surfaceCurrent}
 use Rattle.solver.specs.declared.SpmSolver.{SpmSolver}
 use Rattle.solver_plan.specs.declared.Plan.{Plan}
 use Rattle.solver.specs.Cell.{gridFits, cellRefusal, NodesValid, anode-nodes, cathode-nodes, cell-valid}
@@ -113,15 +112,11 @@ pub record ConfigRanges (g : SpmConfig) : Type 0 where
 pub config-ranges : (g : SpmConfig) → T (configFits g) → ConfigRanges g
 unfolding ofBits
 config-ranges g t =
-    let v = inRange (g .«v_min») (neg «10·0») «10·0» in
-    let w = row (g .«v_max») (neg «10·0») «10·0» in
-    let f = row (g .faraday) «90000·0» «100000·0» in
-    let r = row (g .«r_gas») «8·0» «9·0» in
-    let at = row-at v (w ∷ f ∷ r ∷ row (g .«r_electrolyte_ohm_m2») «0·0» «1·0» ∷ []) t in
+    let at = row-at true (configRows g) t in
     record {
-      faraday = wider (within (at 1) tt tt) (2 ^ 17) 1 (2 ^ 16) 1 tt tt tt tt;
-      gas = wider (within (at 2) tt tt) 9 1 8 1 tt tt tt tt;
-      resistance = most-wider (tested-sized «0·0» (g .«r_electrolyte_ohm_m2») «1·0» tt tt tt (at 3 .above) (at 3 .below)) 1 1 tt tt;
+      faraday = wider (within (at 2) tt tt) (2 ^ 17) 1 (2 ^ 16) 1 tt tt tt tt;
+      gas = wider (within (at 3) tt tt) 9 1 8 1 tt tt tt tt;
+      resistance = most-wider (tested-sized «0·0» (g .«r_electrolyte_ohm_m2») «1·0» tt tt tt (at 4 .above) (at 4 .below)) 1 1 tt tt;
     }
 
 -- ---- a_s * L * F
