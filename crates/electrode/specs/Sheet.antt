@@ -16,23 +16,14 @@ chemistryFits k = countInRange k 1 3
 -- each number with its closed range
 abbrev pub sheetRows : ElectrodeParams → List Row
 sheetRows p =
-    -- 1e-8 to 1e-3
     row (p .«r_particle») «1e-8» «0·001»
-    -- 1e-20 to 1e-8
     ∷ row (p .«d_s_ref») «1e-20» «1e-8»
-    -- 1 to 131,072
     ∷ row (p .«c_s_max») «1·0» «131072·0»
-    -- 0 to 1
     ∷ row (p .«theta_init») «0·0» «1·0»
-    -- 1e-7 to 1e-2
     ∷ row (p .thickness) «1e-7» «0·01»
-    -- 0.01 to 1
     ∷ row (p .«epsilon_s») «0·01» «1·0»
-    -- 1e-6 to 1e4
     ∷ row (p .area) «1e-6» «10000·0»
-    -- 0 to 1e5
     ∷ row (p .«e_a_ds») «0·0» «100000·0»
-    -- 1e-16 to 1
     ∷ row (p .«k_bv») «1e-16» «1·0»
     ∷ []
 

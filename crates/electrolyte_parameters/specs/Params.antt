@@ -13,19 +13,12 @@ use Rattle.electrolyte_parameters.specs.declared.ElectrolyteParams.{Elec
 -- each number with its closed range
 abbrev pub paramRows : ElectrolyteParams → List Row
 paramRows p =
-    -- 1e-16 to 1e-6
     row (p .«d_e_ref») «1e-16» «1e-6»
-    -- 1e-6 to 100
     ∷ row (p .«kappa_ref») «1e-6» «100·0»
-    -- 0 to 1
     ∷ row (p .«t_plus») «0·0» «1·0»
-    -- 0 to 4
     ∷ row (p .bruggeman) «0·0» «4·0»
-    -- 1 to 1e5
     ∷ row (p .«c_e_init») «1·0» «100000·0»
-    -- 0 to 1e5
     ∷ row (p .«e_a_de») «0·0» «100000·0»
-    -- 0 to 1e5
     ∷ row (p .«e_a_kappa») «0·0» «100000·0»
     ∷ []
 

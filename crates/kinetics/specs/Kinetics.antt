@@ -20,11 +20,8 @@ configRows s =
     -- -10 to 10, in either order
     row (s .«v_min») (neg «10·0») «10·0»
     ∷ row (s .«v_max») (neg «10·0») «10·0»
-    -- 9e4 to 1e5
     ∷ row (s .faraday) «90000·0» «100000·0»
-    -- 8 to 9
     ∷ row (s .«r_gas») «8·0» «9·0»
-    -- 0 to 1
     ∷ row (s .«r_electrolyte_ohm_m2») «0·0» «1·0»
     ∷ []
 
