@@ -8,6 +8,9 @@ use Rattle.binary64.specs.Decimal.{literal, areDecimals}
 abbrev pub «0·0» : Float
 «0·0» = f64 0
 
+abbrev pub «5e-324» : Float
+«5e-324» = f64 0x0000_0000_0000_0001
+
 abbrev pub «1e-30» : Float
 «1e-30» = f64 0x39b4_484b_feeb_c2a0
 
@@ -272,11 +275,17 @@ abbrev pub «9·0» : Float
 abbrev pub «10·0» : Float
 «10·0» = f64 0x4024_0000_0000_0000
 
+abbrev pub «11·0» : Float
+«11·0» = f64 0x4026_0000_0000_0000
+
 abbrev pub «23·0» : Float
 «23·0» = f64 0x4037_0000_0000_0000
 
 abbrev pub «30·0» : Float
 «30·0» = f64 0x403e_0000_0000_0000
+
+abbrev pub «64·0» : Float
+«64·0» = f64 0x4050_0000_0000_0000
 
 abbrev pub «80·0» : Float
 «80·0» = f64 0x4054_0000_0000_0000
@@ -393,6 +402,7 @@ abbrev pub «1e13» : Float
 pub literals : T (areDecimals
     (
     literal «0·0» 0 0 ∷
+    literal «5e-324» 5 324 ∷
     literal «1e-30» 1 30 ∷
     literal «1e-20» 1 20 ∷
     literal «5·9e-18» 59 19 ∷
@@ -481,8 +491,10 @@ pub literals : T (areDecimals
     literal «8·314» 8314 3 ∷
     literal «9·0» 9 0 ∷
     literal «10·0» 10 0 ∷
+    literal «11·0» 11 0 ∷
     literal «23·0» 23 0 ∷
     literal «30·0» 30 0 ∷
+    literal «64·0» 64 0 ∷
     literal «80·0» 80 0 ∷
     literal «100·0» 100 0 ∷
     literal «200·0» 200 0 ∷

@@ -1,0 +1,2 @@
+-- Lines: what a text sets, and line after line.
+pub mod Lines

@@ -1,0 +1,2 @@
+-- Columns: a row's line grows column by column.
+pub mod Columns

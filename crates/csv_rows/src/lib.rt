@@ -1,0 +1,48 @@
+// A run's rows as lines of CSV: the time first, then the report's other fields in their order.
+ghost use mathlib.Core.Path.{_≡_};
+ghost use Prim.Native.Nat.{_<_};
+ghost use Rattle.decimal_spelling.specs.Spelling.{written, putAll};
+ghost use Rattle.csv_rows.specs.Row.{fieldOf, numberAt, separatorOf, columnsBy};
+
+// The field in column k.
+fn field(k: usize) -> usize
+    requires { ⌜ k < 8 ⌝ }
+    ensures { λ r. ⌜ (r ≡ fieldOf k) × (r < 8) ⌝ }
+{
+    if k == 0 {
+        return 6;
+    }
+    if k == 7 {
+        return 7;
+    }
+    k - 1
+}
+
+fn number_at(rows: &[f64; 80000], row: usize, k: usize) -> f64
+    requires { ⌜ k < 8 ⌝ }
+    ensures { λ r. ⌜ r ≡ numberAt (now (rows .entry)) row k ⌝ }
+{
+    let f = field(k);
+    if row < 10000 {
+        return rows[row * 8 + f];
+    }
+    0.0
+}
+
+fn separator(k: usize) -> u8
+    ensures { λ r. ⌜ r ≡ separatorOf k ⌝ }
+{
+    if k == 7 { b'\n' } else { b',' }
+}
+
+// Puts the line of a row, with its end, and says how many bytes it has.
+pub fn put_row(line: &mut [u8; 4096], rows: &[f64; 80000], row: usize) -> usize
+    ensures { λ r. ⌜ written (now (line .exit)) r ≡ putAll (written (now (line .entry)) 0) (columnsBy 8 (now (rows .entry)) row) ⌝ }
+{
+    let mut used: usize = 0;
+    for k in 0..8 {
+        let end = decimal_spelling::put_number(line, used, number_at(rows, row, k));
+        used = decimal_spelling::put(line, end, separator(k));
+    }
+    used
+}

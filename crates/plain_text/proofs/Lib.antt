@@ -1,0 +1,2 @@
+-- Ahead: what a text begins with, byte by byte.
+pub mod Ahead

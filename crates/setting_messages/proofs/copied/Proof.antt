@@ -1,0 +1,48 @@
+-- `setting_messages::copied` meets its contract. Assumes nothing.
+use Prim.Native.Nat.{_≤_, _-_}
+use mathlib.Core.Path.{_≡_}
+use borrow.Author.Needs.{needs}
+use lib.ListN.{length}
+use Rattle.setting_messages.proofs.copied.Statement.{statement}
+use Rattle.setting_messages.proofs.copied.Tie as tie
+
+abbrev Inv-loop : tie.InvT-loop
+Inv-loop text copy₀ i₀ copy i = (i ≤ 4096) × (4096 ≡ length copy)
+
+abbrev μ-loop : tie.MeasureT-loop
+μ-loop text copy₀ i₀ copy i = 4096 - i
+
+loop-holds : tie.Need-loop-holds Inv-loop μ-loop
+loop-holds c = search needs
+
+element-copy-out-copy : tie.Need-element-copy-out-copy Inv-loop μ-loop
+element-copy-out-copy c = search needs
+
+array-write-copy : tie.Need-array-write-copy Inv-loop μ-loop
+array-write-copy c = search needs
+
+add-i : tie.Need-add-i Inv-loop μ-loop
+add-i c = search needs
+
+loop-less : tie.Need-loop-less Inv-loop μ-loop
+loop-less c = search needs
+
+loop-again : tie.Need-loop-again Inv-loop μ-loop
+loop-again c = search needs
+
+returns : tie.Need-returns Inv-loop μ-loop
+returns c = search needs
+
+pub copied-spec : {M : Type 1} → statement M
+copied-spec =
+    tie.close
+    (tie.spec
+    Inv-loop
+    μ-loop
+    loop-holds
+    element-copy-out-copy
+    array-write-copy
+    add-i
+    loop-less
+    loop-again
+    returns)

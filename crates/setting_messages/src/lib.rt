@@ -1,0 +1,177 @@
+// Saying names, ranges and faults of the numbers that a run is set by. What is written, no contract can say.
+use cell_file::GIVEN_TWICE;
+use cell_file::OUT_OF_RANGE;
+use cell_file::Settings;
+ghost use mathlib.Core.Path.{_≡_};
+ghost use lib.ListN.{length};
+
+pub const OUT: i32 = 1;
+
+pub const ERR: i32 = 2;
+
+pub fn say(fd: i32, words: &[u8]) {
+    io::write_all(fd, words);
+}
+
+// A copy, of which a part can be lent.
+fn copied(text: &[u8; 4096]) -> [u8; 4096]
+    ensures { λ r. ⌜ 4096 ≡ length r ⌝ }
+{
+    let mut copy = [0u8; 4096];
+    for i in 0..4096 {
+        copy[i] = text[i];
+    }
+    copy
+}
+
+// Writes the first bytes of a text.
+pub fn first_bytes(fd: i32, text: &[u8; 4096], size: usize) {
+    let copy = copied(text);
+    if size <= 4096 {
+        io::write_all(fd, &copy[..size]);
+    }
+}
+
+fn byte_if(fd: i32, wanted: bool, b: u8) {
+    if wanted {
+        io::write_all(fd, &[b]);
+    }
+}
+
+// Writes the entry at a place of a list, each of whose entries '|' ends.
+pub fn entry(fd: i32, list: &[u8], wanted: usize) {
+    let mut place: usize = 0;
+    for i in 0..list.len() {
+        let ends = list[i] == b'|';
+        byte_if(fd, (place == wanted) & !ends, list[i]);
+        if ends {
+            place = std::num::wrapping_add_usize(place, 1);
+        }
+    }
+}
+
+pub fn number(fd: i32, x: f64) {
+    let mut line = [0u8; 4096];
+    let used = decimal_spelling::put_number(&mut line, 0, x);
+    first_bytes(fd, &line, used);
+}
+
+// Writes the name at a place.
+pub fn name(fd: i32, k: usize) {
+    if k >= 30 {
+        return;
+    }
+    if k >= 20 {
+        say(fd, b"cathode.");
+    } else if k >= 10 {
+        say(fd, b"anode.");
+    }
+    for j in 0..12 {
+        let b = setting_names::letter(k, j);
+        byte_if(fd, b != b' ', b);
+    }
+}
+
+// Writes the unit at a place; nothing for a number without one.
+pub fn unit(fd: i32, k: usize) {
+    if k < 10 {
+        entry(fd, b" A| s| K| s|| V| V| C/mol| J/(mol K)| ohm m^2|", k);
+    } else {
+        entry(
+            fd,
+            b"| m| m^2/s| mol/m^3|| m|| m^2| J/mol| m^2.5/(mol^0.5 s)|",
+            k % 10,
+        );
+    }
+}
+
+// Writes the range at a place, with its unit.
+pub fn range(fd: i32, k: usize) {
+    if k == 3 {
+        say(fd, b"any number of s");
+        return;
+    }
+    if k >= 30 {
+        return;
+    }
+    if k == 1 {
+        say(fd, b"above 0");
+    } else {
+        number(fd, setting_ranges::low(k));
+    }
+    say(fd, b" to ");
+    number(fd, setting_ranges::high(k));
+    unit(fd, k);
+}
+
+// The fault, after the place where it was found.
+fn say_what(fault: u64, place: usize) {
+    entry(
+        ERR,
+        b"|expected NAME=VALUE|no such name: 'discharge help' lists them|expected a decimal number, such as 298.15 or 2e-4|",
+        fault as usize,
+    );
+    entry(
+        ERR,
+        b"||||expected at most 15 digits, and at most 22 places|out of range, expected |expected a whole number|given twice|",
+        fault as usize,
+    );
+    entry(
+        ERR,
+        b"||||||||a cell file has at most 4,095 bytes|not given, and a cell file gives both sheets whole|",
+        fault as usize,
+    );
+    if fault == OUT_OF_RANGE {
+        range(ERR, place);
+    }
+}
+
+// Of an argument.
+pub fn in_argument(st: Settings, text: &[u8]) {
+    say(ERR, b"'");
+    say(ERR, text);
+    say(ERR, b"': ");
+    say_what(st.fault, st.place);
+    say(ERR, b"\n");
+}
+
+// Of a cell file, with its line.
+pub fn in_file(st: Settings, path: &[u8]) {
+    say(ERR, path);
+    if st.line != 0 {
+        say(ERR, b": line ");
+        io::print_decimal(ERR, st.line);
+    }
+    say(ERR, b": ");
+    if st.place < 30 {
+        name(ERR, st.place);
+        say(ERR, b": ");
+    }
+    say_what(st.fault, st.place);
+    if st.fault == GIVEN_TWICE {
+        let k = st.place;
+        let given = st.given;
+        if k < 30 {
+            say(ERR, b", first in line ");
+            io::print_decimal(ERR, given[k]);
+        }
+    }
+    say(ERR, b"\n");
+}
+
+// A row of the list of names: the name, a value, its unit and its range.
+pub fn write_name(v: &[f64; 30], k: usize) {
+    say(OUT, b"    ");
+    name(OUT, k);
+    say(OUT, b" = ");
+    if k < 30 {
+        number(OUT, v[k]);
+    }
+    unit(OUT, k);
+    say(OUT, b"  (");
+    range(OUT, k);
+    if setting_ranges::is_count(k) {
+        say(OUT, b", whole");
+    }
+    say(OUT, b")\n");
+}

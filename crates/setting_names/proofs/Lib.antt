@@ -1,0 +1,2 @@
+-- Ways: the three ways to a name's place.
+pub mod Ways
