@@ -13,12 +13,17 @@ fn spelled(x: f64) -> String {
 fn main() {
     let (current, dt, temp_k, limit) = (5.0, 60.0, 298.15, 3600.0);
     let config = SpmConfig { v_min: 3.0, ..SpmConfig::default() };
+    let (v_min, v_max) = (config.v_min, config.v_max);
     let rows = SpmSolver::graphite_nmc(config).simulate_discharge(current, dt, temp_k, limit);
     println!("time [s],voltage [V],current [A],theta_neg [1],theta_pos [1],theta_neg_avg [1],theta_pos_avg [1],cutoff [1]");
     for r in &rows {
         let numbers = [r.time_s, r.voltage, r.current, r.theta_neg, r.theta_pos, r.theta_neg_avg, r.theta_pos_avg].map(spelled);
         println!("{},{}", numbers.join(","), u8::from(r.cutoff));
     }
+    println!(
+        "# cell.txt current={} A temperature={} K v_min={} V v_max={} V",
+        spelled(current), spelled(temp_k), spelled(v_min), spelled(v_max)
+    );
     let ending = if rows.iter().any(|r| r.cutoff) { "voltage" } else { "time" };
     println!("# ended by {ending} after {} rows", rows.len());
 }

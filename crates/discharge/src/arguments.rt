@@ -5,6 +5,7 @@ use cell_file::take_line;
 use electrode::ElectrodeParams;
 use run_settings::ready;
 use setting_messages::ERR;
+use setting_messages::OUT;
 use setting_messages::say;
 
 const UNREADABLE: u64 = 10;
@@ -90,6 +91,18 @@ fn has_cell() -> bool {
     let mut text = io::buffer();
     let size = os::arg(1, &mut text);
     names_cell(&text[..size])
+}
+
+// Writes the cell as it was named.
+pub(crate) fn write_cell() {
+    let mut text = io::buffer();
+    let size = os::arg(1, &mut text);
+    let word = &text[..size];
+    if names_cell(word) {
+        say(OUT, word);
+    } else {
+        say(OUT, b"nmc");
+    }
 }
 
 // Takes an argument; an empty one, or one that is too long, is a fault too.

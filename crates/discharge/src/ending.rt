@@ -1,9 +1,13 @@
-// How a run ended, in words.
+// What was run and how it ended, in words.
+use crate::arguments::write_cell;
 use runs::Ending;
 use setting_messages::ERR;
 use setting_messages::OUT;
 use setting_messages::entry;
+use setting_messages::name;
+use setting_messages::number;
 use setting_messages::say;
+use setting_messages::unit;
 
 // A refusal by its number and its word of docs/REFERENCE.md's table.
 fn say_refusal(fd: i32, number: u64) {
@@ -21,6 +25,25 @@ pub(crate) fn not_built(number: u64) {
     say(ERR, b"the cell is not built: ");
     say_refusal(ERR, number);
     say(ERR, b"\n");
+}
+
+fn write_setting(k: usize, x: f64) {
+    say(OUT, b" ");
+    name(OUT, k);
+    say(OUT, b"=");
+    number(OUT, x);
+    unit(OUT, k);
+}
+
+// The cell, the current, the temperature and the limits, for who draws the rows.
+pub(crate) fn write_run(v: [f64; 30]) {
+    say(OUT, b"# ");
+    write_cell();
+    write_setting(0, v[0]);
+    write_setting(2, v[2]);
+    write_setting(5, v[5]);
+    write_setting(6, v[6]);
+    say(OUT, b"\n");
 }
 
 pub(crate) fn write_ending(ending: Ending, rows: usize) {

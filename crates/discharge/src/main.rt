@@ -1,5 +1,5 @@
 // Discharges a cell at a constant current and writes the rows as CSV. README.md has the arguments, and `help` lists them. The first line names the columns
-// with their units, the last one, after '#', says how the run ended. What is wrong with the arguments goes to standard error instead. A run has at most
+// with their units, the last two, after '#', say what was run and how it ended. What is wrong with the arguments goes to standard error instead. A run has at most
 // 10,000 rows.
 mod arguments;
 mod ending;
@@ -32,6 +32,7 @@ fn run(v: [f64; 30], cell: SpmSolver) {
     let r = discharge_run::simulate_discharge(cell, v[0], v[1], v[2], v[3], &mut rows);
     let e = r.ending;
     write_rows(&rows, r.rows);
+    ending::write_run(v);
     ending::write_ending(e, r.rows);
 }
 

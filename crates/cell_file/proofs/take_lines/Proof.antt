@@ -48,12 +48,11 @@ loop-again c =
     let find = c .before .before .find in
     let loop-test = c .before .before .before .loop-test in
     let loop = c .before .before .before .before .loop in
-    let args = c .before .before .before .before .before .before .args in
-    (
-  omega (arith, find .ensures .1),
-  omega (arith, find .ensures .0),
-  rw (c .take-line .ensures) (line-turn (args .s .now) (loop .from) (loop-test .taken) (loop .st) (loop .line) (find .result) (find .ensures .0) ∙ loop .inv .2),
-)
+    let args = c .before .before .before .before .before .before .args in (
+      omega (arith, find .ensures .1),
+      omega (arith, find .ensures .0),
+      rw (c .take-line .ensures) (line-turn (args .s .now) (loop .from) (loop-test .taken) (loop .st) (loop .line) (find .result) (find .ensures .0) ∙ loop .inv .2),
+    )
 
 returns : tie.Need-returns Inv-loop μ-loop
 returns c =

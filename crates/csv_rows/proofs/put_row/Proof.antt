@@ -44,10 +44,12 @@ loop-again c =
     let put-number = c .before .before .before .put-number in
     let number-at = c .before .before .before .before .number-at in
     let loop = c .before .before .before .before .before .before .before .loop in
-    let args = c .before .before .before .before .before .before .before .before .args in
-    (search needs, rw (add-one (loop .k)) (column-turn (written (args .line .now) 0) (written (loop .line) (loop .used)) (written (put-number .last .0) (put-number .result))
-        (written (c .put .last .0) (c .put .result)) (args .rows .now) (args .row) (loop .k) (loop .inv .1) (put-number .ensures ∙ rw (number-at .ensures)) (c .put .ensures ∙ rw
-        (separator .ensures))))
+    let args = c .before .before .before .before .before .before .before .before .args in (
+      search needs,
+      rw (add-one (loop .k)) (column-turn (written (args .line .now) 0) (written (loop .line) (loop .used)) (written (put-number .last .0) (put-number .result))
+          (written (c .put .last .0) (c .put .result)) (args .rows .now) (args .row) (loop .k) (loop .inv .1) (put-number .ensures ∙ rw (number-at .ensures)) (c .put .ensures ∙ rw
+          (separator .ensures))),
+    )
 
 returns : tie.Need-returns Inv-loop μ-loop
 returns c = let e : c .before .loop .k ≡ 8 = omega arith in rw e at (c .before .loop .inv .1)

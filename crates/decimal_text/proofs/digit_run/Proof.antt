@@ -66,11 +66,10 @@ loop-again c =
 returns-2 : tie.Need-returns-2 Inv-loop μ-loop
 returns-2 c =
     let loop = c .before .loop in
-    let args = c .before .before .before .args in
-    (
-  omega (arith, over-end (args .s .now) (loop .at) (c .loop-test .left)),
-  sym (min-eq-left (loop .inv .0)) ∙ rw (over-value (loop .value) (args .s .now) (loop .at) (c .loop-test .left)) at (loop .inv .1),
-)
+    let args = c .before .before .before .args in (
+      omega (arith, over-end (args .s .now) (loop .at) (c .loop-test .left)),
+      sym (min-eq-left (loop .inv .0)) ∙ rw (over-value (loop .value) (args .s .now) (loop .at) (c .loop-test .left)) at (loop .inv .1),
+    )
 
 pub digit-run-spec : {M : Type 1} → statement M
 digit-run-spec =

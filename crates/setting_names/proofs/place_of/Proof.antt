@@ -48,7 +48,7 @@ returns c =
     let starts-with = c .before .before .before .before .starts-with in
     let args = c .before .before .before .before .before .before .before .args in
     place-anode (args .s .now) (starts-with .result) true (sheet-place .result) (c .among-all .result) (starts-with .ensures) (if1 .taken) (sheet-place .ensures)
-        (c .among-all .ensures)
+    (c .among-all .ensures)
 
 slice-aggregate-starts-with-2 : tie.Need-slice-aggregate-starts-with-2
 slice-aggregate-starts-with-2 c = search needs
