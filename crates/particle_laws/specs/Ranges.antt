@@ -2,7 +2,6 @@
 use Prim.Native.Nat.{ℕ, _-_, _*_, _^_, _≤_}
 use mathlib.Core.Path.{_≡_}
 use mathlib.Core.Bool.{Bool, true, false, cond}
-use mathlib.Core.List.{List, [], _∷_}
 use native.Mathlib.Nat.{le-trans, zero-lt-suc}
 use native.Mathlib.Omega.{arith}
 use lib.Dec.{T, leb, ltb, lit≤}
