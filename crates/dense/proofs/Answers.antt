@@ -14,7 +14,8 @@ use Rattle.refusal.specs.Numbers.{neither-refused, passed}
 use Rattle.refusal.specs.Ranges.{finite}
 use Rattle.iterate.specs.Iterate.{firstBy, first-above, all-at}
 use Rattle.matrix_rows.specs.Loops.{Tried, either, range-keeps, try-keeps}
-use Rattle.matrix_rows.specs.Places.{at, entry, zeros, firstFinite}
+use Rattle.arrays.specs.Places.{at, allFinite}
+use Rattle.matrix_rows.specs.Places.{entry, zeros}
 use Rattle.matrix_rows.specs.Rows.{swapped}
 use Rattle.matrix_columns.specs.Columns.{System, rowLess, rowCleared, columnCleared, pivotTaken}
 use Rattle.dense_elimination.specs.Elimination.{pivotOf, columnWith, columnDone, eliminated, tiny}
@@ -80,12 +81,12 @@ unfolding solved answer
 refused a b n h = rw (ne-eqb _ _ h)
 
 -- a solution that is handed out has passed the test for 8
-solution-finite : (a b : List Float) (n : ℕ) → solved a b n .refusal ≡ 0 → T (firstFinite 32 (solution a b n .value))
+solution-finite : (a b : List Float) (n : ℕ) → solved a b n .refusal ≡ 0 → T (allFinite (solution a b n .value) 32)
 unfolding solved answer solutionRefusal
 solution-finite a b n e = passed _ _ (omega arith) (neither-refused _ _ (neither-refused _ _ (neither-refused _ _ e .1) .1) .1)
 
-answer-finite : (number : ℕ) (x : List Float) (i : ℕ) → i < 32 → (number ≡ 0 → T (firstFinite 32 x)) → T (finite (at (answer number x .x) i))
-unfolding answer firstFinite ofBits
+answer-finite : (number : ℕ) (x : List Float) (i : ℕ) → i < 32 → (number ≡ 0 → T (allFinite x 32)) → T (finite (at (answer number x .x) i))
+unfolding answer ofBits
 answer-finite zero x i l h = all-at (λ k. finite (at x k)) 32 i l (h refl)
 answer-finite (suc k) x i l h = rw (eqb·suc-zero, zeros-at 32 i l) tt
 

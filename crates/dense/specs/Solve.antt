@@ -9,7 +9,8 @@ use Rattle.refusal.specs.Numbers as Numbers
 use Rattle.refusal.specs.Numbers.{grid, sheet, notFinite, refusalUnless, firstRefusal}
 use Rattle.iterate.specs.Iterate.{firstBy}
 use Rattle.matrix_rows.specs.Loops.{forRange, Tried}
-use Rattle.matrix_rows.specs.Places.{at, place, zeros, firstFinite, allFinite}
+use Rattle.arrays.specs.Places.{at, allFinite}
+use Rattle.matrix_rows.specs.Places.{place, zeros}
 use Rattle.matrix_columns.specs.Columns.{System, system}
 use Rattle.dense_elimination.specs.Elimination.{eliminated}
 use Rattle.dense.specs.Substitution.{substituted}
@@ -45,14 +46,14 @@ unfoldable pub inputRefusal : List Float → List Float → ℕ → ℕ
 inputRefusal a b n =
     firstRefusal (refusalUnless (leb n 32) grid)
     (firstRefusal (refusalUnless (eqb (length a) (n * n) && eqb (length b) n) Numbers.badLength)
-    (refusalUnless (allFinite a && allFinite b) sheet))
+    (refusalUnless (allFinite a (length a) && allFinite b (length b)) sheet))
 
 -- of the solution: 9 says that there is none, 8 looks at one that there is
 unfoldable pub solutionRefusal : List Float → List Float → ℕ → ℕ
 solutionRefusal a b n =
     firstRefusal (reduced a b n .refusal)
     (firstRefusal (solution a b n .refusal)
-    (refusalUnless (firstFinite 32 (solution a b n .value)) notFinite))
+    (refusalUnless (allFinite (solution a b n .value) 32) notFinite))
 
 -- ---- the answer
 

@@ -8,7 +8,8 @@ use Rattle.binary64.specs.Operators.{_⊖_, _⊗_, _⊘_}
 use Rattle.min_max.specs.MinMax.{absOf}
 use Rattle.refusal.specs.Numbers.{singular}
 use Rattle.matrix_rows.specs.Loops.{forRange, Tried, outcome, tryRange}
-use Rattle.matrix_rows.specs.Places.{at, entry}
+use Rattle.arrays.specs.Places.{at}
+use Rattle.matrix_rows.specs.Places.{entry}
 use Rattle.dense_elimination.specs.Elimination.{tiny}
 
 -- `x[row] -= a[row][col] * x[col]`

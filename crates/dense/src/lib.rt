@@ -8,7 +8,8 @@ ghost use Prim.Native.Nat.{_+_, _*_, _<_, _≤_};
 ghost use lib.ListN.{length};
 ghost use Rattle.iterate.specs.Iterate.{firstBy};
 ghost use Rattle.matrix_rows.specs.Loops.{forRange, outcome};
-ghost use Rattle.matrix_rows.specs.Places.{at, zeros, firstFinite, allFinite};
+ghost use Rattle.arrays.specs.Places.{at, allFinite};
+ghost use Rattle.matrix_rows.specs.Places.{zeros};
 ghost use Rattle.dense.specs.Substitution.{takenOut, substituted};
 ghost use Rattle.dense.specs.Solve.{rowLoaded, matrixLoaded, inputRefusal, solution, solutionRefusal, answer, solved};
 
@@ -47,24 +48,16 @@ fn substitute(a: &[f64], x: &mut [f64; 32], n: usize) -> u64
 
 // Whether every place of a slice is finite.
 fn entries_finite(l: &[f64]) -> bool
-    ensures { λ r. ⌜ r ≡ allFinite (now (l .entry)) ⌝ }
+    ensures { λ r. ⌜ r ≡ allFinite (now (l .entry)) (length (now (l .entry))) ⌝ }
 {
-    let mut ok = true;
-    for i in 0..l.len() {
-        ok = ok & refusal::is_finite(l[i]);
-    }
-    ok
+    arrays::all_finite(l, l.len())
 }
 
 // Whether every place of a solution is finite.
 fn solution_finite(x: &[f64; 32]) -> bool
-    ensures { λ r. ⌜ r ≡ firstFinite 32 (now (x .entry)) ⌝ }
+    ensures { λ r. ⌜ r ≡ allFinite (now (x .entry)) 32 ⌝ }
 {
-    let mut ok = true;
-    for i in 0..32 {
-        ok = ok & refusal::is_finite(x[i]);
-    }
-    ok
+    arrays::all_finite(x, 32)
 }
 
 // Copies the n places of `a` from row * n on into row `row`.

@@ -12,7 +12,8 @@ use Rattle.min_max.specs.MinMax.{absOf}
 use Rattle.refusal.specs.Numbers.{firstRefusal}
 use Rattle.iterate.specs.Iterate.{first-length}
 use Rattle.matrix_rows.specs.Loops.{either, Tried, range-keeps, try-keeps}
-use Rattle.matrix_rows.specs.Places.{at, entry}
+use Rattle.arrays.specs.Places.{at}
+use Rattle.matrix_rows.specs.Places.{entry}
 use Rattle.matrix_rows.specs.Rows.{swapped}
 use Rattle.matrix_columns.specs.Columns.{System, rowLess, rowCleared, columnCleared, pivotTaken, rowsExchanged}
 use Rattle.dense_elimination.specs.Elimination.{tiny, pivotOf, columnWith, columnDone, eliminated}

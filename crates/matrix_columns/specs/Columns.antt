@@ -5,7 +5,8 @@ use lib.ListN.{set}
 use lib.Ieee.{Float}
 use Rattle.binary64.specs.Operators.{_⊖_, _⊗_, _⊘_}
 use Rattle.matrix_rows.specs.Loops.{forRange}
-use Rattle.matrix_rows.specs.Places.{at, entry}
+use Rattle.arrays.specs.Places.{at}
+use Rattle.matrix_rows.specs.Places.{entry}
 use Rattle.matrix_rows.specs.Rows.{swapped, rowsSwapped, rowReduced}
 
 -- a matrix and its right side

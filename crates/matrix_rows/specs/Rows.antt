@@ -7,7 +7,8 @@ use lib.Seq.{set-getD}
 use lib.Ieee.{Float, nan}
 use Rattle.binary64.specs.Operators.{_⊖_, _⊗_}
 use Rattle.matrix_rows.specs.Loops.{forRange, range-keeps}
-use Rattle.matrix_rows.specs.Places.{at, place, entry}
+use Rattle.arrays.specs.Places.{at}
+use Rattle.matrix_rows.specs.Places.{place, entry}
 
 -- ---- the exchange of two rows
 

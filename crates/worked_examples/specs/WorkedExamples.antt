@@ -20,7 +20,7 @@ use Rattle.array_update.specs.ArrayUpdate.{placesBy}
 use Rattle.profile.specs.Weights.{innerWeight, weight}
 use Rattle.dense.specs.declared.Solved.{Solved}
 use Rattle.matrix_rows.specs.Loops.{turnsFrom, forRange, unlessRefused, tryRange}
-use Rattle.matrix_rows.specs.Places.{zeros, firstFinite, allFinite}
+use Rattle.matrix_rows.specs.Places.{zeros}
 use Rattle.matrix_rows.specs.Rows.{swapped, rowsSwapped, rowReduced}
 use Rattle.matrix_columns.specs.Columns.{rowLess, rowCleared, columnCleared, pivotTaken}
 use Rattle.dense_elimination.specs.Elimination.{candidate, larger, pivotOf, columnWith, columnDone, eliminated}
@@ -99,7 +99,7 @@ pub record WorkedExamples : Type 0 where
   pub two-nodes : solidAfter twoNodes (num 10 ∷ num 20 ∷ replicate 510 (num 0)) 1 .c ≡ num 20 ∷ num 20 ∷ replicate 510 (num 0)
 
 pub worked-examples : WorkedExamples
-unfolding expOf powered series squarings lnOf lnSplit lnParts terms sqrtOf rounded wholeRoot rootBelow asinhOf ceilOf planRefusal finished firstBy allBelow turnsFrom forRange unlessRefused tryRange firstFinite allFinite candidate larger pivotOf swapped rowsSwapped rowReduced rowLess rowCleared columnCleared pivotTaken columnWith columnDone eliminated takenOut columnSolved substituted placeLoaded rowLoaded matrixLoaded loaded reduced solution inputRefusal solutionRefusal answer solved refusalUnless firstRefusal innerWeight weight placesBy dSolids innerWith surfaceWith centreWith nodeWith particleWith particlesWith surfacesWith solidAfter isNan lt le add sub mul div neg round ofInt size ofBits toBits
+unfolding expOf powered series squarings lnOf lnSplit lnParts terms sqrtOf rounded wholeRoot rootBelow asinhOf ceilOf planRefusal finished firstBy allBelow turnsFrom forRange unlessRefused tryRange  candidate larger pivotOf swapped rowsSwapped rowReduced rowLess rowCleared columnCleared pivotTaken columnWith columnDone eliminated takenOut columnSolved substituted placeLoaded rowLoaded matrixLoaded loaded reduced solution inputRefusal solutionRefusal answer solved refusalUnless firstRefusal innerWeight weight placesBy dSolids innerWith surfaceWith centreWith nodeWith particleWith particlesWith surfacesWith solidAfter isNan lt le add sub mul div neg round ofInt size ofBits toBits
 worked-examples = record {
   exp-0 = refl;
   ln-1 = refl;

@@ -10,7 +10,7 @@ use lib.Ieee.{Float}
 use borrow.Author.Needs.{needs}
 use borrow.Author.Tests.{le-leb, lt-leb, not-true, not-false}
 use Rattle.refusal.specs.Numbers.{grid, sheet, badLength, refusalUnless, firstRefusal}
-use Rattle.matrix_rows.specs.Places.{allFinite}
+use Rattle.arrays.specs.Places.{allFinite}
 use Rattle.dense.specs.Solve.{inputRefusal}
 use Rattle.dense.proofs.Sizes.{square-fits}
 use Rattle.dense.proofs.input_refusal.Statement.{statement}
@@ -26,7 +26,7 @@ module _ (a b : List Float) (n : ℕ) where
   unfolding inputRefusal refusalUnless firstRefusal
   wrong-length h e = rw (le-leb n 32 h, e)
 
-  by-entries : n ≤ 32 → (eqb (length a) (n * n) && eqb (length b) n) ≡ true → inputRefusal a b n ≡ refusalUnless (allFinite a && allFinite b) sheet
+  by-entries : n ≤ 32 → (eqb (length a) (n * n) && eqb (length b) n) ≡ true → inputRefusal a b n ≡ refusalUnless (allFinite a (length a) && allFinite b (length b)) sheet
   unfolding inputRefusal refusalUnless firstRefusal
   by-entries h e = rw (le-leb n 32 h, e)
 

@@ -5,7 +5,7 @@ use native.Mathlib.Omega.{arith}
 use native.Mathlib.Numerals.{add-one}
 use borrow.Author.Needs.{needs}
 use Rattle.iterate.specs.Iterate.{firstBy}
-use Rattle.matrix_rows.specs.Places.{at}
+use Rattle.arrays.specs.Places.{at}
 use Rattle.dense.proofs.load_side.Statement.{statement}
 use Rattle.dense.proofs.load_side.Tie as tie
 
