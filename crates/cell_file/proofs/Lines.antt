@@ -15,7 +15,8 @@ use Rattle.plain_text.specs.Text.{indexOf, linesOf, startsWith, afterMark}
 use Rattle.plain_text.specs.Pieces.{rest-is, linesBehind, lines-first}
 use Rattle.cell_file.specs.declared.Setting.{Setting}
 use Rattle.cell_file.specs.declared.Settings.{Settings}
-use Rattle.cell_file.specs.Settings.{setting, noSign, longFile, notGiven, assigned, settingOf, solidSetting, faulted, takenLine, linesTaken, fileTaken, missingBy, wholeSheets, cellTaken}
+use Rattle.cell_file.specs.Settings.{setting, noSign, longFile, notGiven, assigned, settingOf, solidSetting}
+use Rattle.cell_file.specs.Settings.{faulted, takenLine, linesTaken, fileTaken, missingBy, wholeSheets, cellTaken}
 use Rattle.binary64.specs.Literals.{«0·0»}
 
 module _ (t : List ℕ) (i : ℕ) (some : length t ≡ 0 → ⊥) (e : i ≡ 0 + indexOf 61 t) where
@@ -58,7 +59,9 @@ module _ (s : List ℕ) (from : ℕ) (h : from ≤ length s) where
           (λ (d : length s < from + i + 1). rw (lt-leb (from + i + 1) (length s) d, le-ltb i (length s - from) (omega arith)))
           (either-way (from + i + 1) (length s))
 
-  first-line : (st : Settings) (n : ℕ) → linesTaken st n (linesFrom from s) ≡ linesTaken (takenLine st n (take (indexOf 10 (drop from s)) (drop from s))) (suc n) (linesBehind (drop from s))
+  first-line :
+      (st : Settings) (n : ℕ)
+      → linesTaken st n (linesFrom from s) ≡ linesTaken (takenLine st n (take (indexOf 10 (drop from s)) (drop from s))) (suc n) (linesBehind (drop from s))
   unfolding linesTaken linesFrom
   first-line st n = rw (le-leb from (length s) h, lines-first (drop from s))
 

@@ -8,7 +8,8 @@ use Rattle.decimal_spelling.proofs.Turns.{put-append}
 use Rattle.csv_rows.specs.Row.{numberAt, separatorOf, columnsBy}
 
 pub column-turn :
-    (w w1 w2 w3 : Written) (rows : List Float) (row k : ℕ) → w1 ≡ putAll w (columnsBy k rows row) → w2 ≡ putAll w1 (spelling (numberAt rows row k)) → w3 ≡ putByte w2 (separatorOf k)
+    (w w1 w2 w3 : Written) (rows : List Float) (row k : ℕ)
+    → w1 ≡ putAll w (columnsBy k rows row) → w2 ≡ putAll w1 (spelling (numberAt rows row k)) → w3 ≡ putByte w2 (separatorOf k)
     → w3 ≡ putAll w (columnsBy (suc k) rows row)
 unfolding columnsBy putAll
 column-turn w w1 w2 w3 rows row k e1 e2 e3 =

@@ -10,7 +10,8 @@ use borrow.Author.Tests.{eqb-true}
 use lib.Dec.{leb, eqb}
 use lib.ListN.{getD}
 use Rattle.decimal_spelling.specs.Limbs.{tenBy, sumBy, belowBy, placedAt, wholePart, behind}
-use Rattle.decimal_spelling.specs.Spelling.{Written, putByte, putAll, Turn, turnFrom, turnWith, turnOf, glyph, digitsBy, Passed, passed, passZeros, wholeText, moreText, tinyText, plainText}
+use Rattle.decimal_spelling.specs.Spelling.{Written, putByte, putAll, Turn, turnFrom, turnWith, turnOf, glyph, digitsBy}
+use Rattle.decimal_spelling.specs.Spelling.{Passed, passed, passZeros, wholeText, moreText, tinyText, plainText}
 
 pub put-append : (w : Written) (s t : List ℕ) → putAll w (s ++ t) ≡ putAll (putAll w s) t
 unfolding putAll

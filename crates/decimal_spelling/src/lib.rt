@@ -5,7 +5,8 @@ ghost use mathlib.Core.Path.{_≡_};
 ghost use mathlib.Core.Bool.{cond};
 ghost use Prim.Native.Nat.{_^_, _-_, _≤_, _<_};
 ghost use Rattle.decimal_spelling.specs.Limbs.{tenBy, sumBy, belowBy, placedAt, wholePart, behind};
-ghost use Rattle.decimal_spelling.specs.Spelling.{written, putByte, putAll, partsOf, turnOf, glyph, digitsBy, passed, passZeros, wholeText, tinyText, sizeText, plainText, moreText, spelling, gapOf, turnFrom};
+ghost use Rattle.decimal_spelling.specs.Spelling.{written, putByte, putAll, partsOf, gapOf, turnOf, turnFrom, glyph, digitsBy, passed, passZeros};
+ghost use Rattle.decimal_spelling.specs.Spelling.{wholeText, moreText, tinyText, plainText, sizeText, spelling};
 
 const LIMB: u64 = 0x1000_0000_0000_0000;
 
