@@ -13,17 +13,7 @@ import sys
 import tempfile
 from pathlib import Path
 
-TOP = Path(__file__).resolve().parent.parent
-KIT = Path("/opt/rattle")
-OWN = KIT / "on" / "x86_64"
-
-
-def dependencies(crate):
-    for line in (TOP / "crates.txt").read_text().splitlines():
-        name, _, rest = line.split("#")[0].partition(":")
-        if name.strip() == crate:
-            return rest.split()
-    sys.exit(f"{crate} is not listed in crates.txt")
+from prover import TOP, check_command
 
 
 def edited(crate, edit, where):
@@ -45,13 +35,8 @@ def edited(crate, edit, where):
 
 
 def check(crate, where):
-    command = [OWN / "bin" / "rattle", "check", "--crate-name", crate, where / "src" / "lib.rt", "--extern", f"std={OWN}/rlib/std.rlib"]
-    for d in dependencies(crate):
-        command += ["--extern", f"{d}={TOP}/target/rlib/{d}.rlib"]
-    command += ["-L", f"dependency={TOP}/target/rlib", "-L", f"dependency={OWN}/rlib"]
-    command += ["--antt-project", KIT / "logic" / "antt-project.json", "--logic-built", OWN / "logic-built"]
     before = resource.getrusage(resource.RUSAGE_CHILDREN)
-    said = subprocess.run(command, stdout=subprocess.PIPE, stderr=subprocess.STDOUT, text=True).stdout
+    said = subprocess.run(check_command(crate, where), stdout=subprocess.PIPE, stderr=subprocess.STDOUT, text=True).stdout
     after = resource.getrusage(resource.RUSAGE_CHILDREN)
     return said, after.ru_utime + after.ru_stime - before.ru_utime - before.ru_stime
 
