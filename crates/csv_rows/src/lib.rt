@@ -1,6 +1,7 @@
 // A run's rows as lines of CSV: the time first, then the report's other fields in their order.
 ghost use mathlib.Core.Path.{_≡_};
 ghost use Prim.Native.Nat.{_<_};
+ghost use lib.ListN.{length};
 ghost use Rattle.decimal_spelling.specs.Spelling.{written, putAll};
 ghost use Rattle.csv_rows.specs.Row.{fieldOf, numberAt, separatorOf, columnsBy};
 
@@ -45,4 +46,40 @@ pub fn put_row(line: &mut [u8; 4096], rows: &[f64; 80000], row: usize) -> usize
         used = decimal_spelling::put(line, end, separator(k));
     }
     used
+}
+
+// A copy, of which a part can be lent.
+fn copied(text: &[u8; 4096]) -> [u8; 4096]
+    ensures { λ r. ⌜ 4096 ≡ length r ⌝ }
+{
+    let mut copy = [0u8; 4096];
+    for i in 0..4096 {
+        copy[i] = text[i];
+    }
+    copy
+}
+
+// Writes the first bytes of a line.
+pub fn write_line(fd: i32, line: &[u8; 4096], used: usize) {
+    let copy = copied(line);
+    if used <= 4096 {
+        io::write_all(fd, &copy[..used]);
+    }
+}
+
+fn write_row(rows: &[f64; 80000], row: usize) {
+    let mut line = [0u8; 4096];
+    let used = put_row(&mut line, rows, row);
+    write_line(1, &line, used);
+}
+
+// Writes the names of the columns with their units, and a line for each row, to standard output.
+pub fn write_rows(rows: &[f64; 80000], count: usize) {
+    io::write_all(
+        1,
+        b"time [s],voltage [V],current [A],theta_neg [1],theta_pos [1],theta_neg_avg [1],theta_pos_avg [1],cutoff [1]\n",
+    );
+    for i in 0..count {
+        write_row(rows, i);
+    }
 }

@@ -5,7 +5,6 @@ use cell_file::take_line;
 use electrode::ElectrodeParams;
 use run_settings::ready;
 use setting_messages::ERR;
-use setting_messages::OUT;
 use setting_messages::say;
 
 const UNREADABLE: u64 = 10;
@@ -21,88 +20,58 @@ fn fresh(values: [f64; 30], fault: u64) -> Settings {
     }
 }
 
-fn nmc() -> [f64; 30] {
-    ready(ElectrodeParams::nmc_cathode())
-}
-
-fn is(text: &[u8], word: &[u8]) -> bool {
+pub(crate) fn is(text: &[u8], word: &[u8]) -> bool {
     (text.len() == word.len()) & plain_text::starts_with(text, word)
 }
 
-// The numbers of a cell file.
-fn from_file(path: &[u8]) -> Settings {
+// Whether the first argument names a cell.
+pub(crate) fn names_cell(word: &[u8]) -> bool {
+    (word.len() > 0) & (plain_text::find(word, 0, b'=') == word.len())
+}
+
+// Reads a file and gives its size, or -1 where it cannot be read, and then says so.
+fn read_file(path: &[u8], text: &mut [u8]) -> isize {
     let fd = os::open_read(path);
     if fd < 0 {
         os::fail(path);
-        return fresh(nmc(), UNREADABLE);
+        return -1;
     }
-    let mut text = io::buffer();
-    let size = io::read_full(fd, &mut text);
+    let size = io::read_full(fd, text);
     // where the file did not end, a read that failed fails again
     let mut more = [0u8; 1];
-    if libc::read(fd, &mut more) < 0 {
+    let failed = libc::read(fd, &mut more) < 0;
+    if failed {
         os::fail(path);
-        libc::close(fd);
-        return fresh(nmc(), UNREADABLE);
     }
     libc::close(fd);
-    let st = take_cell(fresh(nmc(), 0), &text[..size]);
+    if failed { -1 } else { size as isize }
+}
+
+// The numbers of a cell file.
+fn from_file(path: &[u8], start: [f64; 30]) -> Settings {
+    let mut text = io::buffer();
+    let got = read_file(path, &mut text);
+    let size = io::count(got, &text);
+    if got < 0 {
+        return fresh(start, UNREADABLE);
+    }
+    let st = take_cell(fresh(start, 0), &text[..size]);
     if st.fault != 0 {
         setting_messages::in_file(st, path);
     }
     st
 }
 
-fn cell_named(word: &[u8]) -> Settings {
+// The cell that the first argument names, or graphite with NMC.
+fn first_cell(word: &[u8]) -> Settings {
     if is(word, b"lfp") {
         return fresh(ready(ElectrodeParams::lfp_cathode()), 0);
     }
-    if is(word, b"nmc") {
-        return fresh(nmc(), 0);
+    let nmc = ready(ElectrodeParams::nmc_cathode());
+    if names_cell(word) & !is(word, b"nmc") {
+        return from_file(word, nmc);
     }
-    from_file(word)
-}
-
-// Whether the only argument asks for the list of names.
-pub(crate) fn asks_help() -> bool {
-    let mut text = io::buffer();
-    let size = os::arg(1, &mut text);
-    let word = &text[..size];
-    is(word, b"help") | is(word, b"--help") | is(word, b"-h")
-}
-
-// Whether the first argument names a cell.
-fn names_cell(word: &[u8]) -> bool {
-    (word.len() > 0) & (plain_text::find(word, 0, b'=') == word.len())
-}
-
-// The cell that the first argument names, or graphite_nmc.
-fn first_cell() -> Settings {
-    let mut text = io::buffer();
-    let size = os::arg(1, &mut text);
-    let word = &text[..size];
-    if names_cell(word) {
-        return cell_named(word);
-    }
-    fresh(nmc(), 0)
-}
-
-fn has_cell() -> bool {
-    let mut text = io::buffer();
-    let size = os::arg(1, &mut text);
-    names_cell(&text[..size])
-}
-
-// Writes the cell as it was named.
-pub(crate) fn write_cell() {
-    let mut text = io::buffer();
-    let size = os::arg(1, &mut text);
-    let word = &text[..size];
-    if names_cell(word) {
-        say(OUT, word);
-    } else {
-        say(OUT, b"nmc");
-    }
+    fresh(nmc, 0)
 }
 
 // Takes an argument; an empty one, or one that is too long, is a fault too.
@@ -125,13 +94,13 @@ fn take_argument(st: Settings, i: usize) -> Settings {
     taken
 }
 
-// The numbers after all arguments, or after the first that is wrong.
-pub(crate) fn given() -> Settings {
-    let n = os::arg_count();
-    let cell = first_cell();
+// The numbers after all arguments, of which the first is at hand, or after the first that is wrong.
+pub(crate) fn given(first: &[u8]) -> Settings {
+    let cell = first_cell(first);
     let values = cell.values;
     let mut st = fresh(values, cell.fault);
-    let mut i: usize = plain_text::either(has_cell(), 2, 1);
+    let n = os::arg_count();
+    let mut i: usize = plain_text::either(names_cell(first), 2, 1);
     while i < n {
         let next = take_argument(st, i);
         st = next;

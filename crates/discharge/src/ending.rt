@@ -1,5 +1,5 @@
 // What was run and how it ended, in words.
-use crate::arguments::write_cell;
+use crate::arguments::names_cell;
 use runs::Ending;
 use setting_messages::ERR;
 use setting_messages::OUT;
@@ -35,10 +35,14 @@ fn write_setting(k: usize, x: f64) {
     unit(OUT, k);
 }
 
-// The cell, the current, the temperature and the limits, for who draws the rows.
-pub(crate) fn write_run(v: [f64; 30]) {
+// The cell as it was named, the current, the temperature and the limits, for who draws the rows.
+pub(crate) fn write_run(v: [f64; 30], named: &[u8]) {
     say(OUT, b"# ");
-    write_cell();
+    if names_cell(named) {
+        say(OUT, named);
+    } else {
+        say(OUT, b"nmc");
+    }
     write_setting(0, v[0]);
     write_setting(2, v[2]);
     write_setting(5, v[5]);
@@ -48,11 +52,10 @@ pub(crate) fn write_run(v: [f64; 30]) {
 
 pub(crate) fn write_ending(ending: Ending, rows: usize) {
     say(OUT, b"# ended by ");
-    match ending {
-        Ending::Voltage => say(OUT, b"voltage"),
-        Ending::Time => say(OUT, b"time"),
-        Ending::Full => say(OUT, b"a full table"),
-        Ending::Refused(k) => say_refusal(OUT, k),
+    let number = runs::ending_number(ending);
+    entry(OUT, b"|voltage|time|a full table|", number as usize);
+    if number == 4 {
+        say_refusal(OUT, runs::ending_refusal(ending));
     }
     say(OUT, b" after ");
     io::print_decimal(OUT, rows as u64);

@@ -7,36 +7,18 @@ mod help;
 
 use run_settings::config_of;
 use run_settings::sheet_at;
-use setting_messages::OUT;
-use setting_messages::say;
 use solver::SpmSolver;
 
-fn write_row(rows: &[f64; 80000], row: usize) {
-    let mut line = [0u8; 4096];
-    let used = csv_rows::put_row(&mut line, rows, row);
-    setting_messages::first_bytes(OUT, &line, used);
-}
-
-fn write_rows(rows: &[f64; 80000], count: usize) {
-    say(
-        OUT,
-        b"time [s],voltage [V],current [A],theta_neg [1],theta_pos [1],theta_neg_avg [1],theta_pos_avg [1],cutoff [1]\n",
-    );
-    for i in 0..count {
-        write_row(rows, i);
-    }
-}
-
-fn run(v: [f64; 30], cell: SpmSolver) {
+fn run(v: [f64; 30], cell: SpmSolver, named: &[u8]) {
     let mut rows = [0.0; 80000];
     let r = discharge_run::simulate_discharge(cell, v[0], v[1], v[2], v[3], &mut rows);
     let e = r.ending;
-    write_rows(&rows, r.rows);
-    ending::write_run(v);
+    csv_rows::write_rows(&rows, r.rows);
+    ending::write_run(v, named);
     ending::write_ending(e, r.rows);
 }
 
-fn discharge(v: [f64; 30]) {
+fn discharge(v: [f64; 30], named: &[u8]) {
     let config = config_of(&v);
     let anode = sheet_at(&v, 10);
     let cathode = sheet_at(&v, 20);
@@ -45,17 +27,20 @@ fn discharge(v: [f64; 30]) {
         ending::not_built(a.refusal);
         return;
     }
-    run(v, a.solver);
+    run(v, a.solver, named);
 }
 
 fn main() {
-    if arguments::asks_help() {
+    let mut text = io::buffer();
+    let size = os::arg(1, &mut text);
+    let first = &text[..size];
+    if help::is_asked(first) {
         help::write_help();
         return;
     }
-    let s = arguments::given();
+    let s = arguments::given(first);
     if s.fault == 0 {
         let values = s.values;
-        discharge(values);
+        discharge(values, first);
     }
 }

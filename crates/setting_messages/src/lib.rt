@@ -2,8 +2,6 @@
 use cell_file::GIVEN_TWICE;
 use cell_file::OUT_OF_RANGE;
 use cell_file::Settings;
-ghost use mathlib.Core.Path.{_≡_};
-ghost use lib.ListN.{length};
 
 pub const OUT: i32 = 1;
 
@@ -11,25 +9,6 @@ pub const ERR: i32 = 2;
 
 pub fn say(fd: i32, words: &[u8]) {
     io::write_all(fd, words);
-}
-
-// A copy, of which a part can be lent.
-fn copied(text: &[u8; 4096]) -> [u8; 4096]
-    ensures { λ r. ⌜ 4096 ≡ length r ⌝ }
-{
-    let mut copy = [0u8; 4096];
-    for i in 0..4096 {
-        copy[i] = text[i];
-    }
-    copy
-}
-
-// Writes the first bytes of a text.
-pub fn first_bytes(fd: i32, text: &[u8; 4096], size: usize) {
-    let copy = copied(text);
-    if size <= 4096 {
-        io::write_all(fd, &copy[..size]);
-    }
 }
 
 fn byte_if(fd: i32, wanted: bool, b: u8) {
@@ -53,7 +32,7 @@ pub fn entry(fd: i32, list: &[u8], wanted: usize) {
 pub fn number(fd: i32, x: f64) {
     let mut line = [0u8; 4096];
     let used = decimal_spelling::put_number(&mut line, 0, x);
-    first_bytes(fd, &line, used);
+    csv_rows::write_line(fd, &line, used);
 }
 
 // Writes the name at a place.
@@ -61,11 +40,7 @@ pub fn name(fd: i32, k: usize) {
     if k >= 30 {
         return;
     }
-    if k >= 20 {
-        say(fd, b"cathode.");
-    } else if k >= 10 {
-        say(fd, b"anode.");
-    }
+    entry(fd, b"|anode.|cathode.|", k / 10);
     for j in 0..12 {
         let b = setting_names::letter(k, j);
         byte_if(fd, b != b' ', b);

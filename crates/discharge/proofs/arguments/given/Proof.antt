@@ -5,13 +5,10 @@ use Rattle.discharge.proofs.arguments.given.Statement.{statement}
 use Rattle.discharge.proofs.arguments.given.Tie as tie
 
 abbrev Inv-loop : tie.InvT-loop
-Inv-loop n st₀ i₀ st i = Prim.Unit {0}
+Inv-loop first st₀ n i₀ st i = Prim.Unit {0}
 
 abbrev μ-loop : tie.MeasureT-loop
-μ-loop n st₀ i₀ st i = n - i
-
-arg-count-requires : tie.Need-arg-count-requires Inv-loop μ-loop
-arg-count-requires c κs = search needs
+μ-loop first st₀ n i₀ st i = n - i
 
 first-cell-requires : tie.Need-first-cell-requires Inv-loop μ-loop
 first-cell-requires c κs = search needs
@@ -19,8 +16,11 @@ first-cell-requires c κs = search needs
 fresh-requires : tie.Need-fresh-requires Inv-loop μ-loop
 fresh-requires c κs = search needs
 
-has-cell-requires : tie.Need-has-cell-requires Inv-loop μ-loop
-has-cell-requires c κs = search needs
+arg-count-requires : tie.Need-arg-count-requires Inv-loop μ-loop
+arg-count-requires c κs = search needs
+
+names-cell-requires : tie.Need-names-cell-requires Inv-loop μ-loop
+names-cell-requires c κs = search needs
 
 either-requires : tie.Need-either-requires Inv-loop μ-loop
 either-requires c κs = search needs
@@ -49,10 +49,10 @@ given-spec =
     (tie.spec
     Inv-loop
     μ-loop
-    arg-count-requires
     first-cell-requires
     fresh-requires
-    has-cell-requires
+    arg-count-requires
+    names-cell-requires
     either-requires
     loop-holds
     take-argument-requires

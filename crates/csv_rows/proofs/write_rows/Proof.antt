@@ -1,8 +1,8 @@
--- `discharge::write_rows` meets its contract. Assumes nothing.
+-- `csv_rows::write_rows` meets its contract. Assumes nothing.
 use Prim.Native.Nat.{_≤_, _-_}
 use borrow.Author.Needs.{needs}
-use Rattle.discharge.proofs.write_rows.Statement.{statement}
-use Rattle.discharge.proofs.write_rows.Tie as tie
+use Rattle.csv_rows.proofs.write_rows.Statement.{statement}
+use Rattle.csv_rows.proofs.write_rows.Tie as tie
 
 abbrev Inv-loop : tie.InvT-loop
 Inv-loop rows count i₀ i = i ≤ count
@@ -10,11 +10,11 @@ Inv-loop rows count i₀ i = i ≤ count
 abbrev μ-loop : tie.MeasureT-loop
 μ-loop rows count i₀ i = count - i
 
-slice-aggregate-say : tie.Need-slice-aggregate-say Inv-loop μ-loop
-slice-aggregate-say c = search needs
+slice-aggregate-write-all : tie.Need-slice-aggregate-write-all Inv-loop μ-loop
+slice-aggregate-write-all c = search needs
 
-say-requires : tie.Need-say-requires Inv-loop μ-loop
-say-requires c κs = search needs
+write-all-requires : tie.Need-write-all-requires Inv-loop μ-loop
+write-all-requires c κs = search needs
 
 loop-holds : tie.Need-loop-holds Inv-loop μ-loop
 loop-holds c = search needs
@@ -40,8 +40,8 @@ write-rows-spec =
     (tie.spec
     Inv-loop
     μ-loop
-    slice-aggregate-say
-    say-requires
+    slice-aggregate-write-all
+    write-all-requires
     loop-holds
     write-row-requires
     add-i

@@ -1,10 +1,10 @@
--- `setting_messages::copied` meets its contract. Assumes nothing.
+-- `csv_rows::copied` meets its contract. Assumes nothing.
 use Prim.Native.Nat.{_≤_, _-_}
 use mathlib.Core.Path.{_≡_}
 use borrow.Author.Needs.{needs}
 use lib.ListN.{length}
-use Rattle.setting_messages.proofs.copied.Statement.{statement}
-use Rattle.setting_messages.proofs.copied.Tie as tie
+use Rattle.csv_rows.proofs.copied.Statement.{statement}
+use Rattle.csv_rows.proofs.copied.Tie as tie
 
 abbrev Inv-loop : tie.InvT-loop
 Inv-loop text copy₀ i₀ copy i = (i ≤ 4096) × (4096 ≡ length copy)
