@@ -1,7 +1,7 @@
--- `solver_plan::argument_refusal` meets its contract. Assumes nothing.
+-- `solver_step::plan::argument_refusal` meets its contract. Assumes nothing.
 use borrow.Author.Needs.{needs}
-use Rattle.solver_plan.proofs.argument_refusal.Statement.{statement}
-use Rattle.solver_plan.proofs.argument_refusal.Tie as tie
+use Rattle.solver_step.proofs.plan.argument_refusal.Statement.{statement}
+use Rattle.solver_step.proofs.plan.argument_refusal.Tie as tie
 
 load-fits-requires : tie.Need-load-fits-requires
 load-fits-requires c κs = search needs

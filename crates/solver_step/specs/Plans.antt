@@ -12,7 +12,7 @@ use Rattle.electrode.specs.declared.ElectrodeParams.{ElectrodeParams}
 use Rattle.electrode.specs.Sheet.{diffusivityAt}
 use Rattle.particle.specs.Particle.{stableStep}
 use Rattle.kinetics.specs.Kinetics.{surfaceCurrent}
-use Rattle.solver_plan.specs.declared.Plan.{Plan}
+use Rattle.solver_step.specs.declared.plan.Plan.{Plan}
 
 -- an electrode's longest sub-step: dt_stable * 0.45
 abbrev longest : ElectrodeParams → ℕ → Float → Float

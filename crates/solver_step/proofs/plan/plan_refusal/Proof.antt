@@ -1,8 +1,8 @@
--- `solver_plan::plan_refusal` meets its contract. Assumes nothing.
-use Rattle.solver_plan.specs.Plans.{planRefusal}
+-- `solver_step::plan::plan_refusal` meets its contract. Assumes nothing.
+use Rattle.solver_step.specs.Plans.{planRefusal}
 use borrow.Author.Needs.{needs}
-use Rattle.solver_plan.proofs.plan_refusal.Statement.{statement}
-use Rattle.solver_plan.proofs.plan_refusal.Tie as tie
+use Rattle.solver_step.proofs.plan.plan_refusal.Statement.{statement}
+use Rattle.solver_step.proofs.plan.plan_refusal.Tie as tie
 
 within-requires : tie.Need-within-requires
 within-requires c κs = search needs

@@ -8,8 +8,8 @@ use Rattle.particle.specs.declared.ParticleDiffusion.{ParticleDiffusion}
 use Rattle.particle.specs.Particle.{surfaceTheta, surfacePotential, averageTheta}
 use Rattle.kinetics.specs.declared.SpmConfig.{SpmConfig}
 use Rattle.kinetics.specs.Kinetics.{overpotential, terminalVoltage}
-use Rattle.solver_report.specs.declared.SpmState.{SpmState}
-use Rattle.solver_report.specs.declared.SurfaceState.{SurfaceState}
+use Rattle.solver_step.specs.declared.report.SpmState.{SpmState}
+use Rattle.solver_step.specs.declared.report.SurfaceState.{SurfaceState}
 
 -- what a particle shows at its surface: stoichiometries, open-circuit potential, overpotential
 abbrev pub surfaceState : SpmConfig → ParticleDiffusion → Float → Float → SurfaceState

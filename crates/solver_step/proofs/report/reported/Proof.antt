@@ -1,7 +1,7 @@
--- `solver_report::reported` meets its contract. Assumes nothing.
+-- `solver_step::report::reported` meets its contract. Assumes nothing.
 use borrow.Author.Needs.{needs}
-use Rattle.solver_report.proofs.reported.Statement.{statement}
-use Rattle.solver_report.proofs.reported.Tie as tie
+use Rattle.solver_step.proofs.report.reported.Statement.{statement}
+use Rattle.solver_step.proofs.report.reported.Tie as tie
 
 terminal-voltage-requires : tie.Need-terminal-voltage-requires
 terminal-voltage-requires c κs = search needs

@@ -5,8 +5,8 @@ use kinetics::surface_current;
 use particle::stable_step;
 ghost use mathlib.Core.Path.{_≡_};
 ghost use Prim.Native.Nat.{_≤_};
-ghost use Rattle.solver_plan.specs.Arguments.{argumentRefusal};
-ghost use Rattle.solver_plan.specs.Plans.{planWith, planRefusal};
+ghost use Rattle.solver_step.specs.Arguments.{argumentRefusal};
+ghost use Rattle.solver_step.specs.Plans.{planWith, planRefusal};
 
 // What a step works with: diffusivities, fluxes, and the interval in units of the longest sub-step.
 pub struct Plan {

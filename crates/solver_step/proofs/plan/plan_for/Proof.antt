@@ -1,7 +1,7 @@
--- `solver_plan::plan_for` meets its contract. Assumes nothing.
+-- `solver_step::plan::plan_for` meets its contract. Assumes nothing.
 use borrow.Author.Needs.{needs}
-use Rattle.solver_plan.proofs.plan_for.Statement.{statement}
-use Rattle.solver_plan.proofs.plan_for.Tie as tie
+use Rattle.solver_step.proofs.plan.plan_for.Statement.{statement}
+use Rattle.solver_step.proofs.plan.plan_for.Tie as tie
 
 diffusivity-at-requires : tie.Need-diffusivity-at-requires
 diffusivity-at-requires c κs = search needs

@@ -1,7 +1,7 @@
--- `solver_report::surface_state` meets its contract. Assumes nothing.
+-- `solver_step::report::surface_state` meets its contract. Assumes nothing.
 use borrow.Author.Needs.{needs}
-use Rattle.solver_report.proofs.surface_state.Statement.{statement}
-use Rattle.solver_report.proofs.surface_state.Tie as tie
+use Rattle.solver_step.proofs.report.surface_state.Statement.{statement}
+use Rattle.solver_step.proofs.report.surface_state.Tie as tie
 
 surface-theta-requires : tie.Need-surface-theta-requires
 surface-theta-requires c κs = search needs

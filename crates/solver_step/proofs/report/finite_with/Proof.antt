@@ -1,7 +1,7 @@
--- `solver_report::finite_with` meets its contract. Assumes nothing.
+-- `solver_step::report::finite_with` meets its contract. Assumes nothing.
 use borrow.Author.Needs.{needs}
-use Rattle.solver_report.proofs.finite_with.Statement.{statement}
-use Rattle.solver_report.proofs.finite_with.Tie as tie
+use Rattle.solver_step.proofs.report.finite_with.Statement.{statement}
+use Rattle.solver_step.proofs.report.finite_with.Tie as tie
 
 is-finite-requires : tie.Need-is-finite-requires
 is-finite-requires c κs = search needs

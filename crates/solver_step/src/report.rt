@@ -10,7 +10,7 @@ use particle::surface_theta;
 ghost use mathlib.Core.Path.{_≡_};
 ghost use Prim.Native.Nat.{_≤_};
 ghost use Rattle.particle.specs.Particle.{particleOf};
-ghost use Rattle.solver_report.specs.Report.{surfaceState, reportWith, finiteWith, noState};
+ghost use Rattle.solver_step.specs.Report.{surfaceState, reportWith, finiteWith, noState};
 
 // What a step reports.
 pub struct SpmState {
