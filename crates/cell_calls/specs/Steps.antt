@@ -8,7 +8,7 @@ use Rattle.particle.specs.declared.ParticleAnswer.{ParticleAnswer}
 use Rattle.particle.specs.Particle.{particleOf}
 use Rattle.particle.specs.Calls as P
 use Rattle.solver_step.specs.declared.SpmParts.{SpmParts}
-use Rattle.solver_report.specs.declared.SpmState.{SpmState}
+use Rattle.solver_step.specs.declared.report.SpmState.{SpmState}
 use Rattle.solver.specs.declared.SpmStepAnswer.{SpmStepAnswer}
 use Rattle.solver.specs.Step as S
 use Rattle.cell_images.specs.Images.{cellAt, putCell, putReport}

@@ -6,7 +6,7 @@ use lib.Ieee.{Float}
 use Rattle.codec.specs.Words.{putWord, floatAt, putFloat, putRow}
 use Rattle.sheet_images.specs.Images.{particleAt, putParticle, configAt, putConfig}
 use Rattle.solver.specs.declared.SpmSolver.{SpmSolver}
-use Rattle.solver_report.specs.declared.SpmState.{SpmState}
+use Rattle.solver_step.specs.declared.report.SpmState.{SpmState}
 use Rattle.image_layout.specs.Layout.{cellAnode, cellCathode, cellClock, cellReport, cellCutoff, cellSubSteps}
 
 -- ---- a cell: configuration, anode, cathode, clock

@@ -12,8 +12,8 @@ use Rattle.refusal.specs.Ranges.{finite, loadFits, intervalFits, temperatureFit
 use Rattle.runs.specs.Endings.{Ended, endedBy, endingOf, byRefusal}
 use Rattle.runs.specs.Rows.{runAfter, rowsAfter}
 use Rattle.solver.specs.declared.SpmSolver.{SpmSolver}
-use Rattle.solver_report.specs.declared.SpmState.{SpmState}
-use Rattle.solver_report.specs.Report.{noState}
+use Rattle.solver_step.specs.declared.report.SpmState.{SpmState}
+use Rattle.solver_step.specs.Report.{noState}
 use Rattle.solver.specs.declared.SpmStepAnswer.{SpmStepAnswer}
 use Rattle.solver.specs.Cell.{gridFits, cellFits}
 use Rattle.solver.specs.Step.{stepped}

@@ -8,7 +8,7 @@ use runs::VOLTAGE;
 use runs::ending_of;
 use runs::put_row;
 use solver::SpmSolver;
-use solver_report::SpmState;
+use solver_step::report::SpmState;
 ghost use mathlib.Core.Path.{_≡_};
 ghost use Prim.Native.Nat.{_<_, _≤_, _^_, _*_};
 ghost use lib.ListN.{length};
@@ -64,7 +64,7 @@ fn start(w: RunSettings, s: SpmSolver) -> RunState
     ensures { λ r. ⌜ r ≡ started w s ⌝ }
 {
     let over = over_after(w, false, 0.0);
-    let state = solver_report::no_state();
+    let state = solver_step::report::no_state();
     RunState {
         solver: s,
         clock: 0.0,

@@ -9,7 +9,7 @@ use native.Mathlib.Nat.{le-refl}
 use lib.Dec.{lit≤, eqb}
 use lib.ListN.{length, getD}
 use lib.Ieee.{Float, nan}
-use Rattle.solver_report.specs.declared.SpmState.{SpmState}
+use Rattle.solver_step.specs.declared.report.SpmState.{SpmState}
 use Rattle.dfn.specs.declared.DfnStep.{DfnStep}
 use Rattle.codec.specs.Words.{wordAt, floatAt, putWord, putRow}
 use Rattle.image_rows.specs.Written.{putEnding}

@@ -3,13 +3,13 @@
 use electrode::ElectrodeParams;
 use profile::profile_finite;
 use profile::profile_fits;
+use profile::sub_step::count_f64;
+use profile::sub_step::inverse_radii;
+use profile::sub_step::prepare;
+use profile::sub_step::sub_steps;
 use profile::sums_of;
 use profile::uniform;
 use refusal::Answer;
-use sub_step::count_f64;
-use sub_step::inverse_radii;
-use sub_step::prepare;
-use sub_step::sub_steps;
 ghost use mathlib.Core.Path.{_≡_};
 ghost use Prim.Native.Nat.{_≤_};
 ghost use Rattle.refusal.specs.Answers.{outcomeOf};

@@ -1,1 +1,2 @@
 pub mod FloatTable
+pub mod InPlace

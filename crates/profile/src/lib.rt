@@ -1,5 +1,7 @@
 // The profile of a particle: 64 places, the first n used. What it is checked for, and the sums of its average over the
-// volume. A changed translation of src/battery/p2d/electrode.rs (`ParticleDiffusion::c_avg`).
+// volume; the sub-step that makes it anew (`sub_step`). A changed translation of src/battery/p2d/electrode.rs (`ParticleDiffusion::c_avg`).
+pub mod sub_step;
+
 use sub_step::count_f64;
 ghost use mathlib.Core.Path.{_≡_};
 ghost use Prim.Native.Nat.{_≤_, _<_};

@@ -10,9 +10,9 @@ use lib.Ieee.{Float}
 use Rattle.binary64.specs.Operators.{_⊕_}
 use Rattle.refusal.specs.Numbers.{notFinite}
 use Rattle.particle.specs.Particle.{particleOf, withProfile}
-use Rattle.solver_plan.specs.declared.Plan.{Plan}
-use Rattle.solver_plan.specs.Plans.{planRefusal, subStepsOf}
-use Rattle.solver_report.specs.declared.SpmState.{SpmState}
+use Rattle.solver_step.specs.declared.plan.Plan.{Plan}
+use Rattle.solver_step.specs.Plans.{planRefusal, subStepsOf}
+use Rattle.solver_step.specs.declared.report.SpmState.{SpmState}
 use Rattle.solver_step.specs.declared.SpmParts.{SpmParts}
 use Rattle.solver_step.specs.declared.SpmReported.{SpmReported}
 use Rattle.solver.specs.declared.SpmSolver.{SpmSolver}

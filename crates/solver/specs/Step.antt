@@ -8,12 +8,12 @@ use lib.Ieee.{Float}
 use Rattle.binary64.specs.Operators.{_⊕_, _⊘_}
 use Rattle.refusal.specs.Numbers.{firstRefusal, notFinite, neither-refused}
 use Rattle.particle.specs.Particle.{withProfile}
-use Rattle.solver_plan.specs.declared.Plan.{Plan}
-use Rattle.solver_plan.specs.Plans.{planWith, planRefusal, subStepsOf}
-use Rattle.solver_report.specs.declared.SpmState.{SpmState}
-use Rattle.solver_report.specs.declared.SurfaceState.{SurfaceState}
-use Rattle.solver_report.specs.Report.{surfaceState, voltageWith, reportAt, noState}
-use Rattle.solver_plan.specs.Arguments.{argumentRefusal}
+use Rattle.solver_step.specs.declared.plan.Plan.{Plan}
+use Rattle.solver_step.specs.Plans.{planWith, planRefusal, subStepsOf}
+use Rattle.solver_step.specs.declared.report.SpmState.{SpmState}
+use Rattle.solver_step.specs.declared.report.SurfaceState.{SurfaceState}
+use Rattle.solver_step.specs.Report.{surfaceState, voltageWith, reportAt, noState}
+use Rattle.solver_step.specs.Arguments.{argumentRefusal}
 use Rattle.solver_step.specs.Moves.{profileAfter, finiteOn}
 use Rattle.solver.specs.declared.SpmSolver.{SpmSolver}
 use Rattle.solver.specs.declared.SpmStepAnswer.{SpmStepAnswer}

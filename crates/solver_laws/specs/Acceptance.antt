@@ -43,8 +43,8 @@ use Rattle.particle_laws.specs.Closure as ParticleClosure
 use Rattle.kinetics.specs.declared.SpmConfig.{SpmConfig}
 use Rattle.kinetics.specs.Kinetics.{configFits, exchange, overpotential}
 use Rattle.solver.specs.declared.SpmSolver.{SpmSolver}
-use Rattle.solver_plan.specs.declared.Plan.{Plan}
-use Rattle.solver_plan.specs.Plans.{planRefusal}
+use Rattle.solver_step.specs.declared.plan.Plan.{Plan}
+use Rattle.solver_step.specs.Plans.{planRefusal}
 use Rattle.solver_step.specs.Moves.{finiteOn}
 use Rattle.solver.specs.Step.{inputRefusal, currentDensity, planOf, advanced, voltageOf, reported, finiteStep, stepped}
 use Rattle.solver_laws.specs.Electrodes.{Electrode, particleAt, config-ranges, config-passed, cell-passed, current-fits, temperature-fits, flux-range}

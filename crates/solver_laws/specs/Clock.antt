@@ -22,8 +22,8 @@ use Rattle.min_max.proofs.ChoiceLaws.{lt-le}
 use Rattle.refusal.specs.Numbers.{firstRefusal, neither-refused}
 use Rattle.solver.specs.declared.SpmSolver.{SpmSolver}
 use Rattle.solver.specs.Cell.{cellRefusal}
-use Rattle.solver_plan.specs.Plans.{planRefusal}
-use Rattle.solver_plan.specs.Arguments.{argumentRefusal}
+use Rattle.solver_step.specs.Plans.{planRefusal}
+use Rattle.solver_step.specs.Arguments.{argumentRefusal}
 use Rattle.solver.specs.Step.{inputRefusal, planOf, planned, stepped}
 use Rattle.solver_laws.specs.Electrodes.{clock-passed, cell-passed, interval-fits, interval-size}
 use Rattle.solver_laws.specs.Closure.{step-passes, step-clock, step-make}

@@ -31,11 +31,11 @@ use Rattle.particle_laws.specs.Checked.{unused-passed, particle-in-range, parti
 use Rattle.particle_laws.specs.Nodes.{node-in}
 use Rattle.kinetics.specs.Kinetics.{configFits}
 use Rattle.solver.specs.declared.SpmSolver.{SpmSolver}
-use Rattle.solver_report.specs.declared.SpmState.{SpmState}
+use Rattle.solver_step.specs.declared.report.SpmState.{SpmState}
 use Rattle.solver.specs.declared.SpmStepAnswer.{SpmStepAnswer}
-use Rattle.solver_plan.specs.declared.Plan.{Plan}
+use Rattle.solver_step.specs.declared.plan.Plan.{Plan}
 use Rattle.solver.specs.Cell.{gridFits, cellRefusal}
-use Rattle.solver_plan.specs.Plans.{planRefusal, subStepsOf}
+use Rattle.solver_step.specs.Plans.{planRefusal, subStepsOf}
 use Rattle.solver_step.specs.Moves.{profileAfter, finiteOn}
 use Rattle.solver.specs.Step.{inputRefusal, planOf, advanced, reported, finiteStep, refusedStep, finished, planned, stepped}
 use Rattle.solver_laws.specs.Electrodes.{Electrode, particleAt, diffusivityIn, fluxIn, config-passed, clock-passed, electrode-passes, grid-passed, count-most, cell-passed, interval-size, sub-step-ranged}

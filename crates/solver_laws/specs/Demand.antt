@@ -22,9 +22,9 @@ use Rattle.particle_laws.specs.Ranges.{ranged-parameters}
 use Rattle.particle_laws.specs.Checked.{particle-in-range}
 use Rattle.solver.specs.declared.SpmSolver.{SpmSolver}
 use Rattle.solver.specs.declared.SpmStepAnswer.{SpmStepAnswer}
-use Rattle.solver_plan.specs.declared.Plan.{Plan}
+use Rattle.solver_step.specs.declared.plan.Plan.{Plan}
 use Rattle.solver.specs.Cell.{cellRefusal}
-use Rattle.solver_plan.specs.Plans.{subStepsOf}
+use Rattle.solver_step.specs.Plans.{subStepsOf}
 use Rattle.solver_step.specs.Moves.{profileAfter}
 use Rattle.solver.specs.Step.{inputRefusal, currentDensity, planOf, advanced, stepped}
 use Rattle.solver_laws.specs.Electrodes.{Electrode, particleAt, diffusivityIn, fluxIn, electrode-passes, count-most, sub-step-ranged}

@@ -35,9 +35,9 @@ use Rattle.particle_laws.specs.Ranges.{Ranged, sheet-ranges, sheet-passed, with
 use Rattle.kinetics.specs.declared.SpmConfig.{SpmConfig}
 use Rattle.kinetics.specs.Kinetics.{configRows, configFits, surfaceCurrent}
 use Rattle.solver.specs.declared.SpmSolver.{SpmSolver}
-use Rattle.solver_plan.specs.declared.Plan.{Plan}
+use Rattle.solver_step.specs.declared.plan.Plan.{Plan}
 use Rattle.solver.specs.Cell.{gridFits, cellRefusal, NodesValid, anode-nodes, cathode-nodes, cell-valid}
-use Rattle.solver_plan.specs.Plans.{planRefusal, subStepsOf}
+use Rattle.solver_step.specs.Plans.{planRefusal, subStepsOf}
 use Rattle.solver.specs.Step.{inputRefusal, currentDensity, planOf}
 
 pub data Electrode : Type 0 where

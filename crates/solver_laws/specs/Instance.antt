@@ -34,8 +34,8 @@ use Rattle.kinetics.specs.declared.SpmConfig.{SpmConfig}
 use Rattle.kinetics.specs.Kinetics.{configFits, surfaceCurrent}
 use Rattle.solver.specs.declared.SpmSolver.{SpmSolver}
 use Rattle.solver.specs.Cell.{cellRefusal, buildRefusal, freshSolver, built, ready, cell-valid}
-use Rattle.solver_plan.specs.declared.Plan.{Plan}
-use Rattle.solver_plan.specs.Plans.{quotientWith, planRefusal, subStepsOf}
+use Rattle.solver_step.specs.declared.plan.Plan.{Plan}
+use Rattle.solver_step.specs.Plans.{quotientWith, planRefusal, subStepsOf}
 use Rattle.solver.specs.Step.{inputRefusal, currentDensity, planOf, planned, stepped}
 use Rattle.solver_laws.specs.Electrodes.{Electrode, particleAt, diffusivityIn, fluxIn, nodes-are, grid-passed, current-range, cathode-flux, anode-flux}
 use Rattle.solver_laws.specs.Closure.{step-count, step-clock}

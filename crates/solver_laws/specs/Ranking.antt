@@ -21,9 +21,9 @@ use Rattle.diffusion.specs.CallLaws.{each-with, both-flip, of-accepted, calls-t
 use Rattle.particle.specs.Particle.{placeOf}
 use Rattle.solver.specs.declared.SpmSolver.{SpmSolver}
 use Rattle.solver.specs.declared.SpmStepAnswer.{SpmStepAnswer}
-use Rattle.solver_plan.specs.declared.Plan.{Plan}
+use Rattle.solver_step.specs.declared.plan.Plan.{Plan}
 use Rattle.solver.specs.Cell.{cellRefusal}
-use Rattle.solver_plan.specs.Plans.{subStepsOf}
+use Rattle.solver_step.specs.Plans.{subStepsOf}
 use Rattle.solver.specs.Step.{planOf}
 use Rattle.solver_laws.specs.Electrodes.{Electrode, particleAt, diffusivityIn, nodes-are, current-fits, cathode-flux, anode-flux}
 use Rattle.solver_laws.specs.Closure.{SameMake, Leads, leads}

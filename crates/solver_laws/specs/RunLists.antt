@@ -17,7 +17,7 @@ use Rattle.particle.specs.Particle.{placeOf}
 use Rattle.runs.specs.Rows.{runAfter}
 use Rattle.solver.specs.declared.SpmSolver.{SpmSolver}
 use Rattle.solver.specs.Cell.{gridFits, cellFits, cellRefusal}
-use Rattle.solver_plan.specs.Plans.{subStepsOf}
+use Rattle.solver_step.specs.Plans.{subStepsOf}
 use Rattle.discharge_run.specs.declared.RunSettings.{RunSettings}
 use Rattle.discharge_run.specs.declared.RunState.{RunState}
 use Rattle.discharge_run.specs.Discharge.{RunOutcome, overOf, lastRow, started, followed, turned, finishedRun, allTurns, runRefusal, refusedRun, discharged}

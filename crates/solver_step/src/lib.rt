@@ -1,15 +1,18 @@
-// What a step of the single-particle cell does once its plan stands: the sub-steps on lent profiles, and the report after them. Of
+// A step of the single-particle cell: it is planned (`plan`), followed here by the sub-steps on lent profiles, and reported (`report`). Of
 // oxigrid's src/battery/p2d/solver.rs, changed. The area is the anode's; what does not change within a step is worked out once.
+pub mod plan;
+pub mod report;
+
 use electrode::ElectrodeParams;
 use kinetics::SpmConfig;
 use particle::advance;
+use plan::Plan;
 use profile::profile_finite;
-use solver_plan::Plan;
-use solver_report::SpmState;
-use solver_report::finite_with;
-use solver_report::no_state;
-use solver_report::reported;
-use solver_report::surface_state;
+use report::SpmState;
+use report::finite_with;
+use report::no_state;
+use report::reported;
+use report::surface_state;
 ghost use mathlib.Core.Path.{_≡_};
 ghost use Prim.Native.Nat.{_≤_};
 ghost use Rattle.solver_step.specs.Moves.{refusedMove, stepInPlace, followedOn};

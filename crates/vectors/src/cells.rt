@@ -13,7 +13,7 @@ use particle::ParticleDiffusion;
 use solver::SpmBuildAnswer;
 use solver::SpmSolver;
 use solver::SpmStepAnswer;
-use solver_report::SpmState;
+use solver_step::report::SpmState;
 
 // A config whose count of nodes is read already.
 fn next_config(fd: i32, n_nodes: u64) -> SpmConfig {

@@ -26,9 +26,9 @@ use Rattle.matrix_columns.specs.Columns.{rowLess, rowCleared, columnCleared, pi
 use Rattle.dense_elimination.specs.Elimination.{candidate, larger, pivotOf, columnWith, columnDone, eliminated}
 use Rattle.dense.specs.Substitution.{takenOut, columnSolved, substituted}
 use Rattle.dense.specs.Solve.{placeLoaded, rowLoaded, matrixLoaded, loaded, reduced, solution, inputRefusal, solutionRefusal, answer, solved}
-use Rattle.solver_plan.specs.declared.Plan.{Plan}
-use Rattle.solver_plan.specs.Plans.{planRefusal}
-use Rattle.solver_report.specs.declared.SpmState.{SpmState}
+use Rattle.solver_step.specs.declared.plan.Plan.{Plan}
+use Rattle.solver_step.specs.Plans.{planRefusal}
+use Rattle.solver_step.specs.declared.report.SpmState.{SpmState}
 use Rattle.solver.specs.declared.SpmSolver.{SpmSolver}
 use Rattle.solver.specs.Step.{finiteStep, finished}
 use Rattle.dfn_solid.specs.declared.ParticleParams.{ParticleParams}

@@ -1,6 +1,6 @@
 -- `particle::advance` meets its contract: the prepared sub-step is the sub-step. Assumes nothing.
 use Rattle.iterate.specs.Iterate.{times-cong}
-use Rattle.sub_step.specs.Same.{same-sub-step}
+use Rattle.profile.specs.Same.{same-sub-step}
 use Rattle.particle.specs.Particle.{particleOf, subStepParamsOf}
 use borrow.Author.Needs.{needs}
 use Rattle.particle.proofs.advance.Statement.{statement}

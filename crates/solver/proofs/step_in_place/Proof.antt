@@ -6,10 +6,10 @@ use mathlib.Core.List.{List}
 use lib.Ieee.{Float}
 use borrow.Author.Tests.{eq-eqb, ne-eqb}
 use Rattle.refusal.specs.Numbers.{firstRefusal, notFinite}
-use Rattle.solver_plan.specs.declared.Plan.{Plan}
-use Rattle.solver_plan.specs.Arguments.{argumentRefusal}
-use Rattle.solver_plan.specs.Plans.{planRefusal, subStepsOf}
-use Rattle.solver_report.specs.declared.SpmState.{SpmState}
+use Rattle.solver_step.specs.declared.plan.Plan.{Plan}
+use Rattle.solver_step.specs.Arguments.{argumentRefusal}
+use Rattle.solver_step.specs.Plans.{planRefusal, subStepsOf}
+use Rattle.solver_step.specs.declared.report.SpmState.{SpmState}
 use Rattle.solver_step.specs.declared.SpmReported.{SpmReported}
 use Rattle.solver_step.specs.declared.SpmParts.{SpmParts}
 use Rattle.solver_step.specs.Moves.{StepInPlace, stepInPlace, refusedMove, reportOn, finiteOn, finishedOn, followedOn}

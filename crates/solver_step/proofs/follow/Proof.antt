@@ -11,12 +11,12 @@ use Rattle.refusal.specs.Numbers.{notFinite}
 use Rattle.profile.specs.Places.{finiteProfile}
 use Rattle.particle.specs.declared.ParticleDiffusion.{ParticleDiffusion}
 use Rattle.particle.specs.Particle.{particleOf, subStepParamsOf}
-use Rattle.solver_plan.specs.declared.Plan.{Plan}
-use Rattle.solver_plan.specs.Plans.{subStepsOf}
-use Rattle.solver_report.specs.declared.SpmState.{SpmState}
+use Rattle.solver_step.specs.declared.plan.Plan.{Plan}
+use Rattle.solver_step.specs.Plans.{subStepsOf}
+use Rattle.solver_step.specs.declared.report.SpmState.{SpmState}
 use Rattle.solver_step.specs.declared.SpmParts.{SpmParts}
-use Rattle.solver_report.specs.declared.SurfaceState.{SurfaceState}
-use Rattle.solver_report.specs.Report.{surfaceState, reportWith, finiteWith}
+use Rattle.solver_step.specs.declared.report.SurfaceState.{SurfaceState}
+use Rattle.solver_step.specs.Report.{surfaceState, reportWith, finiteWith}
 use Rattle.solver_step.specs.Moves.{profileAfter, stepInPlace, refusedMove, negAfter, posAfter, reportOn, finiteOn, finishedOn, followedOn}
 use borrow.Author.Needs.{needs}
 use Rattle.solver_step.proofs.follow.Statement.{statement}

@@ -1,0 +1,12 @@
+-- `solver_step::report::no_state` meets its contract. Assumes nothing.
+use mathlib.Core.Path.{refl}
+use Rattle.solver_step.specs.Report.{noState}
+use Rattle.solver_step.proofs.report.no_state.Statement.{statement}
+use Rattle.solver_step.proofs.report.no_state.Tie as tie
+
+returns : tie.Need-returns
+unfolding noState
+returns c = refl
+
+pub no-state-spec : {M : Type 1} → statement M
+no-state-spec = tie.close (tie.spec returns)
