@@ -6,8 +6,8 @@ use lib.Ieee.{Float}
 use Rattle.binary64.specs.Operators.{_⊗_}
 use Rattle.binary64.specs.Decimal.{decimal}
 use Rattle.binary64.specs.Literals.{«1·0», «10·0»}
-use Rattle.decimals.specs.declared.Reading.{Reading}
-use Rattle.decimals.specs.declared.Reading.the-variants.{Value, TooLong}
+use Rattle.decimal_text.specs.declared.nearest.Reading.{Reading}
+use Rattle.decimal_text.specs.declared.nearest.Reading.the-variants.{Value, TooLong}
 
 -- 10 ^ k, multiplied up from 1
 unfoldable pub tens : ℕ → Float

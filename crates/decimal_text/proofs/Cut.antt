@@ -6,8 +6,8 @@ use native.Mathlib.Nat.{min-eq-right, le-trans, mul-le-mul-left, mul-one, one-le
 use native.Mathlib.Omega.{arith, min-cases}
 use borrow.Author.Tests.{lt-leb}
 use lib.Dec.{leb}
-use Rattle.decimals.specs.declared.Reading.the-variants.{TooLong}
-use Rattle.decimals.specs.Nearest.{nearestTo}
+use Rattle.decimal_text.specs.declared.nearest.Reading.the-variants.{TooLong}
+use Rattle.decimal_text.specs.Nearest.{nearestTo}
 use Rattle.decimal_text.specs.Digits.{most}
 use Rattle.decimal_text.specs.DecimalText.{scaledBy}
 

@@ -1,10 +1,11 @@
 -- Digits and power of ten are exact, so their quotient is the decimal rounded once. Assumes nothing.
 use Prim.Native.Nat.{ℕ, _*_, _^_, _≤_, _<_}
 use mathlib.Core.Path.{_≡_, sym, ap, _∙_}
-use mathlib.Core.Bool.{Bool, false, _&&_}
+use mathlib.Core.Bool.{Bool, true, false, _&&_}
 use native.Mathlib.Nat.{mul-one, mul-pos, mul-assoc, mul-comm, mul-left-comm, one-le-pow, zero-lt-suc}
 use native.Mathlib.Omega.{arith}
-use lib.Dec.{T, eqb, eqb→eq}
+use borrow.Author.Tests.{leb-true}
+use lib.Dec.{T, leb, eqb, eqb→eq}
 use lib.IntN.{pos}
 use lib.Ieee.{Float, binary64, unlike, round, mul, ofBits}
 use lib.Ieee.Fits.{and-l, and-r}
@@ -16,7 +17,8 @@ use Rattle.binary64.specs.Opened.{div-is}
 use Rattle.binary64.specs.Order.{int-value, value-finite, value-sign, value-cross}
 use Rattle.binary64.specs.Decimal.{decimal}
 use Rattle.iterate.specs.Iterate.{allBelow, all-at}
-use Rattle.decimals.specs.Nearest.{tens}
+use Rattle.decimal_text.proofs.Both.{both-l, both-r}
+use Rattle.decimal_text.specs.Nearest.{tens}
 
 -- above 0, and the whole number n
 abbrev whole : Float → ℕ → Bool
@@ -54,3 +56,7 @@ module _ (x y : Float) (m p : ℕ) (hx : HasValue x false m 1) (hy : T (whole y 
 
 pub quotient-is : (m k : ℕ) → m ≤ 2 ^ 53 → k ≤ 22 → count m ⊘ tens k ≡ decimal m k
 quotient-is m k h l = once (count m) (tens k) m (10 ^ k) (int-value (pos m) h) (all-at (λ j. whole (tens j) (10 ^ j)) 23 k (omega arith) tens-whole) (one-le-pow k 10 (zero-lt-suc 9))
+
+-- the same from the test of both bounds
+pub quotient-within : (m k : ℕ) → leb m (2 ^ 53) && leb k 22 ≡ true → count m ⊘ tens k ≡ decimal m k
+quotient-within m k h = quotient-is m k (leb-true m (2 ^ 53) (both-l (leb m (2 ^ 53)) (leb k 22) h)) (leb-true k 22 (both-r (leb m (2 ^ 53)) (leb k 22) h))

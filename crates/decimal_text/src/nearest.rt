@@ -1,9 +1,7 @@
 // Decimals as people type them: the binary64 nearest to digits / 10^places. Up to 2^53 the digits are a float exactly, and up to 22 so is the
 // power of ten, so the quotient rounds once; anything longer is not read.
 ghost use mathlib.Core.Path.{_≡_};
-ghost use Prim.Native.Nat.{_≤_, _^_};
-ghost use Rattle.binary64.specs.Decimal.{decimal};
-ghost use Rattle.decimals.specs.Nearest.{tens, nearestTo};
+ghost use Rattle.decimal_text.specs.Nearest.{tens, nearestTo};
 
 pub enum Reading {
     Value(f64),
@@ -21,22 +19,12 @@ fn power_of_ten(k: usize) -> f64
     p
 }
 
-fn quotient(digits: u64, places: usize) -> f64
-    requires { ⌜ (digits ≤ 2 ^ 53) × (places ≤ 22) ⌝ }
-    ensures { λ r. ⌜ r ≡ decimal digits places ⌝ }
-{
-    std::num::nearest_u64_to_f64(digits) / power_of_ten(places)
-}
-
 // The binary64 nearest to digits / 10^places.
 pub fn nearest(digits: u64, places: usize) -> Reading
     ensures { λ r. ⌜ r ≡ nearestTo digits places ⌝ }
 {
-    if digits > 9007199254740992 {
-        return Reading::TooLong;
+    if (digits <= 9007199254740992) & (places <= 22) {
+        return Reading::Value(std::num::nearest_u64_to_f64(digits) / power_of_ten(places));
     }
-    if places > 22 {
-        return Reading::TooLong;
-    }
-    Reading::Value(quotient(digits, places))
+    Reading::TooLong
 }

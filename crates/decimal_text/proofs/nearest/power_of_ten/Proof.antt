@@ -1,12 +1,12 @@
--- `decimals::power_of_ten` meets its contract: after i turns the product is the i-th. Assumes nothing.
+-- `decimal_text::nearest::power_of_ten` meets its contract: after i turns the product is the i-th. Assumes nothing.
 use Prim.Native.Nat.{_≤_, _-_}
 use mathlib.Core.Path.{_≡_, refl}
 use native.Mathlib.Numerals.{add-one}
 use native.Mathlib.Omega.{arith}
 use borrow.Author.Needs.{needs}
-use Rattle.decimals.specs.Nearest.{tens}
-use Rattle.decimals.proofs.power_of_ten.Statement.{statement}
-use Rattle.decimals.proofs.power_of_ten.Tie as tie
+use Rattle.decimal_text.specs.Nearest.{tens}
+use Rattle.decimal_text.proofs.nearest.power_of_ten.Statement.{statement}
+use Rattle.decimal_text.proofs.nearest.power_of_ten.Tie as tie
 
 abbrev Inv-loop : tie.InvT-loop
 Inv-loop k p₀ i₀ p i = (i ≤ k) × (p ≡ tens i)
