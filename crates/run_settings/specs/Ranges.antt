@@ -8,7 +8,7 @@ use Rattle.electrode.specs.Sheet.{sheetRows}
 use Rattle.kinetics.specs.declared.SpmConfig.{SpmConfig}
 use Rattle.kinetics.specs.Kinetics.{configRows}
 use Rattle.refusal.specs.Ranges.{Row, row, inRange, loadFits, temperatureFits}
-use Rattle.setting_ranges.specs.Ranges.{lowOf, highOf, lowEnds, highEnds}
+use Rattle.setting_table.specs.Ranges.{lowOf, highOf, lowEnds, highEnds}
 
 -- a number with the range of the name at a place
 abbrev pub placeRow : ℕ → Float → Row
