@@ -1,4 +1,6 @@
 // A cell file: a line NAME = VALUE for each number that it sets; '#' begins a remark. What it sets, or the first fault with its line.
+pub mod records;
+
 ghost use mathlib.Core.Path.{_≡_};
 ghost use Prim.Native.Nat.{_≤_, _<_};
 ghost use lib.ListN.{length};

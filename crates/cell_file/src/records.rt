@@ -3,7 +3,7 @@ use electrode::ElectrodeParams;
 use kinetics::SpmConfig;
 ghost use mathlib.Core.Path.{_≡_};
 ghost use Prim.Native.Nat.{_≤_};
-ghost use Rattle.run_settings.specs.Records.{readyWith, sheetAt, configAt};
+ghost use Rattle.cell_file.specs.Records.{readyWith, tenAt, sheetAt, configAt};
 
 // A graphite anode with a cathode: 5 A at 298.15 K, a row each 10 s, for an hour or down to 3 V; else the Rust's default config.
 pub fn ready(q: ElectrodeParams) -> [f64; 30]
@@ -44,22 +44,35 @@ pub fn ready(q: ElectrodeParams) -> [f64; 30]
     ]
 }
 
+// The ten numbers from a place on.
+fn ten_at(v: &[f64; 30], base: usize) -> [f64; 10]
+    requires { ⌜ base ≤ 20 ⌝ }
+    ensures { λ r. ⌜ r ≡ tenAt (now (v .entry)) base ⌝ }
+{
+    let mut ten = [0.0; 10];
+    for i in 0..10 {
+        ten[i] = v[base + i];
+    }
+    ten
+}
+
 // The sheet whose ten numbers begin at a place: the anode's at 10, the cathode's at 20.
 pub fn sheet_at(v: &[f64; 30], base: usize) -> ElectrodeParams
     requires { ⌜ base ≤ 20 ⌝ }
     ensures { λ r. ⌜ r ≡ sheetAt (now (v .entry)) base ⌝ }
 {
+    let ten = ten_at(v, base);
     ElectrodeParams {
-        electrode_type: min_max::ceil_count(v[base]),
-        r_particle: v[base + 1],
-        d_s_ref: v[base + 2],
-        c_s_max: v[base + 3],
-        theta_init: v[base + 4],
-        thickness: v[base + 5],
-        epsilon_s: v[base + 6],
-        area: v[base + 7],
-        e_a_ds: v[base + 8],
-        k_bv: v[base + 9],
+        electrode_type: min_max::ceil_count(ten[0]),
+        r_particle: ten[1],
+        d_s_ref: ten[2],
+        c_s_max: ten[3],
+        theta_init: ten[4],
+        thickness: ten[5],
+        epsilon_s: ten[6],
+        area: ten[7],
+        e_a_ds: ten[8],
+        k_bv: ten[9],
     }
 }
 
@@ -67,12 +80,13 @@ pub fn sheet_at(v: &[f64; 30], base: usize) -> ElectrodeParams
 pub fn config_of(v: &[f64; 30]) -> SpmConfig
     ensures { λ r. ⌜ r ≡ configAt (now (v .entry)) ⌝ }
 {
+    let numbers = *v;
     SpmConfig {
-        n_nodes: min_max::ceil_count(v[4]) as usize,
-        v_min: v[5],
-        v_max: v[6],
-        faraday: v[7],
-        r_gas: v[8],
-        r_electrolyte_ohm_m2: v[9],
+        n_nodes: min_max::ceil_count(numbers[4]) as usize,
+        v_min: numbers[5],
+        v_max: numbers[6],
+        faraday: numbers[7],
+        r_gas: numbers[8],
+        r_electrolyte_ohm_m2: numbers[9],
     }
 }

@@ -27,6 +27,20 @@ readyWith q =
     count (p .«electrode_type») ∷ p .«r_particle» ∷ p .«d_s_ref» ∷ p .«c_s_max» ∷ p .«theta_init» ∷ p .thickness ∷ p .«epsilon_s» ∷ p .area ∷ p .«e_a_ds» ∷ p .«k_bv» ∷
     count (q .«electrode_type») ∷ q .«r_particle» ∷ q .«d_s_ref» ∷ q .«c_s_max» ∷ q .«theta_init» ∷ q .thickness ∷ q .«epsilon_s» ∷ q .area ∷ q .«e_a_ds» ∷ q .«k_bv» ∷ [])
 
+-- the ten numbers from a place on
+unfoldable pub tenAt : List Float → ℕ → List Float
+tenAt v base =
+    (getD v base nan ∷
+    getD v (base + 1) nan ∷
+    getD v (base + 2) nan ∷
+    getD v (base + 3) nan ∷
+    getD v (base + 4) nan ∷
+    getD v (base + 5) nan ∷
+    getD v (base + 6) nan ∷
+    getD v (base + 7) nan ∷
+    getD v (base + 8) nan ∷
+    getD v (base + 9) nan ∷ [])
+
 -- the sheet whose ten numbers begin at a place
 unfoldable pub sheetAt : List Float → ℕ → ElectrodeParams
 sheetAt v base = record {

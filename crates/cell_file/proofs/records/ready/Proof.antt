@@ -1,8 +1,8 @@
--- `run_settings::ready` meets its contract. Assumes nothing.
+-- `cell_file::records::ready` meets its contract. Assumes nothing.
 use borrow.Author.Needs.{needs}
-use Rattle.run_settings.specs.Records.{readyWith}
-use Rattle.run_settings.proofs.ready.Statement.{statement}
-use Rattle.run_settings.proofs.ready.Tie as tie
+use Rattle.cell_file.specs.Records.{readyWith}
+use Rattle.cell_file.proofs.records.ready.Statement.{statement}
+use Rattle.cell_file.proofs.records.ready.Tie as tie
 
 graphite-anode-requires : tie.Need-graphite-anode-requires
 graphite-anode-requires c κs = search needs
