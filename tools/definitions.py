@@ -82,7 +82,7 @@ class Library:
         rust = re.fullmatch(r"(\w+)(?:::\w+)+", module)
         if rust or (m and m.group(2).startswith("declared.")):
             folder = TOP / "crates" / (rust or m).group(1) / "src"
-            name = name if rust else m.group(2).split(".")[-1]
+            name = name if rust else next(w for w in m.group(2).split(".")[1:] if w[0].isupper())
             for path in sorted(folder.rglob("*.rt")):
                 for d in self.source(path).declared:
                     if d.name == name:

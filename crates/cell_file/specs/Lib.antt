@@ -1,4 +1,8 @@
 -- A cell file.
 --
 -- Settings: what a line sets, and what a file sets.
+-- Records: the thirty numbers that a run starts from, and the records that they make.
+-- Ranges: the ranges of the names are those of the records' own tests.
 pub mod Settings
+pub mod Records
+pub mod Ranges

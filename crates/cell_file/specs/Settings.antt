@@ -8,8 +8,8 @@ use lib.Ieee.{Float}
 use Rattle.decimal_text.specs.declared.Decimal.{Decimal}
 use Rattle.decimal_text.specs.declared.Decimal.the-variants.{Number, TooLong, NotDecimal}
 use Rattle.decimal_text.specs.DecimalText.{numberOf}
-use Rattle.setting_names.specs.Names.{placeOf}
-use Rattle.setting_ranges.specs.Ranges.{inPlace, isCount, isWhole}
+use Rattle.setting_table.specs.Names.{placeOf}
+use Rattle.setting_table.specs.Ranges.{inPlace, isCount, isWhole}
 use Rattle.cell_file.specs.declared.Setting.{Setting}
 use Rattle.cell_file.specs.declared.Settings.{Settings}
 use Rattle.plain_text.specs.Text.{indexOf, trimmed, before, linesOf, afterMark}

@@ -1,4 +1,6 @@
 // A cell file: a line NAME = VALUE for each number that it sets; '#' begins a remark. What it sets, or the first fault with its line.
+pub mod records;
+
 ghost use mathlib.Core.Path.{_≡_};
 ghost use Prim.Native.Nat.{_≤_, _<_};
 ghost use lib.ListN.{length};
@@ -45,10 +47,10 @@ fn number_fault(k: usize, x: f64) -> u64
     requires { ⌜ k < 30 ⌝ }
     ensures { λ r. ⌜ r ≡ numberFault k x ⌝ }
 {
-    if !setting_ranges::in_range(k, x) {
+    if !setting_table::ranges::in_range(k, x) {
         return OUT_OF_RANGE;
     }
-    if setting_ranges::is_count(k) & !setting_ranges::is_whole(x) {
+    if setting_table::ranges::is_count(k) & !setting_table::ranges::is_whole(x) {
         return NOT_WHOLE;
     }
     0
@@ -80,7 +82,7 @@ fn valued_as(k: usize, d: Decimal) -> Setting
 fn assign(name: &[u8], value: &[u8]) -> Setting
     ensures { λ r. ⌜ r ≡ assigned (now (name .entry)) (now (value .entry)) ⌝ }
 {
-    let k = setting_names::place_of(plain_text::without_blanks(name));
+    let k = setting_table::names::place_of(plain_text::without_blanks(name));
     if k < 30 {
         return valued_as(k, decimal_text::read(plain_text::without_blanks(value)));
     }

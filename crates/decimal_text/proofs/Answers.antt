@@ -9,7 +9,7 @@ use Rattle.decimal_text.specs.Digits.{most}
 use Rattle.decimal_text.specs.DecimalText.{partsOf, isDecimal, exponentOf, scaledBy, signed, numberOf}
 use Rattle.decimal_text.specs.declared.Parts.{Parts}
 use Rattle.decimal_text.specs.declared.Decimal.the-variants.{TooLong, NotDecimal}
-use Rattle.decimal_text.proofs.Nearest.{scaled-cut}
+use Rattle.decimal_text.proofs.Cut.{scaled-cut}
 
 module _ (s : List ℕ) (p : Parts) (e : p ≡ partsOf s) where
   is-whole : p .whole ≡ isDecimal s

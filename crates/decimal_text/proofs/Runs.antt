@@ -1,7 +1,7 @@
 -- A run of digits, digit by digit, with its number cut where it cannot be read. Assumes nothing.
 use Prim.Native.Nat.{ℕ, suc, _+_, _*_, _-_, _^_, _≤_, _<_, min}
-use mathlib.Core.Path.{_≡_, refl, sym, _∙_}
-use mathlib.Core.Bool.{Bool, true, false, cond, _&&_, _||_}
+use mathlib.Core.Path.{_≡_, sym, _∙_}
+use mathlib.Core.Bool.{Bool, true, false, cond, _||_}
 use mathlib.Core.List.{List, [], _∷_}
 use native.Mathlib.Nat.{min-eq-right, le-refl, le-trans, pow-suc, mul-assoc, mul-comm, mul-left-comm}
 use native.Mathlib.Numerals.{add-one}
@@ -10,15 +10,8 @@ use borrow.Author.Tests.{leb-true, ltb-true}
 use lib.Dec.{leb, ltb, eqb}
 use lib.ListN.{length, drop, getD, drop-of-length-le}
 use lib.Seq.{drop-cons}
+use Rattle.decimal_text.proofs.Both.{both-l, both-r}
 use Rattle.decimal_text.specs.Digits.{most, isDigit, isAt, digitsAhead, valueWith}
-
-both-l : (a b : Bool) → a && b ≡ true → a ≡ true
-both-l true b h = refl
-both-l false b h = h
-
-both-r : (a b : Bool) → a && b ≡ true → b ≡ true
-both-r true b h = h
-both-r false b h = cc
 
 pub digit-low : (b : ℕ) → isDigit b ≡ true → 48 ≤ b
 digit-low b h = leb-true 48 b (both-l (leb 48 b) (leb b 57) h)

@@ -5,9 +5,9 @@ use mathlib.Core.List.{List}
 use lib.Dec.{leb, ltb, eqb}
 use lib.ListN.{length, drop}
 use lib.Ieee.{neg}
-use Rattle.decimals.specs.declared.Reading.{Reading}
-use Rattle.decimals.specs.declared.Reading.the-variants.{Value, TooLong as PastReading}
-use Rattle.decimals.specs.Nearest.{nearestTo}
+use Rattle.decimal_text.specs.declared.nearest.Reading.{Reading}
+use Rattle.decimal_text.specs.declared.nearest.Reading.the-variants.{Value, TooLong as PastReading}
+use Rattle.decimal_text.specs.Nearest.{nearestTo}
 use Rattle.decimal_text.specs.Digits.{most, valueWith, digitsEnd, isAt, pastEither}
 use Rattle.decimal_text.specs.declared.Decimal.{Decimal}
 use Rattle.decimal_text.specs.declared.Decimal.the-variants.{Number, TooLong, NotDecimal}

@@ -1,11 +1,13 @@
 // Reading a decimal out of text: a sign, digits with a point among them, an exponent, as 298.15, -5, .5 or 2e-4, and nothing else.
+pub mod nearest;
+
 ghost use mathlib.Core.Path.{_≡_};
 ghost use mathlib.Core.Bool.{true, cond};
 ghost use Prim.Native.Nat.{_+_, _*_, _-_, _^_, _≤_, min};
 ghost use lib.ListN.{drop};
 ghost use Rattle.decimal_text.specs.Digits.{most, isDigit, isAt, pastEither, digitsEnd, valueWith};
 ghost use Rattle.decimal_text.specs.DecimalText.{partsOf, scaledBy, signed, numberOf};
-use decimals::Reading;
+use nearest::Reading;
 
 // From here on a number of digits is too long to be read, however it goes on.
 const MOST: u64 = 1000000000000000000;
@@ -140,12 +142,12 @@ fn scaled(digits: u64, places: usize, exponent: usize, down: bool) -> Reading
         if places > 22 {
             return Reading::TooLong;
         }
-        return decimals::nearest(digits, places + exponent);
+        return nearest::nearest(digits, places + exponent);
     }
     if exponent < places {
-        return decimals::nearest(digits, places - exponent);
+        return nearest::nearest(digits, places - exponent);
     }
-    decimals::nearest(raised(digits, exponent - places), 0)
+    nearest::nearest(raised(digits, exponent - places), 0)
 }
 
 fn with_sign(negative: bool, r: Reading) -> Decimal

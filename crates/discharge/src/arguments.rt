@@ -1,9 +1,9 @@
 // The arguments: the first may name the cell, each other one is NAME=VALUE.
 use cell_file::Settings;
+use cell_file::records::ready;
 use cell_file::take_cell;
 use cell_file::take_line;
 use electrode::ElectrodeParams;
-use run_settings::ready;
 use setting_messages::ERR;
 use setting_messages::say;
 

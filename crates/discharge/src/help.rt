@@ -1,7 +1,7 @@
 // The list of names, with units, ranges and what a run starts from.
+use cell_file::records::ready;
 use crate::arguments::is;
 use electrode::ElectrodeParams;
-use run_settings::ready;
 use setting_messages::OUT;
 use setting_messages::say;
 use setting_messages::write_name;

@@ -5,8 +5,8 @@ mod arguments;
 mod ending;
 mod help;
 
-use run_settings::config_of;
-use run_settings::sheet_at;
+use cell_file::records::config_of;
+use cell_file::records::sheet_at;
 use solver::SpmSolver;
 
 fn run(v: [f64; 30], cell: SpmSolver, named: &[u8]) {

@@ -42,7 +42,7 @@ pub fn name(fd: i32, k: usize) {
     }
     entry(fd, b"|anode.|cathode.|", k / 10);
     for j in 0..12 {
-        let b = setting_names::letter(k, j);
+        let b = setting_table::names::letter(k, j);
         byte_if(fd, b != b' ', b);
     }
 }
@@ -72,10 +72,10 @@ pub fn range(fd: i32, k: usize) {
     if k == 1 {
         say(fd, b"above 0");
     } else {
-        number(fd, setting_ranges::low(k));
+        number(fd, setting_table::ranges::low(k));
     }
     say(fd, b" to ");
-    number(fd, setting_ranges::high(k));
+    number(fd, setting_table::ranges::high(k));
     unit(fd, k);
 }
 
@@ -145,7 +145,7 @@ pub fn write_name(v: &[f64; 30], k: usize) {
     unit(OUT, k);
     say(OUT, b"  (");
     range(OUT, k);
-    if setting_ranges::is_count(k) {
+    if setting_table::ranges::is_count(k) {
         say(OUT, b", whole");
     }
     say(OUT, b")\n");

@@ -4,7 +4,7 @@ use mathlib.Core.Path.{_∙_}
 use native.Mathlib.Omega.{arith}
 use borrow.Author.Needs.{needs}
 use Rattle.decimal_text.specs.DecimalText.{scaledBy}
-use Rattle.decimal_text.proofs.Nearest.{nearest-long, scaled-places, scaled-raised}
+use Rattle.decimal_text.proofs.Cut.{nearest-long, scaled-places, scaled-raised}
 use Rattle.decimal_text.proofs.scaled.Statement.{statement}
 use Rattle.decimal_text.proofs.scaled.Tie as tie
 

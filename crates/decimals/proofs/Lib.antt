@@ -1,2 +1,0 @@
--- Exact: up to 22 the power of ten is exact, so a quotient rounds once.
-pub mod Exact

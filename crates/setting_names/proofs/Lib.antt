@@ -1,2 +1,0 @@
--- Ways: the three ways to a name's place.
-pub mod Ways
