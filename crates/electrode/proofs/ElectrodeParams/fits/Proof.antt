@@ -1,6 +1,7 @@
 -- `electrode::ElectrodeParams::fits` meets its contract. Assumes nothing.
-use mathlib.Core.Path.{_≡_, refl}
-use mathlib.Core.Bool.{Bool, true, false}
+use Prim.Native.Nat.{ℕ}
+use mathlib.Core.Path.{_≡_, refl, ap, _∙_}
+use mathlib.Core.Bool.{Bool, true, false, _&&_}
 use lib.Dec.{eqb}
 use borrow.Author.Needs.{needs}
 use Rattle.refusal.specs.Numbers.{refusalUnless, sheet}
@@ -13,11 +14,26 @@ unfolding refusalUnless
 none-where true = refl
 none-where false = refl
 
+infixl 50 _both_
+_both_ : {a b c d : Bool} → a ≡ b → c ≡ d → a && c ≡ b && d
+e both f = rw (e, f)
+
 chemistry-refusal-requires : tie.Need-chemistry-refusal-requires
 chemistry-refusal-requires c κs = search needs
 
 returns : tie.Need-returns
-returns c = cc (none-where (chemistryFits (c .before .before .before .before .before .before .before .before .before .before .args .self .«electrode_type»)))
+returns c =
+    (ap (λ (r : ℕ). eqb r 0) (c .before .before .before .before .before .before .before .before .before .chemistry-refusal .ensures)
+    ∙ none-where (chemistryFits (c .before .before .before .before .before .before .before .before .before .before .args .self .«electrode_type»)))
+    both c .before .before .before .before .before .before .before .before .within .ensures
+    both c .before .before .before .before .before .before .before .within2 .ensures
+    both c .before .before .before .before .before .before .within3 .ensures
+    both c .before .before .before .before .before .within4 .ensures
+    both c .before .before .before .before .within5 .ensures
+    both c .before .before .before .within6 .ensures
+    both c .before .before .within7 .ensures
+    both c .before .within8 .ensures
+    both c .within9 .ensures
 
 pub fits-spec : {M : Type 1} → statement M
 fits-spec =
