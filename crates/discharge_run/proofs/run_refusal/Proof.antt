@@ -1,10 +1,10 @@
 -- `discharge_run::run_refusal` meets its contract. Assumes nothing.
 use Prim.Native.Nat.{ℕ, zero, suc}
 use mathlib.Core.Path.{_≡_, refl, _∙_}
-use mathlib.Core.Bool.{Bool, _&&_}
 use lib.Dec.{eqb·suc-zero}
 use Rattle.refusal.specs.Numbers as N
-use Rattle.refusal.specs.Numbers.{firstRefusal, refusalUnless}
+use Rattle.refusal.specs.Numbers.{firstRefusal}
+use Rattle.refusal.specs.EqualParts.{_both_, equal-unless, equal-first}
 use Rattle.solver.specs.Cell.{cellRefusal}
 use Rattle.discharge_run.specs.Discharge.{runRefusal}
 use borrow.Author.Needs.{needs}
@@ -65,28 +65,18 @@ unfolding firstRefusal
 grid-once zero l f x = refl
 grid-once (suc g) l f x = rw eqb·suc-zero
 
--- the parts of a number, each by what its call gave
-first-of : {a b d e : ℕ} → a ≡ b → d ≡ e → firstRefusal a d ≡ firstRefusal b e
-first-of p q = rw (p, q)
-
-unless : (k : ℕ) {a b : Bool} → a ≡ b → refusalUnless a k ≡ refusalUnless b k
-unless k p = rw p
-
-both : {a b d e : Bool} → a ≡ b → d ≡ e → a && d ≡ b && e
-both p q = rw (p, q)
-
 returns : tie.Need-returns
 unfolding runRefusal cellRefusal
 returns c =
-    let grid = c .before .before .before .before .before .before .before .before .before .before .before .before .before .before .refusal-unless .ensures ∙ unless N.grid (c .before .before .before .before .before .before .before .before .before .before .before .before .before .before .before .grid-fits .ensures) in
+    let grid = c .before .before .before .before .before .before .before .before .before .before .before .before .before .before .refusal-unless .ensures ∙ equal-unless N.grid (c .before .before .before .before .before .before .before .before .before .before .before .before .before .before .before .grid-fits .ensures) in
     let length = c .before .before .before .before .before .before .before .before .before .before .before .before .before .refusal-unless2 .ensures in
     let cell = c .before .before .before .before .before .before .before .before .before .before .before .before .refusal .ensures in
-    let load = c .before .before .before .before .before .before .before .before .before .before .refusal-unless3 .ensures ∙ unless N.load (c .before .before .before .before .before .before .before .before .before .before .before .load-fits .ensures) in
-    let interval = c .before .before .before .before .before .before .before .refusal-unless4 .ensures ∙ unless N.interval (both (c .before .before .before .before .before .before .before .before .before .interval-fits .ensures) (c .before .before .before .before .before .before .before .before .is-finite .ensures)) in
-    let temperature = c .before .before .before .before .before .refusal-unless5 .ensures ∙ unless N.temperature (c .before .before .before .before .before .before .temperature-fits .ensures) in
-    let late = c .before .before .before .first-refusal2 .ensures ∙ first-of load (c .before .before .before .before .first-refusal .ensures ∙ first-of interval temperature) in
+    let load = c .before .before .before .before .before .before .before .before .before .before .refusal-unless3 .ensures ∙ equal-unless N.load (c .before .before .before .before .before .before .before .before .before .before .before .load-fits .ensures) in
+    let interval = c .before .before .before .before .before .before .before .refusal-unless4 .ensures ∙ equal-unless N.interval (c .before .before .before .before .before .before .before .before .before .interval-fits .ensures both c .before .before .before .before .before .before .before .before .is-finite .ensures) in
+    let temperature = c .before .before .before .before .before .refusal-unless5 .ensures ∙ equal-unless N.temperature (c .before .before .before .before .before .before .temperature-fits .ensures) in
+    let late = c .before .before .before .first-refusal2 .ensures ∙ equal-first load (c .before .before .before .before .first-refusal .ensures ∙ equal-first interval temperature) in
     c .first-refusal5 .ensures
-    ∙ first-of grid (c .before .first-refusal4 .ensures ∙ first-of length (c .before .before .first-refusal3 .ensures ∙ first-of cell late))
+    ∙ equal-first grid (c .before .first-refusal4 .ensures ∙ equal-first length (c .before .before .first-refusal3 .ensures ∙ equal-first cell late))
     ∙ grid-once _ _ _ _
 
 pub run-refusal-spec : {M : Type 1} → statement M

@@ -1,10 +1,11 @@
 -- `electrode::ElectrodeParams::fits` meets its contract. Assumes nothing.
 use Prim.Native.Nat.{ℕ}
 use mathlib.Core.Path.{_≡_, refl, ap, _∙_}
-use mathlib.Core.Bool.{Bool, true, false, _&&_}
+use mathlib.Core.Bool.{Bool, true, false}
 use lib.Dec.{eqb}
 use borrow.Author.Needs.{needs}
 use Rattle.refusal.specs.Numbers.{refusalUnless, sheet}
+use Rattle.refusal.specs.EqualParts.{_both_}
 use Rattle.electrode.specs.Sheet.{chemistryFits}
 use Rattle.electrode.proofs.ElectrodeParams.fits.Statement.{statement}
 use Rattle.electrode.proofs.ElectrodeParams.fits.Tie as tie
@@ -13,10 +14,6 @@ none-where : (ok : Bool) → eqb (refusalUnless ok sheet) 0 ≡ ok
 unfolding refusalUnless
 none-where true = refl
 none-where false = refl
-
-infixl 50 _both_
-_both_ : {a b c d : Bool} → a ≡ b → c ≡ d → a && c ≡ b && d
-e both f = rw (e, f)
 
 chemistry-refusal-requires : tie.Need-chemistry-refusal-requires
 chemistry-refusal-requires c κs = search needs
