@@ -80,8 +80,7 @@ fn turn(w: RunSettings, s: RunState) -> RunState
     requires { ⌜ s .rows < 2 ^ 61 ⌝ }
     ensures { λ r. ⌜ r ≡ turned w s ⌝ }
 {
-    let old = s.solver;
-    let t = old.step(w.current_a, w.dt, w.temp_k);
+    let t = s.solver.step(w.current_a, w.dt, w.temp_k);
     let cell = t.solver;
     let state = t.state;
     if t.refusal != 0 {
@@ -176,8 +175,7 @@ fn run_rows(w: RunSettings, first: RunState, out: &mut [f64], total: usize) -> D
         if run.over == REFUSED {
             return finished(run);
         }
-        let state = run.state;
-        put_row(out, i * 8, row_of(state));
+        put_row(out, i * 8, row_of(run.state));
         i += 1;
         if run.over != GOING {
             return finished(run);

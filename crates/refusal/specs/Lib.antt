@@ -3,6 +3,7 @@
 -- Numbers: the ten numbers by name, the first of two that is met, and what a row that met nothing has passed.
 -- Ranges: the tests on numbers that the rows cite.
 -- RangeLaws: what numbers that passed have met.
+-- EqualParts: tests and numbers of equal parts are equal.
 -- Answers: what the enum that a call answers with says, and what a call with a number and a value says.
 --
 -- A call's refusal is written as the table has it, its rows in the order 1, 10, 2 to 9:
@@ -12,4 +13,5 @@
 pub mod Numbers
 pub mod Ranges
 pub mod RangeLaws
+pub mod EqualParts
 pub mod Answers

@@ -1,8 +1,10 @@
 -- `discharge_run::run_refusal` meets its contract. Assumes nothing.
 use Prim.Native.Nat.{ℕ, zero, suc}
-use mathlib.Core.Path.{_≡_, refl}
+use mathlib.Core.Path.{_≡_, refl, _∙_}
 use lib.Dec.{eqb·suc-zero}
+use Rattle.refusal.specs.Numbers as N
 use Rattle.refusal.specs.Numbers.{firstRefusal}
+use Rattle.refusal.specs.EqualParts.{_both_, equal-unless, equal-first}
 use Rattle.solver.specs.Cell.{cellRefusal}
 use Rattle.discharge_run.specs.Discharge.{runRefusal}
 use borrow.Author.Needs.{needs}
@@ -66,25 +68,16 @@ grid-once (suc g) l f x = rw eqb·suc-zero
 returns : tie.Need-returns
 unfolding runRefusal cellRefusal
 returns c =
-    rw (
-      c .first-refusal5 .ensures,
-      c .before .first-refusal4 .ensures,
-      c .before .before .first-refusal3 .ensures,
-      c .before .before .before .first-refusal2 .ensures,
-      c .before .before .before .before .first-refusal .ensures,
-      c .before .before .before .before .before .refusal-unless5 .ensures,
-      c .before .before .before .before .before .before .temperature-fits .ensures,
-      c .before .before .before .before .before .before .before .refusal-unless4 .ensures,
-      c .before .before .before .before .before .before .before .before .is-finite .ensures,
-      c .before .before .before .before .before .before .before .before .before .interval-fits .ensures,
-      c .before .before .before .before .before .before .before .before .before .before .refusal-unless3 .ensures,
-      c .before .before .before .before .before .before .before .before .before .before .before .load-fits .ensures,
-      c .before .before .before .before .before .before .before .before .before .before .before .before .refusal .ensures,
-      c .before .before .before .before .before .before .before .before .before .before .before .before .before .refusal-unless2 .ensures,
-      c .before .before .before .before .before .before .before .before .before .before .before .before .before .before .refusal-unless .ensures,
-      c .before .before .before .before .before .before .before .before .before .before .before .before .before .before .before .grid-fits .ensures,
-    )
-    (grid-once _ _ _ _)
+    let grid = c .before .before .before .before .before .before .before .before .before .before .before .before .before .before .refusal-unless .ensures ∙ equal-unless N.grid (c .before .before .before .before .before .before .before .before .before .before .before .before .before .before .before .grid-fits .ensures) in
+    let length = c .before .before .before .before .before .before .before .before .before .before .before .before .before .refusal-unless2 .ensures in
+    let cell = c .before .before .before .before .before .before .before .before .before .before .before .before .refusal .ensures in
+    let load = c .before .before .before .before .before .before .before .before .before .before .refusal-unless3 .ensures ∙ equal-unless N.load (c .before .before .before .before .before .before .before .before .before .before .before .load-fits .ensures) in
+    let interval = c .before .before .before .before .before .before .before .refusal-unless4 .ensures ∙ equal-unless N.interval (c .before .before .before .before .before .before .before .before .before .interval-fits .ensures both c .before .before .before .before .before .before .before .before .is-finite .ensures) in
+    let temperature = c .before .before .before .before .before .refusal-unless5 .ensures ∙ equal-unless N.temperature (c .before .before .before .before .before .before .temperature-fits .ensures) in
+    let late = c .before .before .before .first-refusal2 .ensures ∙ equal-first load (c .before .before .before .before .first-refusal .ensures ∙ equal-first interval temperature) in
+    c .first-refusal5 .ensures
+    ∙ equal-first grid (c .before .first-refusal4 .ensures ∙ equal-first length (c .before .before .first-refusal3 .ensures ∙ equal-first cell late))
+    ∙ grid-once _ _ _ _
 
 pub run-refusal-spec : {M : Type 1} → statement M
 run-refusal-spec =

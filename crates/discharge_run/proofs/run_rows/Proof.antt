@@ -52,8 +52,8 @@ returns-2 c =
 
 mul-put-row : tie.Need-mul-put-row Inv-loop μ-loop
 mul-put-row c =
-    let loop-test = c .before .before .before .before .before .loop-test in
-    let pre = c .before .before .before .before .before .before .before .before .before .before .pre in
+    let loop-test = c .before .before .before .before .loop-test in
+    let pre = c .before .before .before .before .before .before .before .before .before .pre in
     omega (arith, loop-test .taken, pre .1 .0)
 
 row-of-requires : tie.Need-row-of-requires Inv-loop μ-loop
@@ -61,15 +61,15 @@ row-of-requires c κs = search needs
 
 put-row-requires : tie.Need-put-row-requires Inv-loop μ-loop
 put-row-requires c κs =
-    let loop-test = c .before .before .before .before .before .before .loop-test in
-    let loop = c .before .before .before .before .before .before .before .loop in
-    let pre = c .before .before .before .before .before .before .before .before .before .before .before .pre in
+    let loop-test = c .before .before .before .before .before .loop-test in
+    let loop = c .before .before .before .before .before .before .loop in
+    let pre = c .before .before .before .before .before .before .before .before .before .before .pre in
     omega (arith, loop-test .taken, pre .1 .1, loop .inv .0 .long)
 
 add-i : tie.Need-add-i Inv-loop μ-loop
 add-i c =
-    let loop-test = c .before .before .before .before .before .before .before .before .before .loop-test in
-    let pre = c .before .before .before .before .before .before .before .before .before .before .before .before .before .before .pre in
+    let loop-test = c .before .before .before .before .before .before .before .before .loop-test in
+    let pre = c .before .before .before .before .before .before .before .before .before .before .before .before .before .pre in
     omega (arith, loop-test .taken, pre .1 .0)
 
 finished-requires-3 : tie.Need-finished-requires-3 Inv-loop μ-loop
@@ -78,7 +78,7 @@ finished-requires-3 c κs = search needs
 same-length-2 : tie.Need-same-length-2 Inv-loop μ-loop
 same-length-2 c =
     let put-row = c .before .before .before .before .before .put-row in
-    let loop = c .before .before .before .before .before .before .before .before .before .before .before .before .before .loop in
+    let loop = c .before .before .before .before .before .before .before .before .before .before .before .before .loop in
     put-row .kept .0 ∙ loop .inv .0 .long
 
 returns-3 : tie.Need-returns-3 Inv-loop μ-loop
@@ -87,27 +87,27 @@ returns-3 c =
     let if3 = c .before .if3 in
     let put-row = c .before .before .before .before .before .put-row in
     let row-of = c .before .before .before .before .before .before .row-of in
-    let if2 = c .before .before .before .before .before .before .before .before .before .if2 in
-    let turn = c .before .before .before .before .before .before .before .before .before .before .before .turn in
-    let loop-test = c .before .before .before .before .before .before .before .before .before .before .before .before .loop-test in
-    let loop = c .before .before .before .before .before .before .before .before .before .before .before .before .before .loop in
-    let args = c .before .before .before .before .before .before .before .before .before .before .before .before .before .before .before .before .before .args in
-    let q = ends-stopped overOf (turned (args .w)) lastRow _ _ _ _ _ _ (loop .inv .0) _ _ _ (turn .ensures) (if2 .left) (row-of .ensures) (put-row .ensures) (loop-test .taken)
-    (if3 .taken) in
-    (c .finished3 .ensures ∙ ap finishedRun (q .0), q .1)
-
-loop-less : tie.Need-loop-less Inv-loop μ-loop
-loop-less c = omega (arith, c .before .before .before .before .before .before .before .before .before .before .before .loop-test .taken)
-
-loop-again : tie.Need-loop-again Inv-loop μ-loop
-loop-again c =
-    let put-row = c .before .before .before .before .put-row in
-    let row-of = c .before .before .before .before .before .row-of in
     let if2 = c .before .before .before .before .before .before .before .before .if2 in
     let turn = c .before .before .before .before .before .before .before .before .before .before .turn in
     let loop-test = c .before .before .before .before .before .before .before .before .before .before .before .loop-test in
     let loop = c .before .before .before .before .before .before .before .before .before .before .before .before .loop in
     let args = c .before .before .before .before .before .before .before .before .before .before .before .before .before .before .before .before .args in
+    let q = ends-stopped overOf (turned (args .w)) lastRow _ _ _ _ _ _ (loop .inv .0) _ _ _ (turn .ensures) (if2 .left) (row-of .ensures) (put-row .ensures) (loop-test .taken)
+    (if3 .taken) in
+    (c .finished3 .ensures ∙ ap finishedRun (q .0), q .1)
+
+loop-less : tie.Need-loop-less Inv-loop μ-loop
+loop-less c = omega (arith, c .before .before .before .before .before .before .before .before .before .before .loop-test .taken)
+
+loop-again : tie.Need-loop-again Inv-loop μ-loop
+loop-again c =
+    let put-row = c .before .before .before .before .put-row in
+    let row-of = c .before .before .before .before .before .row-of in
+    let if2 = c .before .before .before .before .before .before .before .if2 in
+    let turn = c .before .before .before .before .before .before .before .before .before .turn in
+    let loop-test = c .before .before .before .before .before .before .before .before .before .before .loop-test in
+    let loop = c .before .before .before .before .before .before .before .before .before .before .before .loop in
+    let args = c .before .before .before .before .before .before .before .before .before .before .before .before .before .before .before .args in
     let t = turn .ensures in
     let l = loop in (
       going-on overOf (turned (args .w)) lastRow _ _ _ _ _ _ (l .inv .0) _ _ _ t (if2 .left) (row-of .ensures) (put-row .ensures) (put-row .kept .0) (loop-test .taken)

@@ -15,8 +15,8 @@ returns c = rw (← c .before .before .before .before .before .step .ensures, ne
 over-after-requires : tie.Need-over-after-requires
 over-after-requires c κs = search needs
 
-add-t11 : tie.Need-add-t11
-add-t11 c = search needs
+add-t10 : tie.Need-add-t10
+add-t10 c = search needs
 
 returns-2 : tie.Need-returns-2
 unfolding turned followed
@@ -27,4 +27,4 @@ returns-2 c =
     rw (← step .ensures, eq-eqb _ _ (if1 .left), over-after .ensures)
 
 pub turn-spec : {M : Type 1} → statement M
-turn-spec = tie.close (tie.spec step-requires returns over-after-requires add-t11 returns-2)
+turn-spec = tie.close (tie.spec step-requires returns over-after-requires add-t10 returns-2)

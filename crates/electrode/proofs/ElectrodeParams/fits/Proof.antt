@@ -1,9 +1,11 @@
 -- `electrode::ElectrodeParams::fits` meets its contract. Assumes nothing.
-use mathlib.Core.Path.{_≡_, refl}
+use Prim.Native.Nat.{ℕ}
+use mathlib.Core.Path.{_≡_, refl, ap, _∙_}
 use mathlib.Core.Bool.{Bool, true, false}
 use lib.Dec.{eqb}
 use borrow.Author.Needs.{needs}
 use Rattle.refusal.specs.Numbers.{refusalUnless, sheet}
+use Rattle.refusal.specs.EqualParts.{_both_}
 use Rattle.electrode.specs.Sheet.{chemistryFits}
 use Rattle.electrode.proofs.ElectrodeParams.fits.Statement.{statement}
 use Rattle.electrode.proofs.ElectrodeParams.fits.Tie as tie
@@ -17,7 +19,18 @@ chemistry-refusal-requires : tie.Need-chemistry-refusal-requires
 chemistry-refusal-requires c κs = search needs
 
 returns : tie.Need-returns
-returns c = cc (none-where (chemistryFits (c .before .before .before .before .before .before .before .before .before .before .args .self .«electrode_type»)))
+returns c =
+    (ap (λ (r : ℕ). eqb r 0) (c .before .before .before .before .before .before .before .before .before .chemistry-refusal .ensures)
+    ∙ none-where (chemistryFits (c .before .before .before .before .before .before .before .before .before .before .args .self .«electrode_type»)))
+    both c .before .before .before .before .before .before .before .before .within .ensures
+    both c .before .before .before .before .before .before .before .within2 .ensures
+    both c .before .before .before .before .before .before .within3 .ensures
+    both c .before .before .before .before .before .within4 .ensures
+    both c .before .before .before .before .within5 .ensures
+    both c .before .before .before .within6 .ensures
+    both c .before .before .within7 .ensures
+    both c .before .within8 .ensures
+    both c .within9 .ensures
 
 pub fits-spec : {M : Type 1} → statement M
 fits-spec =

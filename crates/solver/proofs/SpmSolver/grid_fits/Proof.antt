@@ -7,7 +7,7 @@ count-within-requires : tie.Need-count-within-requires
 count-within-requires c κs = search needs
 
 returns : tie.Need-returns
-returns c = cc
+returns c = rw (c .before .before .count-within .ensures)
 
 pub grid-fits-spec : {M : Type 1} → statement M
 grid-fits-spec = tie.close (tie.spec count-within-requires returns)
