@@ -1,7 +1,7 @@
 -- The parts of a text are found one after the other. Assumes nothing.
 use Prim.Native.Nat.{ℕ, _-_, min}
-use mathlib.Core.Path.{_≡_, _∙_}
-use mathlib.Core.Bool.{Bool, cond, _&&_, _||_}
+use mathlib.Core.Path.{_≡_, refl, _∙_}
+use mathlib.Core.Bool.{Bool, true, false, cond, not, _&&_, _||_}
 use mathlib.Core.List.{List}
 use lib.Dec.{ltb, eqb}
 use lib.ListN.{length, drop}
@@ -11,7 +11,13 @@ use Rattle.decimal_text.specs.declared.Parts.{Parts}
 use Rattle.decimal_text.specs.declared.Run.{Run}
 use Rattle.decimal_text.proofs.Runs.{value-cut}
 
-module _ (s : List ℕ) (from point sign exponent : ℕ) (whole fraction power : Run) (negative down has : Bool)
+-- either way of an 'e' that is there or not, as one test
+either-way : (marked digits none : Bool) → (marked && digits) || (not marked && none) ≡ cond marked digits none
+either-way true true none = refl
+either-way true false none = refl
+either-way false digits none = refl
+
+module _ (s : List ℕ) (from point sign exponent : ℕ) (whole fraction power : Run) (negative down : Bool)
     (e-from : from ≡ pastEither s 0 43 45)
     (e-whole : (whole .end ≡ digitsEnd s from) × (whole .value ≡ min (valueWith 0 (drop from s)) most))
     (e-point : point ≡ pastEither s (whole .end) 46 46)
@@ -21,7 +27,6 @@ module _ (s : List ℕ) (from point sign exponent : ℕ) (whole fraction power :
     (e-power : (power .end ≡ digitsEnd s exponent) × (power .value ≡ min (valueWith 0 (drop exponent s)) most))
     (e-negative : negative ≡ isAt s 0 45 45)
     (e-down : down ≡ isAt s sign 45 45)
-    (e-has : has ≡ cond (ltb (fraction .end) sign) (ltb exponent (power .end)) (eqb (fraction .end) (power .end)))
   where
     is-from : from ≡ wholeFrom s
     unfolding wholeFrom
@@ -59,9 +64,12 @@ module _ (s : List ℕ) (from point sign exponent : ℕ) (whole fraction power :
     unfolding exponentOf
     is-power = rw is-exponent at (e-power .1)
 
+    abbrev has : Bool
+    has = (ltb (fraction .end) sign && ltb exponent (power .end)) || (not (ltb (fraction .end) sign) && eqb (fraction .end) (power .end))
+
     is-decimal : (eqb (power .end) (length s) && (ltb from (whole .end) || ltb point (fraction .end))) && has ≡ isDecimal s
     unfolding isDecimal
-    is-decimal = rw (e-has, is-from, is-point, is-fraction, is-mark, is-sign, is-exponent, is-end)
+    is-decimal = rw (either-way (ltb (fraction .end) sign) (ltb exponent (power .end)) (eqb (fraction .end) (power .end)), is-from, is-point, is-fraction, is-mark, is-sign, is-exponent, is-end)
 
     pub split-is :
         _≡_ {A = Parts}

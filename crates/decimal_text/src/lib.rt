@@ -2,7 +2,7 @@
 pub mod nearest;
 
 ghost use mathlib.Core.Path.{_≡_};
-ghost use mathlib.Core.Bool.{true, cond};
+ghost use mathlib.Core.Bool.{true};
 ghost use Prim.Native.Nat.{_+_, _*_, _-_, _^_, _≤_, min};
 ghost use lib.ListN.{drop};
 ghost use Rattle.decimal_text.specs.Digits.{most, isDigit, isAt, pastEither, digitsEnd, valueWith};
@@ -35,18 +35,13 @@ pub struct Parts {
     pub whole: bool,
 }
 
-fn is_digit(b: u8) -> bool
-    ensures { λ r. ⌜ r ≡ isDigit b ⌝ }
-{
-    (48 <= b) & (b <= 57)
-}
-
 // Whether one of two bytes stands at a place.
 fn is_at(s: &[u8], at: usize, a: u8, b: u8) -> bool
     ensures { λ r. ⌜ r ≡ isAt (now (s .entry)) at a b ⌝ }
 {
     if at < s.len() {
-        return (s[at] == a) | (s[at] == b);
+        let c = s[at];
+        return (c == a) | (c == b);
     }
     false
 }
@@ -80,10 +75,12 @@ fn digit_run(n: u64, s: &[u8], from: usize) -> Run
     let mut value = n;
     let mut at = from;
     while at < s.len() {
-        if !is_digit(s[at]) {
+        let b = s[at];
+        let digit = (48 <= b) & (b <= 57);
+        if !digit {
             return Run { end: at, value };
         }
-        value = with_digit(value, s[at]);
+        value = with_digit(value, b);
         at += 1;
     }
     Run { end: at, value }
@@ -114,6 +111,7 @@ fn split(s: &[u8]) -> Parts
     let after_sign = past(s, sign, b'+', b'-');
     let exponent = digit_run(0, s, after_sign);
     let end = exponent.end;
+    // digits follow an 'e' that is there, and nothing stands where none is
     let marked = mark < sign;
     Parts {
         digits: fraction.value,
@@ -123,15 +121,8 @@ fn split(s: &[u8]) -> Parts
         down: is_at(s, sign, b'-', b'-'),
         whole: (end == s.len())
             & ((from < point) | (after_point < mark))
-            & has_exponent(marked, after_sign < end, mark == end),
+            & ((marked & (after_sign < end)) | (!marked & (mark == end))),
     }
-}
-
-// Whether digits follow an 'e' that is there, or nothing stands where none is.
-fn has_exponent(marked: bool, digits: bool, none: bool) -> bool
-    ensures { λ r. ⌜ r ≡ cond marked digits none ⌝ }
-{
-    if marked { digits } else { none }
 }
 
 fn scaled(digits: u64, places: usize, exponent: usize, down: bool) -> Reading

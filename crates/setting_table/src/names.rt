@@ -18,13 +18,13 @@ fn padded_at(s: &[u8], i: usize) -> u8
 }
 
 // Whether a text is the name at place k of a list with twelve bytes for each.
-fn is_named(names: &[u8], s: &[u8], k: usize) -> bool
+fn is_named(names: &[u8; 120], s: &[u8], k: usize) -> bool
     requires { ⌜ k < 10 ⌝ }
     ensures { λ r. ⌜ r ≡ isNamed (now (names .entry)) (now (s .entry)) k ⌝ }
 {
     let mut same = true;
     for j in 0..12 {
-        same = same & (padded_at(s, j) == plain_text::byte_at(names, k * 12 + j));
+        same = same & (padded_at(s, j) == names[k * 12 + j]);
     }
     (s.len() <= 12) & same
 }
@@ -72,5 +72,5 @@ pub fn letter(k: usize, j: usize) -> u8
     ensures { λ r. ⌜ r ≡ letterOf k j ⌝ }
 {
     let names = names_of(10 <= k);
-    plain_text::byte_at(&names, k % 10 * 12 + j)
+    names[k % 10 * 12 + j]
 }

@@ -4,10 +4,11 @@ use mathlib.Core.Path.{_≡_, refl, sym, _∙_}
 use native.Mathlib.Omega.{arith}
 use borrow.Author.Needs.{needs}
 use Prim.Native.Nat.{min}
-use lib.ListN.{length, drop}
+use mathlib.Core.Bool.{true, false}
+use lib.ListN.{length, drop, getD}
 use native.Mathlib.Nat.{min-eq-left}
 use borrow.Author.Tests.{not-true, not-false}
-use Rattle.decimal_text.specs.Digits.{most, digitsAhead, valueWith}
+use Rattle.decimal_text.specs.Digits.{most, isDigit, digitsAhead, valueWith}
 use Rattle.decimal_text.proofs.Runs.{turn-value, turn-end, stop-value, stop-end, over-value, over-end}
 use Rattle.decimal_text.proofs.digit_run.Statement.{statement}
 use Rattle.decimal_text.proofs.digit_run.Tie as tie
@@ -21,28 +22,21 @@ abbrev μ-loop : tie.MeasureT-loop
 loop-holds : tie.Need-loop-holds Inv-loop μ-loop
 loop-holds c = (c .before .pre, refl, refl)
 
-shared-slice-read-is-digit : tie.Need-shared-slice-read-is-digit Inv-loop μ-loop
-shared-slice-read-is-digit c = search needs
-
-is-digit-requires : tie.Need-is-digit-requires Inv-loop μ-loop
-is-digit-requires c κs = search needs
+shared-slice-read-b : tie.Need-shared-slice-read-b Inv-loop μ-loop
+shared-slice-read-b c = search needs
 
 returns : tie.Need-returns Inv-loop μ-loop
 returns c =
-    let is-digit = c .before .is-digit in
-    let loop-test = c .before .before .before .loop-test in
-    let loop = c .before .before .before .before .loop in
-    let args = c .before .before .before .before .before .before .args in
-    let d = sym (is-digit .ensures) ∙ not-true _ (c .if1 .taken) in (
+    let loop-test = c .before .before .loop-test in
+    let loop = c .before .before .before .loop in
+    let args = c .before .before .before .before .before .args in
+    let d : isDigit (getD (args .s .now) (loop .at) 0) ≡ false = not-true _ (c .if1 .taken) in (
       omega (arith, stop-end (loop .value) (args .s .now) (loop .at) (loop-test .taken) d),
       sym (min-eq-left (loop .inv .0)) ∙ rw (stop-value (loop .value) (args .s .now) (loop .at) (loop-test .taken) d) at (loop .inv .1),
     )
 
-shared-slice-read-with-digit : tie.Need-shared-slice-read-with-digit Inv-loop μ-loop
-shared-slice-read-with-digit c = search needs
-
 with-digit-requires : tie.Need-with-digit-requires Inv-loop μ-loop
-with-digit-requires c κs = sym (c .before .before .is-digit .ensures) ∙ not-false _ (c .before .if1 .left)
+with-digit-requires c κs = not-false _ (c .if1 .left)
 
 add-at : tie.Need-add-at Inv-loop μ-loop
 add-at c = search needs
@@ -52,12 +46,10 @@ loop-less c = search needs
 
 loop-again : tie.Need-loop-again Inv-loop μ-loop
 loop-again c =
-    let if1 = c .before .before .if1 in
-    let is-digit = c .before .before .before .is-digit in
-    let loop-test = c .before .before .before .before .before .loop-test in
-    let loop = c .before .before .before .before .before .before .loop in
-    let args = c .before .before .before .before .before .before .before .before .args in
-    let d = sym (is-digit .ensures) ∙ not-false _ (if1 .left) in (
+    let loop-test = c .before .before .before .loop-test in
+    let loop = c .before .before .before .before .loop in
+    let args = c .before .before .before .before .before .before .args in
+    let d : isDigit (getD (args .s .now) (loop .at) 0) ≡ true = not-false _ (c .before .if1 .left) in (
       omega (arith, c .with-digit .ensures),
       rw (c .with-digit .ensures) (turn-value (loop .value) (args .s .now) (loop .at) (loop-test .taken) d ∙ loop .inv .1),
       turn-end (loop .value) (args .s .now) (loop .at) (loop-test .taken) d ∙ loop .inv .2,
@@ -78,10 +70,8 @@ digit-run-spec =
     Inv-loop
     μ-loop
     loop-holds
-    shared-slice-read-is-digit
-    is-digit-requires
+    shared-slice-read-b
     returns
-    shared-slice-read-with-digit
     with-digit-requires
     add-at
     loop-less

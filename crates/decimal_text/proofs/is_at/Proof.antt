@@ -4,18 +4,14 @@ use borrow.Author.Tests.{lt-ltb, le-ltb}
 use Rattle.decimal_text.proofs.is_at.Statement.{statement}
 use Rattle.decimal_text.proofs.is_at.Tie as tie
 
-shared-slice-read-result : tie.Need-shared-slice-read-result
-shared-slice-read-result c = search needs
-
-shared-slice-read-result-2 : tie.Need-shared-slice-read-result-2
-shared-slice-read-result-2 c = search needs
+shared-slice-read-c : tie.Need-shared-slice-read-c
+shared-slice-read-c c = search needs
 
 returns : tie.Need-returns
-returns c = rw (lt-ltb _ _ (c .before .before .if1 .taken))
+returns c = rw (lt-ltb _ _ (c .before .if1 .taken))
 
 returns-2 : tie.Need-returns-2
 returns-2 c = rw (le-ltb _ _ (c .if1 .left))
 
 pub is-at-spec : {M : Type 1} → statement M
-is-at-spec =
-    tie.close (tie.spec shared-slice-read-result shared-slice-read-result-2 returns returns-2)
+is-at-spec = tie.close (tie.spec shared-slice-read-c returns returns-2)

@@ -34,25 +34,21 @@ is-at-requires c κs = search needs
 is-at-requires-2 : tie.Need-is-at-requires-2
 is-at-requires-2 c κs = search needs
 
-has-exponent-requires : tie.Need-has-exponent-requires
-has-exponent-requires c κs = search needs
-
 returns : tie.Need-returns
 returns c =
-    let is-at2 = c .before .is-at2 in
-    let is-at = c .before .before .is-at in
-    let digit-run3 = c .before .before .before .digit-run3 in
-    let past4 = c .before .before .before .before .past4 in
-    let past3 = c .before .before .before .before .before .past3 in
-    let digit-run2 = c .before .before .before .before .before .before .digit-run2 in
-    let past2 = c .before .before .before .before .before .before .before .past2 in
-    let digit-run = c .before .before .before .before .before .before .before .before .digit-run in
-    let past = c .before .before .before .before .before .before .before .before .before .past in
-    let args = c .before .before .before .before .before .before .before .before .before .before .before .args in
+    let is-at = c .before .is-at in
+    let digit-run3 = c .before .before .digit-run3 in
+    let past4 = c .before .before .before .past4 in
+    let past3 = c .before .before .before .before .past3 in
+    let digit-run2 = c .before .before .before .before .before .digit-run2 in
+    let past2 = c .before .before .before .before .before .before .past2 in
+    let digit-run = c .before .before .before .before .before .before .before .digit-run in
+    let past = c .before .before .before .before .before .before .before .before .past in
+    let args = c .before .before .before .before .before .before .before .before .before .before .args in
     split-is (args .s .now) (past .result) (past2 .result) (past3 .result) (past4 .result)
-    (digit-run .result) (digit-run2 .result) (digit-run3 .result) (is-at .result) (is-at2 .result) (c .has-exponent .result)
+    (digit-run .result) (digit-run2 .result) (digit-run3 .result) (is-at .result) (c .is-at2 .result)
     (past .ensures) (digit-run .ensures) (past2 .ensures) (digit-run2 .ensures) (past3 .ensures) (past4 .ensures) (digit-run3 .ensures)
-    (is-at .ensures) (is-at2 .ensures) (c .has-exponent .ensures)
+    (is-at .ensures) (c .is-at2 .ensures)
 
 pub split-spec : {M : Type 1} → statement M
 split-spec =
@@ -68,5 +64,4 @@ split-spec =
     sub-t13
     is-at-requires
     is-at-requires-2
-    has-exponent-requires
     returns)

@@ -24,14 +24,14 @@ loop-holds c = (search needs, refl)
 padded-at-requires : tie.Need-padded-at-requires Inv-loop μ-loop
 padded-at-requires c κs = search needs
 
-mul-byte-at : tie.Need-mul-byte-at Inv-loop μ-loop
-mul-byte-at c = search needs
+mul-same : tie.Need-mul-same Inv-loop μ-loop
+mul-same c = search needs
 
-add-byte-at : tie.Need-add-byte-at Inv-loop μ-loop
-add-byte-at c = search needs
+add-same : tie.Need-add-same Inv-loop μ-loop
+add-same c = search needs
 
-byte-at-requires : tie.Need-byte-at-requires Inv-loop μ-loop
-byte-at-requires c κs = search needs
+element-copy-out-same : tie.Need-element-copy-out-same Inv-loop μ-loop
+element-copy-out-same c = search needs
 
 add-j : tie.Need-add-j Inv-loop μ-loop
 add-j c = search needs
@@ -41,7 +41,7 @@ loop-less c = search needs
 
 loop-again : tie.Need-loop-again Inv-loop μ-loop
 unfolding allBelow
-loop-again c = (search needs, rw (add-one, c .before .padded-at .ensures, c .byte-at .ensures, c .before .before .before .loop .inv .1))
+loop-again c = (search needs, rw (add-one (c .before .before .before .loop .j), c .before .padded-at .ensures, c .before .before .before .loop .inv .1))
 
 returns : tie.Need-returns Inv-loop μ-loop
 unfolding isNamed
@@ -55,9 +55,9 @@ is-named-spec =
     μ-loop
     loop-holds
     padded-at-requires
-    mul-byte-at
-    add-byte-at
-    byte-at-requires
+    mul-same
+    add-same
+    element-copy-out-same
     add-j
     loop-less
     loop-again

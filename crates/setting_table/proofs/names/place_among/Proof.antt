@@ -22,9 +22,6 @@ loop-holds : tie.Need-loop-holds Inv-loop μ-loop
 unfolding placeBy
 loop-holds c = (search needs, refl)
 
-slice-aggregate-is-named : tie.Need-slice-aggregate-is-named Inv-loop μ-loop
-slice-aggregate-is-named c = search needs
-
 is-named-requires : tie.Need-is-named-requires Inv-loop μ-loop
 is-named-requires c κs = search needs
 
@@ -62,7 +59,6 @@ place-among-spec =
     μ-loop
     names-of-requires
     loop-holds
-    slice-aggregate-is-named
     is-named-requires
     add-either
     either-requires
