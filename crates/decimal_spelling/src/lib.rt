@@ -108,15 +108,13 @@ fn is_below(a: &[u64; 20], b: &[u64; 20]) -> bool
 {
     let mut below = false;
     for i in 0..20 {
-        below = pick(a[i] == b[i], below, a[i] < b[i]);
+        let x = a[i];
+        let y = b[i];
+        if x != y {
+            below = x < y;
+        }
     }
     below
-}
-
-fn pick(test: bool, a: bool, b: bool) -> bool
-    ensures { λ r. ⌜ r ≡ cond test a b ⌝ }
-{
-    if test { a } else { b }
 }
 
 fn sum_of(a: &[u64; 20], b: &[u64; 20]) -> [u64; 20]
@@ -176,11 +174,13 @@ fn next_digit(rest: &mut [u64; 20], gap: &mut [u64; 20]) -> Digit
     times_ten(rest);
     times_ten(gap);
     let value = take_whole(rest);
-    let low = is_below(rest, gap);
+    let behind: &[u64; 20] = rest;
+    let half: &[u64; 20] = gap;
+    let low = is_below(behind, half);
     let one = placed(1, 1080);
-    let reach = sum_of(rest, gap);
+    let reach = sum_of(behind, half);
     let high = is_below(&one, &reach);
-    if high & (!low | (0x800_0000_0000_0000 <= rest[17])) {
+    if high & (!low | (0x800_0000_0000_0000 <= behind[17])) {
         return Digit {
             value: value + 1,
             last: true,

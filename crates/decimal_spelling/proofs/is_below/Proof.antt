@@ -1,9 +1,11 @@
 -- `decimal_spelling::is_below` meets its contract. Assumes nothing.
 use Prim.Native.Nat.{_≤_, _-_}
 use mathlib.Core.Path.{_≡_, refl}
+use mathlib.Core.Logic.{⊎-elim}
 use native.Mathlib.Omega.{arith}
 use native.Mathlib.Numerals.{add-one}
 use borrow.Author.Needs.{needs}
+use borrow.Author.Tests.{eq-eqb, ne-eqb}
 use Rattle.decimal_spelling.specs.Limbs.{belowBy}
 use Rattle.decimal_spelling.proofs.is_below.Statement.{statement}
 use Rattle.decimal_spelling.proofs.is_below.Tie as tie
@@ -18,32 +20,17 @@ loop-holds : tie.Need-loop-holds Inv-loop μ-loop
 unfolding belowBy
 loop-holds c = (search needs, refl)
 
-mul-pick : tie.Need-mul-pick Inv-loop μ-loop
-mul-pick c = search needs
+mul-x : tie.Need-mul-x Inv-loop μ-loop
+mul-x c = search needs
 
-element-copy-out-pick : tie.Need-element-copy-out-pick Inv-loop μ-loop
-element-copy-out-pick c = search needs
+element-copy-out-x : tie.Need-element-copy-out-x Inv-loop μ-loop
+element-copy-out-x c = search needs
 
-mul-pick-2 : tie.Need-mul-pick-2 Inv-loop μ-loop
-mul-pick-2 c = search needs
+mul-y : tie.Need-mul-y Inv-loop μ-loop
+mul-y c = search needs
 
-element-copy-out-pick-2 : tie.Need-element-copy-out-pick-2 Inv-loop μ-loop
-element-copy-out-pick-2 c = search needs
-
-mul-pick-3 : tie.Need-mul-pick-3 Inv-loop μ-loop
-mul-pick-3 c = search needs
-
-element-copy-out-pick-3 : tie.Need-element-copy-out-pick-3 Inv-loop μ-loop
-element-copy-out-pick-3 c = search needs
-
-mul-pick-4 : tie.Need-mul-pick-4 Inv-loop μ-loop
-mul-pick-4 c = search needs
-
-element-copy-out-pick-4 : tie.Need-element-copy-out-pick-4 Inv-loop μ-loop
-element-copy-out-pick-4 c = search needs
-
-pick-requires : tie.Need-pick-requires Inv-loop μ-loop
-pick-requires c κs = search needs
+element-copy-out-y : tie.Need-element-copy-out-y Inv-loop μ-loop
+element-copy-out-y c = search needs
 
 add-i : tie.Need-add-i Inv-loop μ-loop
 add-i c = search needs
@@ -54,8 +41,10 @@ loop-less c = search needs
 loop-again : tie.Need-loop-again Inv-loop μ-loop
 unfolding belowBy
 loop-again c =
-    let loop = c .before .before .before .before .before .before .loop in
-    (search needs, rw (add-one (loop .i), c .pick .ensures, loop .inv .1))
+    let loop = c .before .before .before .before .loop in (
+      search needs,
+      ⊎-elim (λ w. rw (w .1, add-one (loop .i), ne-eqb _ _ (w .0 .taken))) (λ w. rw (w .1, add-one (loop .i), eq-eqb _ _ (w .0 .left), loop .inv .1)) (c .if1 .came),
+    )
 
 returns : tie.Need-returns Inv-loop μ-loop
 returns c = let e : c .before .loop .i ≡ 20 = omega arith in rw e at (c .before .loop .inv .1)
@@ -67,15 +56,10 @@ is-below-spec =
     Inv-loop
     μ-loop
     loop-holds
-    mul-pick
-    element-copy-out-pick
-    mul-pick-2
-    element-copy-out-pick-2
-    mul-pick-3
-    element-copy-out-pick-3
-    mul-pick-4
-    element-copy-out-pick-4
-    pick-requires
+    mul-x
+    element-copy-out-x
+    mul-y
+    element-copy-out-y
     add-i
     loop-less
     loop-again
