@@ -1,5 +1,8 @@
-//! What the program `discharge` must write for the arguments in its file `args`, from the oracle: the same rows, in the shortest decimals, and below 1e-4
-//! with an exponent.
+//! What a program must write, from the oracle: the same rows, in the shortest decimals, and below 1e-4 with an exponent.
+//!
+//!     rows discharge | first_curve
+//!
+//! `discharge` for the arguments in its file `args`, a row each 60 s.
 use oracle::solver::{SpmConfig, SpmSolver};
 
 fn spelled(x: f64) -> String {
@@ -11,7 +14,13 @@ fn spelled(x: f64) -> String {
 }
 
 fn main() {
-    let (current, dt, temp_k, limit) = (5.0, 60.0, 298.15, 3600.0);
+    let program = std::env::args().nth(1).unwrap_or_default();
+    let (cell, dt) = match program.as_str() {
+        "discharge" => ("cell.txt", 60.0),
+        "first_curve" => ("nmc", 10.0),
+        _ => panic!("rows discharge | first_curve"),
+    };
+    let (current, temp_k, limit) = (5.0, 298.15, 3600.0);
     let config = SpmConfig { v_min: 3.0, ..SpmConfig::default() };
     let (v_min, v_max) = (config.v_min, config.v_max);
     let rows = SpmSolver::graphite_nmc(config).simulate_discharge(current, dt, temp_k, limit);
@@ -21,9 +30,11 @@ fn main() {
         println!("{},{}", numbers.join(","), u8::from(r.cutoff));
     }
     println!(
-        "# cell.txt current={} A temperature={} K v_min={} V v_max={} V",
+        "# {cell} current={} A temperature={} K v_min={} V v_max={} V",
         spelled(current), spelled(temp_k), spelled(v_min), spelled(v_max)
     );
     let ending = if rows.iter().any(|r| r.cutoff) { "voltage" } else { "time" };
-    println!("# ended by {ending} after {} rows", rows.len());
+    if program == "discharge" {
+        println!("# ended by {ending} after {} rows", rows.len());
+    }
 }
