@@ -5,7 +5,6 @@ use mathlib.Core.Bool.{Bool, _&&_}
 use Rattle.refusal.specs.Numbers.{refusalUnless, firstRefusal}
 
 infixl 50 _both_
-
 pub _both_ : {a b c d : Bool} → a ≡ b → c ≡ d → a && c ≡ b && d
 p both q = rw (p, q)
 

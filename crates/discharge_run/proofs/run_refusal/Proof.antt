@@ -68,15 +68,28 @@ grid-once (suc g) l f x = rw eqb·suc-zero
 returns : tie.Need-returns
 unfolding runRefusal cellRefusal
 returns c =
-    let grid = c .before .before .before .before .before .before .before .before .before .before .before .before .before .before .refusal-unless .ensures ∙ equal-unless N.grid (c .before .before .before .before .before .before .before .before .before .before .before .before .before .before .before .grid-fits .ensures) in
-    let length = c .before .before .before .before .before .before .before .before .before .before .before .before .before .refusal-unless2 .ensures in
-    let cell = c .before .before .before .before .before .before .before .before .before .before .before .before .refusal .ensures in
-    let load = c .before .before .before .before .before .before .before .before .before .before .refusal-unless3 .ensures ∙ equal-unless N.load (c .before .before .before .before .before .before .before .before .before .before .before .load-fits .ensures) in
-    let interval = c .before .before .before .before .before .before .before .refusal-unless4 .ensures ∙ equal-unless N.interval (c .before .before .before .before .before .before .before .before .before .interval-fits .ensures both c .before .before .before .before .before .before .before .before .is-finite .ensures) in
-    let temperature = c .before .before .before .before .before .refusal-unless5 .ensures ∙ equal-unless N.temperature (c .before .before .before .before .before .before .temperature-fits .ensures) in
-    let late = c .before .before .before .first-refusal2 .ensures ∙ equal-first load (c .before .before .before .before .first-refusal .ensures ∙ equal-first interval temperature) in
+    let first-refusal4 = c .before .first-refusal4 in
+    let first-refusal3 = c .before .before .first-refusal3 in
+    let first-refusal2 = c .before .before .before .first-refusal2 in
+    let first-refusal = c .before .before .before .before .first-refusal in
+    let refusal-unless5 = c .before .before .before .before .before .refusal-unless5 in
+    let temperature-fits = c .before .before .before .before .before .before .temperature-fits in
+    let refusal-unless4 = c .before .before .before .before .before .before .before .refusal-unless4 in
+    let is-finite = c .before .before .before .before .before .before .before .before .is-finite in
+    let interval-fits = c .before .before .before .before .before .before .before .before .before .interval-fits in
+    let refusal-unless3 = c .before .before .before .before .before .before .before .before .before .before .refusal-unless3 in
+    let load-fits = c .before .before .before .before .before .before .before .before .before .before .before .load-fits in
+    let refusal = c .before .before .before .before .before .before .before .before .before .before .before .before .refusal in
+    let refusal-unless2 = c .before .before .before .before .before .before .before .before .before .before .before .before .before .refusal-unless2 in
+    let refusal-unless = c .before .before .before .before .before .before .before .before .before .before .before .before .before .before .refusal-unless in
+    let grid-fits = c .before .before .before .before .before .before .before .before .before .before .before .before .before .before .before .grid-fits in
+    let grid = refusal-unless .ensures ∙ equal-unless N.grid (grid-fits .ensures) in
+    let load = refusal-unless3 .ensures ∙ equal-unless N.load (load-fits .ensures) in
+    let interval = refusal-unless4 .ensures ∙ equal-unless N.interval (interval-fits .ensures both is-finite .ensures) in
+    let temperature = refusal-unless5 .ensures ∙ equal-unless N.temperature (temperature-fits .ensures) in
+    let late = first-refusal2 .ensures ∙ equal-first load (first-refusal .ensures ∙ equal-first interval temperature) in
     c .first-refusal5 .ensures
-    ∙ equal-first grid (c .before .first-refusal4 .ensures ∙ equal-first length (c .before .before .first-refusal3 .ensures ∙ equal-first cell late))
+    ∙ equal-first grid (first-refusal4 .ensures ∙ equal-first (refusal-unless2 .ensures) (first-refusal3 .ensures ∙ equal-first (refusal .ensures) late))
     ∙ grid-once _ _ _ _
 
 pub run-refusal-spec : {M : Type 1} → statement M

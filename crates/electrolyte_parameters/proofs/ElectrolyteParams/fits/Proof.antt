@@ -1,10 +1,18 @@
 -- `electrolyte_parameters::ElectrolyteParams::fits` meets its contract. Assumes nothing.
 use borrow.Author.Needs.{needs}
+use Rattle.refusal.specs.EqualParts.{_both_}
 use Rattle.electrolyte_parameters.proofs.ElectrolyteParams.fits.Statement.{statement}
 use Rattle.electrolyte_parameters.proofs.ElectrolyteParams.fits.Tie as tie
 
 returns : tie.Need-returns
-returns c = cc
+returns c =
+    c .before .before .before .before .before .before .within .ensures
+    both c .before .before .before .before .before .within2 .ensures
+    both c .before .before .before .before .within3 .ensures
+    both c .before .before .before .within4 .ensures
+    both c .before .before .within5 .ensures
+    both c .before .within6 .ensures
+    both c .within7 .ensures
 
 pub fits-spec : {M : Type 1} → statement M
 fits-spec =
