@@ -1,6 +1,6 @@
 // The list of names, with units, ranges and what a run starts from.
-use cell_file::records::ready;
 use crate::arguments::is;
+use cell_file::records::ready;
 use electrode::ElectrodeParams;
 use setting_messages::OUT;
 use setting_messages::say;
