@@ -5,6 +5,9 @@ ghost use lib.ListN.{length};
 ghost use Rattle.decimal_spelling.specs.Spelling.{written, putAll};
 ghost use Rattle.csv_rows.specs.Row.{fieldOf, numberAt, separatorOf, columnsBy};
 
+// Standard output.
+pub const OUT: i32 = 1;
+
 // The field in column k.
 fn field(k: usize) -> usize
     requires { ⌜ k < 8 ⌝ }
@@ -70,13 +73,13 @@ pub fn write_line(fd: i32, line: &[u8; 4096], used: usize) {
 fn write_row(rows: &[f64; 80000], row: usize) {
     let mut line = [0u8; 4096];
     let used = put_row(&mut line, rows, row);
-    write_line(1, &line, used);
+    write_line(OUT, &line, used);
 }
 
 // Writes the names of the columns with their units, and a line for each row, to standard output.
 pub fn write_rows(rows: &[f64; 80000], count: usize) {
     io::write_all(
-        1,
+        OUT,
         b"time [s],voltage [V],current [A],theta_neg [1],theta_pos [1],theta_neg_avg [1],theta_pos_avg [1],cutoff [1]\n",
     );
     for i in 0..count {

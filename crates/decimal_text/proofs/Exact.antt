@@ -1,7 +1,7 @@
 -- Digits and power of ten are exact, so their quotient is the decimal rounded once. Assumes nothing.
 use Prim.Native.Nat.{ℕ, _*_, _^_, _≤_, _<_}
 use mathlib.Core.Path.{_≡_, sym, ap, _∙_}
-use mathlib.Core.Bool.{Bool, true, false, _&&_}
+use mathlib.Core.Bool.{Bool, true, false, _&&_, and-eq-true-iff}
 use native.Mathlib.Nat.{mul-one, mul-pos, mul-assoc, mul-comm, mul-left-comm, one-le-pow, zero-lt-suc}
 use native.Mathlib.Omega.{arith}
 use borrow.Author.Tests.{leb-true}
@@ -17,7 +17,6 @@ use Rattle.binary64.specs.Opened.{div-is}
 use Rattle.binary64.specs.Order.{int-value, value-finite, value-sign, value-cross}
 use Rattle.binary64.specs.Decimal.{decimal}
 use Rattle.iterate.specs.Iterate.{allBelow, all-at}
-use Rattle.decimal_text.proofs.Both.{both-l, both-r}
 use Rattle.decimal_text.specs.Nearest.{tens}
 
 -- above 0, and the whole number n
@@ -59,4 +58,6 @@ quotient-is m k h l = once (count m) (tens k) m (10 ^ k) (int-value (pos m) h) (
 
 -- the same from the test of both bounds
 pub quotient-within : (m k : ℕ) → leb m (2 ^ 53) && leb k 22 ≡ true → count m ⊘ tens k ≡ decimal m k
-quotient-within m k h = quotient-is m k (leb-true m (2 ^ 53) (both-l (leb m (2 ^ 53)) (leb k 22) h)) (leb-true k 22 (both-r (leb m (2 ^ 53)) (leb k 22) h))
+quotient-within m k h =
+    let both = and-eq-true-iff (leb m (2 ^ 53)) (leb k 22) .0 h in
+    quotient-is m k (leb-true m (2 ^ 53) (both .0)) (leb-true k 22 (both .1))

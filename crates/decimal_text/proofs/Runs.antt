@@ -1,7 +1,7 @@
 -- A run of digits, digit by digit, with its number cut where it cannot be read. Assumes nothing.
 use Prim.Native.Nat.{ℕ, suc, _+_, _*_, _-_, _^_, _≤_, _<_, min}
 use mathlib.Core.Path.{_≡_, sym, _∙_}
-use mathlib.Core.Bool.{Bool, true, false, cond, _||_}
+use mathlib.Core.Bool.{Bool, true, false, cond, _||_, and-eq-true-iff}
 use mathlib.Core.List.{List, [], _∷_}
 use native.Mathlib.Nat.{min-eq-right, le-refl, le-trans, pow-suc, mul-assoc, mul-comm, mul-left-comm}
 use native.Mathlib.Numerals.{add-one}
@@ -10,17 +10,16 @@ use borrow.Author.Tests.{leb-true, ltb-true}
 use lib.Dec.{leb, ltb, eqb}
 use lib.ListN.{length, drop, getD, drop-of-length-le}
 use lib.Seq.{drop-cons}
-use Rattle.decimal_text.proofs.Both.{both-l, both-r}
 use Rattle.decimal_text.specs.Digits.{most, isDigit, isAt, digitsAhead, valueWith}
 
 pub digit-low : (b : ℕ) → isDigit b ≡ true → 48 ≤ b
-digit-low b h = leb-true 48 b (both-l (leb 48 b) (leb b 57) h)
+digit-low b h = leb-true 48 b (and-eq-true-iff (leb 48 b) (leb b 57) .0 h .0)
 
 pub digit-high : (b : ℕ) → isDigit b ≡ true → b ≤ 57
-digit-high b h = leb-true b 57 (both-r (leb 48 b) (leb b 57) h)
+digit-high b h = leb-true b 57 (and-eq-true-iff (leb 48 b) (leb b 57) .0 h .1)
 
 pub at-inside : (s : List ℕ) (at a b : ℕ) → isAt s at a b ≡ true → at < length s
-at-inside s at a b h = ltb-true at (length s) (both-l (ltb at (length s)) (eqb (getD s at 0) a || eqb (getD s at 0) b) h)
+at-inside s at a b h = ltb-true at (length s) (and-eq-true-iff (ltb at (length s)) (eqb (getD s at 0) a || eqb (getD s at 0) b) .0 h .0)
 
 pub grows : (n : ℕ) (s : List ℕ) → n ≤ valueWith n s
 unfolding valueWith

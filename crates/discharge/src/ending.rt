@@ -1,8 +1,8 @@
 // What was run and how it ended, in words.
 use crate::arguments::names_cell;
+use csv_rows::OUT;
 use runs::Ending;
 use setting_messages::ERR;
-use setting_messages::OUT;
 use setting_messages::entry;
 use setting_messages::name;
 use setting_messages::number;
@@ -54,7 +54,7 @@ pub(crate) fn write_ending(ending: Ending, rows: usize) {
     say(OUT, b"# ended by ");
     let number = runs::ending_number(ending);
     entry(OUT, b"|voltage|time|a full table|", number as usize);
-    if number == 4 {
+    if number == runs::REFUSED {
         say_refusal(OUT, runs::ending_refusal(ending));
     }
     say(OUT, b" after ");

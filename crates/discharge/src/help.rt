@@ -1,8 +1,8 @@
 // The list of names, with units, ranges and what a run starts from.
 use crate::arguments::is;
 use cell_file::records::ready;
+use csv_rows::OUT;
 use electrode::ElectrodeParams;
-use setting_messages::OUT;
 use setting_messages::say;
 use setting_messages::write_name;
 

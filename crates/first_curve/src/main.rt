@@ -27,7 +27,7 @@ fn main() {
         csv_rows::write_rows(&rows, r.rows);
         // for who draws the rows
         io::write_all(
-            1,
+            csv_rows::OUT,
             b"# nmc current=5 A temperature=298.15 K v_min=3 V v_max=4.2 V\n",
         );
     }

@@ -1,7 +1,7 @@
 -- What it means that a call returns 0: its lengths are right, its inputs pass, and its answer is what it writes. Assumes nothing.
 use Prim.Native.Nat.{ℕ, zero, suc}
 use mathlib.Core.Path.{_≡_, refl, sym, _∙_}
-use mathlib.Core.Bool.{Bool, true, false, cond, _&&_}
+use mathlib.Core.Bool.{Bool, true, false, cond, and-eq-true-iff}
 use mathlib.Core.List.{List}
 use native.Mathlib.Omega.{arith}
 use borrow.Author.Tests.{eqb-true, eq-eqb}
@@ -34,15 +34,6 @@ unfolding afterLengths
 after-lengths true k h = (refl, h)
 after-lengths false k h = let z : N.badLength ≡ 0 = h in absurd (omega (arith, z))
 
-pub first-true : (x y : Bool) → x && y ≡ true → x ≡ true
-first-true true y e = refl
-first-true false y e = e
-
-pub second-true : (x y : Bool) → x && y ≡ true → y ≡ true
-second-true true y e = e
-second-true false true e = refl
-second-true false false e = e
-
 -- a call of the boundary that returns 0: image s of m bytes, answer a of n bytes, the number k, and `new` in the answer
 pub record Accepted (s a : List ℕ) (m n k : ℕ) (new : List ℕ) : Type 0 where
   pub image : length s ≡ m
@@ -54,8 +45,8 @@ pub accepted : (s a : List ℕ) (m n k : ℕ) (new : List ℕ) → afterLengths 
 accepted s a m n k new h =
     let c = after-lengths (lengths (length s) m (length a) n) k h in
     record {
-      image = eqb-true (length s) m (first-true (eqb (length s) m) (eqb (length a) n) (c .0));
-      answer = eqb-true (length a) n (second-true (eqb (length s) m) (eqb (length a) n) (c .0));
+      image = eqb-true (length s) m (and-eq-true-iff (eqb (length s) m) (eqb (length a) n) .0 (c .0) .0);
+      answer = eqb-true (length a) n (and-eq-true-iff (eqb (length s) m) (eqb (length a) n) .0 (c .0) .1);
       refusal = c .1;
       writes = rw (c .0);
     }

@@ -3,7 +3,7 @@
 -- C gives it (`f64 bits`). Assumes nothing.
 use Prim.Native.Nat.{ℕ, _≤_, _<_, _^_}
 use mathlib.Core.Path.{sym, _≡_, refl, ap, _∙_}
-use mathlib.Core.Bool.{Bool, true, false}
+use mathlib.Core.Bool.{Bool, true, false, and-eq-true-iff}
 use mathlib.Core.List.{List, map}
 use native.Mathlib.Omega.{arith}
 use native.Mathlib.Nat.{le-refl}
@@ -37,7 +37,7 @@ use Rattle.image_numbers.specs.Numbers.{numberOutcome, numberLength}
 use Rattle.image_builds.specs.Builds.{readySheet, readyParams, particleMade, cellBuilt, electrolyteBuilt, dfnMade, newReturn, newAfter, readyPut, buildLength, builtLength}
 use Rattle.boundary.specs.Calls as B
 use Rattle.boundary.specs.Runs as BR
-use Rattle.image_laws.specs.Accepted.{after-lengths, second-true, accepted, no-refusal}
+use Rattle.image_laws.specs.Accepted.{after-lengths, accepted, no-refusal}
 use Rattle.image_laws.specs.Encodable.{literal}
 use Rattle.image_laws.specs.Rows.{row-read-back}
 use Rattle.image_laws.specs.CellImages.{particleIn}
@@ -218,7 +218,7 @@ number-read-back call s x y a = go (B.listed call 19) (B.lengths (length s) (num
         → placesAt 1 (putRow a 0 (B.numberCall call s x y (length a) .values)) 0 ≡ numberOutcome call s x y .values
     go true true d e h =
         let n = number-answered call s x y in
-        let l : length a ≡ 8 = eqb-true (length a) 8 (second-true (eqb (length s) (numberLength call)) (eqb (length a) 8) e) in
+        let l : length a ≡ 8 = eqb-true (length a) 8 (and-eq-true-iff (eqb (length s) (numberLength call)) (eqb (length a) 8) .0 e .1) in
         let z : numberOutcome call s x y .refusal ≡ 0 = rw (d, e) at h in
         rw (d, e) (row-read-back 1 a 0 (numberOutcome call s x y .values) (n .one z) (rw l (le-refl 8)) (n .places))
     go true false d e h = let z : N.badLength ≡ 0 = rw (d, e) at h in absurd (omega (arith, z))

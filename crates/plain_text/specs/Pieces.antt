@@ -1,7 +1,7 @@
 -- Laws on pieces of a text. Assumes nothing.
 use Prim.Native.Nat.{ℕ, zero, suc, _-_, _≤_}
 use mathlib.Core.Path.{_≡_, refl}
-use mathlib.Core.Bool.{Bool, true, false, cond, _&&_}
+use mathlib.Core.Bool.{Bool, true, false, cond, and-eq-true-iff}
 use mathlib.Core.List.{List, [], _∷_}
 use native.Mathlib.Omega.{arith}
 use native.Mathlib.Nat.{zero-lt-suc}
@@ -12,13 +12,9 @@ use lib.Seq.{take-all}
 use Rattle.iterate.specs.Iterate.{allBelow}
 use Rattle.plain_text.specs.Text.{indexOf, headed, linesOf, startsWith}
 
-both-l : (a b : Bool) → a && b ≡ true → a ≡ true
-both-l true b h = refl
-both-l false b h = h
-
 pub starts-long : (s p : List ℕ) → startsWith s p ≡ true → length p ≤ length s
 unfolding startsWith
-starts-long s p h = leb-true (length p) (length s) (both-l (leb (length p) (length s)) (allBelow (length p) (λ j. eqb (getD s j 0) (getD p j 0))) h)
+starts-long s p h = leb-true (length p) (length s) (and-eq-true-iff (leb (length p) (length s)) (allBelow (length p) (λ j. eqb (getD s j 0) (getD p j 0))) .0 h .0)
 
 -- a slice up to the end is all that is left
 pub rest-is : (n : ℕ) (s : List ℕ) → take (length s - n) (drop n s) ≡ drop n s

@@ -6,7 +6,7 @@ ghost use lib.ListN.{length, drop, getD};
 ghost use Rattle.plain_text.specs.Text.{isBlank, indexOf, blanksAhead, solidEnd, trimmed, startsWith, afterMark};
 
 // The byte at i, or 0 past the end.
-pub fn byte_at(s: &[u8], i: usize) -> u8
+fn byte_at(s: &[u8], i: usize) -> u8
     ensures { λ r. ⌜ r ≡ getD (now (s .entry)) i 0 ⌝ }
 {
     if i < s.len() {

@@ -2,8 +2,7 @@
 use cell_file::GIVEN_TWICE;
 use cell_file::OUT_OF_RANGE;
 use cell_file::Settings;
-
-pub const OUT: i32 = 1;
+use csv_rows::OUT;
 
 pub const ERR: i32 = 2;
 
