@@ -19,29 +19,29 @@ module _ {S : Type 0} (over : S → ℕ) (turned : S → S) (row : S → List Fl
   abbrev rows : ℕ → List Float → List Float
   rows k l = rowsAfter over turned row k s l
 
-  run-more : (k : ℕ) → over (after k) ≡ 0 → after (k + 1) ≡ turned (after k)
+  pub run-more : (k : ℕ) → over (after k) ≡ 0 → after (k + 1) ≡ turned (after k)
   unfolding runAfter
   run-more k h = rw (add-one, eq-eqb _ _ h)
 
   -- once over, a run stays as it is
-  run-stays : (k d : ℕ) → (over (after k) ≡ 0 → ⊥) → after (k + d) ≡ after k
+  pub run-stays : (k d : ℕ) → (over (after k) ≡ 0 → ⊥) → after (k + d) ≡ after k
   unfolding runAfter
   run-stays k zero h = rw add-zero
   run-stays k (suc d) h = rw (add-suc, run-stays k d h, ne-eqb _ _ h)
 
-  rows-stay : (k d : ℕ) (l : List Float) → (over (after k) ≡ 0 → ⊥) → rows (k + d) l ≡ rows k l
+  pub rows-stay : (k d : ℕ) (l : List Float) → (over (after k) ≡ 0 → ⊥) → rows (k + d) l ≡ rows k l
   unfolding rowsAfter
   rows-stay k zero l h = rw add-zero
   rows-stay k (suc d) l h = rw (add-suc, run-stays k d h, ne-eqb _ _ h) (rows-stay k d l h)
 
-  rows-more : (k : ℕ) (l : List Float) → over (after k) ≡ 0 → (over (after (k + 1)) ≡ byRefusal → ⊥)
+  pub rows-more : (k : ℕ) (l : List Float) → over (after k) ≡ 0 → (over (after (k + 1)) ≡ byRefusal → ⊥)
       → rows (k + 1) l ≡ placesBy (k * 8) 8 (λ j. getD (row (after (k + 1))) j nan) (rows k l)
   unfolding rowsAfter
   rows-more k l h g =
       let g′ : over (after (suc k)) ≡ byRefusal → ⊥ = rw add-one at g in
       rw (add-one, eq-eqb _ _ h, ne-eqb _ _ g′)
 
-  rows-refused : (k : ℕ) (l : List Float) → over (after k) ≡ 0 → over (after (k + 1)) ≡ byRefusal → rows (k + 1) l ≡ rows k l
+  pub rows-refused : (k : ℕ) (l : List Float) → over (after k) ≡ 0 → over (after (k + 1)) ≡ byRefusal → rows (k + 1) l ≡ rows k l
   unfolding rowsAfter
   rows-refused k l h g =
       let g′ : over (after (suc k)) ≡ byRefusal = rw add-one at g in

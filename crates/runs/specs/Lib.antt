@@ -4,7 +4,9 @@
 -- Rows: what stands after k turns of a run, and what the slice then holds.
 -- RunAnswers: when the answer of a run is written.
 -- Laws: how a turn goes on or ends; a run's loop keeps `Going` and leaves by `ends-refused`, `ends-stopped` or `ends-full`.
+-- RowPlaces: each row stands at its eight places, and the places after the last one are as they were.
 pub mod Endings
 pub mod Rows
 pub mod RunAnswers
 pub mod Laws
+pub mod RowPlaces
