@@ -1,13 +1,15 @@
--- Laws of a run's turns: a run that is over stays so, and how each turn goes on or ends. Assumes nothing.
+-- Laws of a run's turns: a run that is over stays so, what each turn keeps the run keeps, and how each turn goes on or ends. Assumes nothing.
 use Prim.Native.Nat.{ℕ, zero, suc, _+_, _-_, _*_, _≤_, _<_}
-use mathlib.Core.Path.{_≡_, sym, _∙_}
+use mathlib.Core.Path.{_≡_, refl, sym, _∙_}
+use mathlib.Core.Bool.{Bool, true, false, cond}
 use mathlib.Core.List.{List}
 use native.Mathlib.Omega.{arith}
 use native.Mathlib.Nat.{add-zero, add-suc}
 use native.Mathlib.Numerals.{add-one}
+use lib.Dec.{eqb}
 use lib.ListN.{length, getD}
 use lib.Ieee.{Float, nan}
-use borrow.Author.Tests.{eq-eqb, ne-eqb}
+use borrow.Author.Tests.{eqb-true, eq-eqb, ne-eqb}
 use Rattle.array_update.specs.ArrayUpdate.{placesBy}
 use Rattle.runs.specs.Rows.{runAfter, rowsAfter}
 use Rattle.runs.specs.Endings.{byRefusal}
@@ -28,6 +30,16 @@ module _ {S : Type 0} (over : S → ℕ) (turned : S → S) (row : S → List Fl
   unfolding runAfter
   run-stays k zero h = rw add-zero
   run-stays k (suc d) h = rw (add-suc, run-stays k d h, ne-eqb _ _ h)
+
+  -- what each turn keeps, the run keeps
+  pub run-keeps : (P : S → Type 0) → ((x : S) → over x ≡ 0 → P x → P (turned x)) → P s → (k : ℕ) → P (after k)
+  unfolding runAfter
+  run-keeps P f p zero = p
+  run-keeps P f p (suc k) = go (eqb (over (after k)) 0) refl (run-keeps P f p k)
+    where
+      go : (b : Bool) → eqb (over (after k)) 0 ≡ b → P (after k) → P (cond b (turned (after k)) (after k))
+      go true e q = f (after k) (eqb-true _ _ e) q
+      go false e q = q
 
   pub rows-stay : (k d : ℕ) (l : List Float) → (over (after k) ≡ 0 → ⊥) → rows (k + d) l ≡ rows k l
   unfolding rowsAfter

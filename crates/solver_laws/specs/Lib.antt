@@ -30,6 +30,7 @@ pub mod Demand
 pub mod Clock
 pub mod Ordered
 pub mod Ranking
+pub mod AcceptedLists
 pub mod RunLists
 pub mod RunEnds
 pub mod Instance

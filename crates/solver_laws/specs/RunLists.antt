@@ -7,14 +7,14 @@ use borrow.Author.Tests.{eqb-true, eqb-false, eq-eqb}
 use native.Mathlib.Nat.{zero-mul, suc-mul, add-comm}
 use native.Mathlib.Numerals.{add-one}
 use lib.Dec.{eqb}
-use lib.ListN.{replicate}
+use lib.ListN.{replicate, replicate-append-replicate}
 use Rattle.fraction.specs.Fraction.{nat, pow2, _-F_, _*F_, _/F_, _within_}
 use Rattle.binary64.specs.Value.{val}
 use Rattle.refusal.specs.Numbers.{firstRefusal, refusalUnless, grid, sheet, neither-refused}
 use Rattle.diffusion.specs.Premises.{StepConditions}
 use Rattle.diffusion.specs.Copies.{each-copies}
 use Rattle.particle.specs.Particle.{placeOf}
-use Rattle.runs.specs.Rows.{runAfter}
+use Rattle.runs.specs.Laws.{run-keeps}
 use Rattle.solver.specs.declared.SpmSolver.{SpmSolver}
 use Rattle.solver.specs.Cell.{gridFits, cellFits, cellRefusal}
 use Rattle.solver_step.specs.Plans.{subStepsOf}
@@ -24,6 +24,7 @@ use Rattle.discharge_run.specs.Discharge.{RunOutcome, overOf, lastRow, started,
 use Rattle.solver_laws.specs.Electrodes.{Electrode, particleAt}
 use Rattle.solver_laws.specs.Closure.{step-refused, step-count}
 use Rattle.solver_laws.specs.Demand.{Call, answer, cellAfter, taken, K, planFor, numbersAt, exactPlace, Inv, itself, stays, same-plan, solver-near}
+use Rattle.solver_laws.specs.AcceptedLists.{AllAccepted, all-taken, Listed, listed-none, listed-more}
 
 -- ---- what a run gives each step, and its list of calls: one for each row. A step that is refused ends the run without a row: it leaves the cell as it was, and adds no call.
 abbrev pub callOf : RunSettings → Call
@@ -32,87 +33,35 @@ callOf w = record { current = w .«current_a»; dt = w .dt; temp = w .«temp_k»
 abbrev pub callsOf : RunSettings → SpmSolver → ℕ → List Call
 callsOf w s places = replicate (discharged w s places .rows) (callOf w)
 
--- every call of a list is accepted
-data AllAccepted : SpmSolver → List Call → Type 0 where
-  none : {s : SpmSolver} → AllAccepted s []
-  more : {s : SpmSolver} {q : Call} {qs : List Call} → answer s q .refusal ≡ 0 → AllAccepted (answer s q .solver) qs → AllAccepted s (q ∷ qs)
-
-all-taken : {s : SpmSolver} {qs : List Call} → AllAccepted s qs → taken s qs ≡ qs
-unfolding taken
-all-taken AllAccepted.none = refl
-all-taken (AllAccepted.more {s = s} {q = q} h hs) = rw (eq-eqb (answer s q .refusal) 0 h) (ap (λ (l : List Call). q ∷ l) (all-taken hs))
-
--- ---- one call more, at the end of a list of equal ones
-one-more : (n : ℕ) (s : SpmSolver) (q : Call) → cellAfter s (replicate (suc n) q) ≡ answer (cellAfter s (replicate n q)) q .solver
-unfolding cellAfter
-one-more zero s q = refl
-one-more (suc n) s q = one-more n (answer s q .solver) q
-
-accepted-more : (n : ℕ) (s : SpmSolver) (q : Call) → AllAccepted s (replicate n q) → answer (cellAfter s (replicate n q)) q .refusal ≡ 0 → AllAccepted s (replicate (suc n) q)
-unfolding cellAfter
-accepted-more zero s q a h = AllAccepted.more h AllAccepted.none
-accepted-more (suc n) s q (AllAccepted.more k a) h = AllAccepted.more k (accepted-more n (answer s q .solver) q a h)
-
--- ---- the turns of a run
+-- ---- the turns of a run: its cell is that after a call for each row, all of them accepted
 module _ (w : RunSettings) (s : SpmSolver) where
-  -- its cell is that after a call for each row, all of them accepted
-  record Listed (r : RunState) : Type 0 where
-    cell : r .solver ≡ cellAfter s (replicate (r .rows) (callOf w))
-    accepted : AllAccepted s (replicate (r .rows) (callOf w))
-
-  followed-listed : (r : RunState) (b : Bool) → eqb (answer (r .solver) (callOf w) .refusal) 0 ≡ b → Listed r → Listed (followed w r (answer (r .solver) (callOf w)))
+  followed-listed : (r : RunState) (b : Bool) → eqb (answer (r .solver) (callOf w) .refusal) 0 ≡ b → Listed s (r .solver) (replicate (r .rows) (callOf w))
+      → Listed s (followed w r (answer (r .solver) (callOf w)) .solver) (replicate (followed w r (answer (r .solver) (callOf w)) .rows) (callOf w))
   unfolding followed
   followed-listed r true e l =
       let h = eqb-true (answer (r .solver) (callOf w) .refusal) 0 e in
-      let c = l .cell in
-      rw (e, add-one (r .rows)) (record {
-        cell = ap (λ (x : SpmSolver). answer x (callOf w) .solver) c ∙ sym (one-more (r .rows) s (callOf w));
-        accepted = accepted-more (r .rows) s (callOf w) (l .accepted) (ap (λ (x : SpmSolver). answer x (callOf w) .refusal) (sym c) ∙ h);
-      })
+      rw (e, ← replicate-append-replicate (r .rows) 1 (callOf w)) (listed-more s (r .solver) (replicate (r .rows) (callOf w)) (callOf w) l h)
   followed-listed r false e l =
       let n = eqb-false (answer (r .solver) (callOf w) .refusal) 0 e in
-      rw e (record { cell = step-refused (r .solver) (w .«current_a») (w .dt) (w .«temp_k») n .0 ∙ l .cell; accepted = l .accepted })
+      rw (e, step-refused (r .solver) (w .«current_a») (w .dt) (w .«temp_k») n .0) l
 
-  turned-listed : (r : RunState) → Listed r → Listed (turned w r)
+  turned-listed : (r : RunState) → Listed s (r .solver) (replicate (r .rows) (callOf w)) → Listed s (turned w r .solver) (replicate (turned w r .rows) (callOf w))
   unfolding turned
   turned-listed r l = followed-listed r (eqb (answer (r .solver) (callOf w) .refusal) 0) refl l
 
-  either : (b : Bool) (r r' : RunState) → Listed r → Listed r' → Listed (cond b r r')
-  either true r r' l l' = l
-  either false r r' l l' = l'
+  turns-listed : (total : ℕ) → Listed s (allTurns w (started w s) total .solver) (replicate (allTurns w (started w s) total .rows) (callOf w))
+  unfolding allTurns finishedRun started
+  turns-listed total =
+      run-keeps overOf (turned w) lastRow (started w s) (λ (r : RunState). Listed s (r .solver) (replicate (r .rows) (callOf w))) (λ r o l. turned-listed r l) (listed-none s) total
 
-  after-listed : (k : ℕ) (r : RunState) → Listed r → Listed (runAfter overOf (turned w) lastRow k r)
-  unfolding runAfter
-  after-listed zero r l = l
-  after-listed (suc k) r l =
-      let a = runAfter overOf (turned w) lastRow k r in
-      let m = after-listed k r l in
-      either (eqb (a .over) 0) (turned w a) a (turned-listed a m) m
-
-  start-listed : Listed (started w s)
-  unfolding started cellAfter
-  start-listed = record { cell = refl; accepted = AllAccepted.none }
-
-  -- ---- the whole run
-  record RunListed (r : RunOutcome) : Type 0 where
-    cell : r .solver ≡ cellAfter s (replicate (r .rows) (callOf w))
-    accepted : AllAccepted s (replicate (r .rows) (callOf w))
-
-  turns-listed : (total : ℕ) → RunListed (allTurns w (started w s) total)
-  unfolding allTurns finishedRun
-  turns-listed total = let l = after-listed total (started w s) start-listed in record { cell = l .cell; accepted = l .accepted }
-
-  refused-listed : (k : ℕ) → RunListed (refusedRun k s)
-  unfolding cellAfter
-  refused-listed k = record { cell = refl; accepted = AllAccepted.none }
-
-  discharged-listed : (places : ℕ) → RunListed (discharged w s places)
+  discharged-listed : (places : ℕ) → Listed s (discharged w s places .solver) (callsOf w s places)
   unfolding discharged
   discharged-listed places = go (eqb (runRefusal w s places) 0)
     where
-      go : (b : Bool) → RunListed (cond b (allTurns w (started w s) (places / 8)) (refusedRun (runRefusal w s places) s))
+      go : (b : Bool) → Listed s (cond b (allTurns w (started w s) (places / 8)) (refusedRun (runRefusal w s places) s) .solver)
+          (replicate (cond b (allTurns w (started w s) (places / 8)) (refusedRun (runRefusal w s places) s) .rows) (callOf w))
       go true = turns-listed (places / 8)
-      go false = refused-listed (runRefusal w s places)
+      go false = listed-none s
 
 -- THE CELL THAT A RUN LEAVES is the cell after one call of `step` for each row; a run that is refused as a whole has no rows
 pub run-is-list : (w : RunSettings) (s : SpmSolver) (places : ℕ) → discharged w s places .solver ≡ cellAfter s (callsOf w s places)
