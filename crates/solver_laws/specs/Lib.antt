@@ -32,5 +32,7 @@ pub mod Ordered
 pub mod Ranking
 pub mod AcceptedLists
 pub mod RunLists
+pub mod ReplayLists
+pub mod ReplayDemand
 pub mod RunEnds
 pub mod Instance
