@@ -8,6 +8,10 @@
 --   Ranking     THEOREM 3, `solver-ranking`: two cells of one make with equal profiles (`Twins`), two lists that keep the conditions at both electrodes, their accepted calls paired
 --               (`Paired`): then (`Ranked`) at no place is the second cathode more than 2·K·M / 2 ^ 49 below the first, or the second anode more than that above
 --   RunLists    `run-is-list`: the cell that a run leaves is the cell after one call of `step` for each of its rows, all of them accepted (`run-accepted`);  `run-near`: theorem 2 for it
+--   ReplayLists `replay-is-list`, `replay-accepted`: the same for a replay, whose calls are the numbers of its lines in order (`ReplayCalls: callsOf`);  `replay-row`: row j is the row of the
+--               solver's own step with line j on the cell that the lines above left, `replay-line`: and that line is of its form and accepted;  `replay-kept`: the places after the last
+--               row are as they were;  `replay-ends`: how it ends, `replay-done`, `done-replay`: done exactly where no byte is left and the last row did not cut off
+--   ReplayDemand  `replay-near`, `replay-ranked`: theorems 2 and 3 for the cells that replays leave, the premises line by line
 --   Instance    the ready cell of graphite and lithium iron phosphate, 11 nodes: `discharge-near`, theorem 2 for a call of two sub-steps and one on what it leaves, refused calls before,
 --               between and after them, K = 3;  `discharge-ranked`, theorem 3 for that list and one at 4 A with its refused calls elsewhere, from a cell of another clock.
 --               Every premise is computed or proved, that the cells accept the calls too
@@ -18,6 +22,7 @@
 --               `step-count`, `step-clock`, `step-make`: what it reports, the clock, and that config, sheets and counts of nodes stay;  `Leads`: what a step answers, in two cases
 --   Acceptance  `step-accepted`: a step that neither its input nor its plan refuses is accepted, whatever the profiles, where the clock stays finite
 --   Clock       `step-number`: 8 never comes from a step of the cell;  `step-again`: a step that is accepted is accepted again by the cell that it leaves
+--   AcceptedLists  lists whose calls are all accepted, and one call more at their end;  ReplayTurns: where a replay stands after each turn
 --   RunEnds     `run-ends`: a run is refused before its first row or not at all
 --   Electrodes  an electrode's particle and its numbers in a plan;  `sub-step-ranged`: each sub-step of an accepted call is in its ranges;  `count-most`: at most 4,096 of them;
 --               `cathode-flux`, `anode-flux`: with the current the flux grows at the cathode and falls at the anode
@@ -32,6 +37,8 @@ pub mod Ordered
 pub mod Ranking
 pub mod AcceptedLists
 pub mod RunLists
+pub mod ReplayCalls
+pub mod ReplayTurns
 pub mod ReplayLists
 pub mod ReplayDemand
 pub mod RunEnds

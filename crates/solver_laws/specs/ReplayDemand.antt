@@ -1,7 +1,7 @@
 -- THEOREMS 2 AND 3 for replays of recorded loads: the cell that a replay leaves is near the exact scheme, and of two replays the one with the greater currents leaves more in the cathode
 -- and less in the anode. Assumes nothing.
 use Prim.Native.Nat.{ℕ, zero, suc, _<_}
-use mathlib.Core.Path.{_≡_, subst, sym}
+use mathlib.Core.Path.{_≡_}
 use mathlib.Core.List.{List, [], _∷_, _++_}
 use native.Mathlib.Omega.{arith}
 use lib.Ieee.{Float}
@@ -16,7 +16,8 @@ use Rattle.replay_run.specs.Replay.{replayed}
 use Rattle.solver_laws.specs.Electrodes.{Electrode, particleAt}
 use Rattle.solver_laws.specs.Demand.{Call, K, numbersAt, exactPlace, StepConditionsAt, solver-near}
 use Rattle.solver_laws.specs.Ranking.{Paired, Twins, Ranked, solver-ranking}
-use Rattle.solver_laws.specs.ReplayLists.{callAt, callsOf, replay-is-list, replay-accepted}
+use Rattle.solver_laws.specs.ReplayCalls.{callAt, callsOf}
+use Rattle.solver_laws.specs.ReplayLists.{replay-is-list, replay-accepted}
 
 -- ---- what holds of each line holds of the list
 each-append : {A : Type 0} {P : A → Type 0} {xs : List A} {x : A} → Each P xs → P x → Each P (xs ++ x ∷ [])

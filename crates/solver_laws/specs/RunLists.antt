@@ -2,10 +2,9 @@
 use Prim.Native.Nat.{ℕ, zero, suc, _*_, _/_, _<_}
 use mathlib.Core.Path.{_≡_, refl, sym, ap, _∙_}
 use mathlib.Core.Bool.{Bool, true, false, cond}
-use mathlib.Core.List.{List, [], _∷_}
-use borrow.Author.Tests.{eqb-true, eqb-false, eq-eqb}
+use mathlib.Core.List.{List}
+use borrow.Author.Tests.{eqb-true, eqb-false}
 use native.Mathlib.Nat.{zero-mul, suc-mul, add-comm}
-use native.Mathlib.Numerals.{add-one}
 use lib.Dec.{eqb}
 use lib.ListN.{replicate, replicate-append-replicate}
 use Rattle.fraction.specs.Fraction.{nat, pow2, _-F_, _*F_, _/F_, _within_}
@@ -20,7 +19,7 @@ use Rattle.solver.specs.Cell.{gridFits, cellFits, cellRefusal}
 use Rattle.solver_step.specs.Plans.{subStepsOf}
 use Rattle.discharge_run.specs.declared.RunSettings.{RunSettings}
 use Rattle.discharge_run.specs.declared.RunState.{RunState}
-use Rattle.discharge_run.specs.Discharge.{RunOutcome, overOf, lastRow, started, followed, turned, finishedRun, allTurns, runRefusal, refusedRun, discharged}
+use Rattle.discharge_run.specs.Discharge.{overOf, lastRow, started, followed, turned, finishedRun, allTurns, runRefusal, refusedRun, discharged}
 use Rattle.solver_laws.specs.Electrodes.{Electrode, particleAt}
 use Rattle.solver_laws.specs.Closure.{step-refused, step-count}
 use Rattle.solver_laws.specs.Demand.{Call, answer, cellAfter, taken, K, planFor, numbersAt, exactPlace, Inv, itself, stays, same-plan, solver-near}
