@@ -8,7 +8,7 @@ use lib.Dec.{T, eqb, lit≤}
 use lib.Ieee.{Float, binary64, fits}
 use lib.Ieee.Fits.{add-fits}
 use Rattle.runs.specs.Endings.{byRefusal, endingOf}
-use Rattle.runs.specs.Rows.{runAfter}
+use Rattle.runs.specs.Laws.{run-keeps}
 use Rattle.solver.specs.declared.SpmSolver.{SpmSolver}
 use Rattle.discharge_run.specs.declared.RunSettings.{RunSettings}
 use Rattle.discharge_run.specs.declared.RunState.{RunState}
@@ -61,18 +61,6 @@ module _ (w : RunSettings) where
   unfolding turned
   turned-invariant r c = followed-invariant r (eqb (answer (r .solver) (callOf w) .refusal) 0) refl c
 
-  after-invariant : (k : ℕ) (r : RunState) → RunInvariant r → RunInvariant (runAfter overOf (turned w) lastRow k r)
-  unfolding runAfter
-  after-invariant zero r c = c
-  after-invariant (suc k) r c =
-      let a = runAfter overOf (turned w) lastRow k r in
-      let d = after-invariant k r c in
-      go (eqb (a .over) 0) a (turned w a) d (turned-invariant a d)
-    where
-      go : (b : Bool) (x y : RunState) → RunInvariant x → RunInvariant y → RunInvariant (cond b y x)
-      go true x y c d = d
-      go false x y c d = c
-
   start-invariant : (s : SpmSolver) → T (fits binary64 (s .«time_s»)) → RunInvariant (started w s)
   unfolding started
   start-invariant s f = record { ended = λ n. absurd (n refl); next = λ n. absurd (n refl); clock = f }
@@ -80,7 +68,7 @@ module _ (w : RunSettings) where
   turns-end : (s : SpmSolver) (total : ℕ) → T (fits binary64 (s .«time_s»)) → (allTurns w (started w s) total .rows ≡ 0 → ⊥)
       → allTurns w (started w s) total .ended .ending ≡ byRefusal → ⊥
   unfolding allTurns finishedRun
-  turns-end s total f n e = ending-other _ _ (after-invariant total (started w s) (start-invariant s f) .ended n) e
+  turns-end s total f n e = ending-other _ _ (run-keeps overOf (turned w) lastRow (started w s) RunInvariant (λ r o c. turned-invariant r c) (start-invariant s f) total .ended n) e
 
 -- A RUN THAT HAS A ROW is not refused. The cell's clock is a number of binary64, as each f64 of a program is.
 pub run-ends : (w : RunSettings) (s : SpmSolver) (places : ℕ) → T (fits binary64 (s .«time_s»)) → (discharged w s places .rows ≡ 0 → ⊥)
