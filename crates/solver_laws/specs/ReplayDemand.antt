@@ -14,8 +14,8 @@ use Rattle.solver.specs.declared.SpmSolver.{SpmSolver}
 use Rattle.solver.specs.Cell.{cellRefusal}
 use Rattle.replay_run.specs.Replay.{replayed}
 use Rattle.solver_laws.specs.Electrodes.{Electrode, particleAt}
-use Rattle.solver_laws.specs.Demand.{Call, K, numbersAt, exactPlace, StepConditionsAt, solver-near}
-use Rattle.solver_laws.specs.Ranking.{Paired, Twins, Ranked, solver-ranking}
+use Rattle.solver_laws.specs.Demand.{Call, taken, K, numbersAt, exactPlace, StepConditionsAt, solver-near}
+use Rattle.solver_laws.specs.Ranking.{Paired, Twins, solver-ranking}
 use Rattle.solver_laws.specs.ReplayCalls.{callAt, callsOf}
 use Rattle.solver_laws.specs.ReplayLists.{replay-is-list, replay-accepted}
 
@@ -73,9 +73,8 @@ replay-ranked text text' temp s s' places places' h h' w ks ks' n ps =
     let qs = callsOf text temp (replayed text temp s places .rows) in
     let qs' = callsOf text' temp (replayed text' temp s' places' .rows) in
     let pairs : Both Paired qs qs' = rw n (both-lines Paired text text' temp (replayed text temp s places .rows) ps) in
-    let r : Ranked s s' qs qs' =
-        solver-ranking s s' qs qs' h h' w (λ e. list-conditions e text temp s places (ks e)) (λ e. list-conditions e text' temp s' places' (ks' e))
-        (rw (replay-accepted text temp s places, replay-accepted text' temp s' places') pairs) in
+    let pairs' : Both Paired (taken s qs) (taken s' qs') = rw (replay-accepted text temp s places, replay-accepted text' temp s' places') pairs in
+    let r = solver-ranking s s' qs qs' h h' w (λ e. list-conditions e text temp s places (ks e)) (λ e. list-conditions e text' temp s' places' (ks' e)) pairs' in
     record {
       cathode = λ i l. rw (replay-is-list text temp s places, replay-is-list text' temp s' places') (r .cathode i l);
       anode = λ i l. rw (replay-is-list text temp s places, replay-is-list text' temp s' places') (r .anode i l);
