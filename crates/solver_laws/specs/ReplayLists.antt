@@ -27,10 +27,10 @@ use Rattle.solver_laws.specs.ReplayTurns.{after-standing, counts, row-by
 module _ (text : List ℕ) (temp : Float) (s : SpmSolver) where
   replayed-listed : (places : ℕ) → Listed s (replayed text temp s places .solver) (callsOf text temp (replayed text temp s places .rows))
   unfolding replayed allTurns finishedReplay callsOf
-  replayed-listed places = go (eqb (replayRefusal (length text) s temp places) 0)
+  replayed-listed places = go (eqb (replayRefusal text s temp places) 0)
     where
-      go : (b : Bool) → Listed s (cond b (allTurns text temp (started text s) (places / 8)) (refusedRun (replayRefusal (length text) s temp places) s) .solver)
-          (callsOf text temp (cond b (allTurns text temp (started text s) (places / 8)) (refusedRun (replayRefusal (length text) s temp places) s) .rows))
+      go : (b : Bool) → Listed s (cond b (allTurns text temp (started text s) (places / 8)) (refusedRun (replayRefusal text s temp places) s) .solver)
+          (callsOf text temp (cond b (allTurns text temp (started text s) (places / 8)) (refusedRun (replayRefusal text s temp places) s) .rows))
       go true = after-standing text temp s (places / 8) .listed
       go false = listed-none s
 
@@ -46,9 +46,9 @@ module _ (text : List ℕ) (temp : Float) (s : SpmSolver) where
   -- EACH LINE THAT HAS A ROW stands whole in the text and is of its form, the row above did not cut off, and the step is accepted
   pub replay-line : (places j : ℕ) → j < replayed text temp s places .rows → TakenLine text temp s j
   unfolding replayed allTurns finishedReplay
-  replay-line places j m = go (eqb (replayRefusal (length text) s temp places) 0) m
+  replay-line places j m = go (eqb (replayRefusal text s temp places) 0) m
     where
-      go : (b : Bool) → j < cond b (allTurns text temp (started text s) (places / 8)) (refusedRun (replayRefusal (length text) s temp places) s) .rows → TakenLine text temp s j
+      go : (b : Bool) → j < cond b (allTurns text temp (started text s) (places / 8)) (refusedRun (replayRefusal text s temp places) s) .rows → TakenLine text temp s j
       go true m = line-taken text temp s (places / 8) j m
       go false m = absurd (omega (arith, m))
 
@@ -63,9 +63,9 @@ module _ (text : List ℕ) (temp : Float) (s : SpmSolver) where
   -- there was room for the rows
   pub replay-room : (places : ℕ) → replayed text temp s places .rows * 8 ≤ places
   unfolding replayed allTurns finishedReplay
-  replay-room places = go (eqb (replayRefusal (length text) s temp places) 0)
+  replay-room places = go (eqb (replayRefusal text s temp places) 0)
     where
-      go : (b : Bool) → cond b (allTurns text temp (started text s) (places / 8)) (refusedRun (replayRefusal (length text) s temp places) s) .rows * 8 ≤ places
+      go : (b : Bool) → cond b (allTurns text temp (started text s) (places / 8)) (refusedRun (replayRefusal text s temp places) s) .rows * 8 ≤ places
       go true = omega (arith, count-most overOf (turned text temp) lastRow (started text s) (λ r. r .rows) (counts text temp s) (places / 8))
       go false = omega arith
 
@@ -73,9 +73,9 @@ module _ (text : List ℕ) (temp : Float) (s : SpmSolver) where
   pub replay-row : (l : List Float) (j m : ℕ) → j < replayed text temp s (length l) .rows → m < 8
       → getD (replayedRows text temp s l) (j * 8 + m) nan ≡ getD (rowOf (lineStep text temp s j .state)) m nan
   unfolding replayed replayedRows allTurns allRows finishedReplay
-  replay-row l j m h n = go (eqb (replayRefusal (length text) s temp (length l)) 0) h
+  replay-row l j m h n = go (eqb (replayRefusal text s temp (length l)) 0) h
     where
-      go : (b : Bool) → j < cond b (allTurns text temp (started text s) (length l / 8)) (refusedRun (replayRefusal (length text) s temp (length l)) s) .rows
+      go : (b : Bool) → j < cond b (allTurns text temp (started text s) (length l / 8)) (refusedRun (replayRefusal text s temp (length l)) s) .rows
           → getD (cond b (allRows text temp (started text s) (length l / 8) l) l) (j * 8 + m) nan ≡ getD (rowOf (lineStep text temp s j .state)) m nan
       go true h =
           row-stands overOf (turned text temp) lastRow (started text s) (λ r. r .rows) (counts text temp s) (length l / 8) j m l nan h n (omega arith)
@@ -85,38 +85,38 @@ module _ (text : List ℕ) (temp : Float) (s : SpmSolver) where
   -- and the places after the last row are as they were
   pub replay-kept : (l : List Float) (i : ℕ) (d : Float) → replayed text temp s (length l) .rows * 8 ≤ i → getD (replayedRows text temp s l) i d ≡ getD l i d
   unfolding replayed replayedRows allTurns allRows finishedReplay
-  replay-kept l i d h = go (eqb (replayRefusal (length text) s temp (length l)) 0) h
+  replay-kept l i d h = go (eqb (replayRefusal text s temp (length l)) 0) h
     where
-      go : (b : Bool) → cond b (allTurns text temp (started text s) (length l / 8)) (refusedRun (replayRefusal (length text) s temp (length l)) s) .rows * 8 ≤ i
+      go : (b : Bool) → cond b (allTurns text temp (started text s) (length l / 8)) (refusedRun (replayRefusal text s temp (length l)) s) .rows * 8 ≤ i
           → getD (cond b (allRows text temp (started text s) (length l / 8) l) l) i d ≡ getD l i d
       go true h = rows-kept overOf (turned text temp) lastRow (started text s) (λ r. r .rows) (counts text temp s) (length l / 8) i l d h
       go false h = refl
 
   -- HOW A REPLAY ENDS, by its count of rows: voltage, done, full or refused, and no other ending
-  pub replay-ends : (places : ℕ) → replayRefusal (length text) s temp places ≡ 0 → replayed text temp s places .ended ≡ endedAfter text temp s (places / 8) (replayed text temp s places .rows)
+  pub replay-ends : (places : ℕ) → replayRefusal text s temp places ≡ 0 → replayed text temp s places .ended ≡ endedAfter text temp s (places / 8) (replayed text temp s places .rows)
   unfolding replayed allTurns finishedReplay
   replay-ends places h = rw (eq-eqb _ _ h) (ended-is text temp s (places / 8))
 
   -- a replay that ends refused, as a whole or by a line, has the number of a refusal
   pub replay-refused : (places : ℕ) → replayed text temp s places .ended .ending ≡ byRefusal → replayed text temp s places .ended .refusal ≡ 0 → ⊥
   unfolding replayed allTurns finishedReplay
-  replay-refused places f z = go (eqb (replayRefusal (length text) s temp places) 0) refl f z
+  replay-refused places f z = go (eqb (replayRefusal text s temp places) 0) refl f z
     where
-      go : (b : Bool) → eqb (replayRefusal (length text) s temp places) 0 ≡ b
-          → cond b (allTurns text temp (started text s) (places / 8)) (refusedRun (replayRefusal (length text) s temp places) s) .ended .ending ≡ byRefusal
-          → cond b (allTurns text temp (started text s) (places / 8)) (refusedRun (replayRefusal (length text) s temp places) s) .ended .refusal ≡ 0 → ⊥
+      go : (b : Bool) → eqb (replayRefusal text s temp places) 0 ≡ b
+          → cond b (allTurns text temp (started text s) (places / 8)) (refusedRun (replayRefusal text s temp places) s) .ended .ending ≡ byRefusal
+          → cond b (allTurns text temp (started text s) (places / 8)) (refusedRun (replayRefusal text s temp places) s) .ended .refusal ≡ 0 → ⊥
       go true e f z = refused-number text temp s (places / 8) f z
-      go false e f z = eqb-false (replayRefusal (length text) s temp places) 0 e z
+      go false e f z = eqb-false (replayRefusal text s temp places) 0 e z
 
   -- DONE is the ending exactly where the text has the lines of the rows and no byte more, and the last row did not cut off
-  pub replay-done : (places : ℕ) → replayRefusal (length text) s temp places ≡ 0 → length text ≡ replayed text temp s places .rows * 34 → cutoffAfter text temp s (replayed text temp s places .rows) ≡ false
+  pub replay-done : (places : ℕ) → replayRefusal text s temp places ≡ 0 → length text ≡ replayed text temp s places .rows * 34 → cutoffAfter text temp s (replayed text temp s places .rows) ≡ false
       → replayed text temp s places .ended ≡ record { ending = byDone; refusal = 0 }
   unfolding endedAfter
   replay-done places h e c =
       let n : noneLeft text (replayed text temp s places .rows) ≡ true = le-leb (length text) _ (le-of-eq e) in
       rw (replay-ends places h, c, n)
 
-  pub done-replay : (places : ℕ) → replayRefusal (length text) s temp places ≡ 0 → replayed text temp s places .ended .ending ≡ byDone
+  pub done-replay : (places : ℕ) → replayRefusal text s temp places ≡ 0 → replayed text temp s places .ended .ending ≡ byDone
       → (length text ≡ replayed text temp s places .rows * 34) × (cutoffAfter text temp s (replayed text temp s places .rows) ≡ false)
   unfolding endedAfter
   done-replay places h d =
@@ -131,7 +131,7 @@ module _ (text : List ℕ) (temp : Float) (s : SpmSolver) where
       go false false false e = absurd (omega (arith, e))
 
   -- a text without a byte is done with no row
-  pub replay-empty : (places : ℕ) → replayRefusal (length text) s temp places ≡ 0 → length text ≡ 0
+  pub replay-empty : (places : ℕ) → replayRefusal text s temp places ≡ 0 → length text ≡ 0
       → (replayed text temp s places .rows ≡ 0) × (replayed text temp s places .ended ≡ record { ending = byDone; refusal = 0 })
   unfolding cutoffAfter
   replay-empty places h e =
@@ -139,12 +139,12 @@ module _ (text : List ℕ) (temp : Float) (s : SpmSolver) where
       (n, replay-done places h (omega (arith, n, e)) (rw n))
 
   -- the cell of a replay that is not refused as a whole passes the checks
-  replay-tests : (places : ℕ) → replayRefusal (length text) s temp places ≡ 0 → (N.refusalUnless (gridFits s) N.grid ≡ 0) × (N.refusalUnless (cellFits s) N.sheet ≡ 0)
+  replay-tests : (places : ℕ) → replayRefusal text s temp places ≡ 0 → (N.refusalUnless (gridFits s) N.grid ≡ 0) × (N.refusalUnless (cellFits s) N.sheet ≡ 0)
   unfolding replayRefusal
   replay-tests places h =
       let a = N.neither-refused _ _ (N.neither-refused _ _ h .1) in
       (a .0, N.neither-refused _ _ (N.neither-refused _ _ (a .1) .1) .0)
 
-  pub replay-passes : (places : ℕ) → replayRefusal (length text) s temp places ≡ 0 → cellRefusal s ≡ 0
+  pub replay-passes : (places : ℕ) → replayRefusal text s temp places ≡ 0 → cellRefusal s ≡ 0
   unfolding cellRefusal N.firstRefusal
   replay-passes places h = let a = replay-tests places h in rw (a .0, a .1)

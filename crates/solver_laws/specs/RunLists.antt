@@ -80,13 +80,14 @@ all-counted s q (suc n) r v (AllAccepted.more h a) =
     let c = step-count r (q .current) (q .dt) (q .temp) h ∙ ap subStepsOf (same-plan s r q (v .make)) in
     rw (c, all-counted s q n (answer r q .solver) (stays s r q v) a, suc-mul n k) (add-comm k (n * k))
 
+-- the cell of a run that is not refused as a whole passes the checks
 run-tests : (w : RunSettings) (s : SpmSolver) (places : ℕ) → runRefusal w s places ≡ 0 → (refusalUnless (gridFits s) grid ≡ 0) × (refusalUnless (cellFits s) sheet ≡ 0)
 unfolding runRefusal
 run-tests w s places h = let a = neither-refused _ _ h in (a .0, neither-refused _ _ (neither-refused _ _ (a .1) .1) .0)
 
-run-cell : (w : RunSettings) (s : SpmSolver) (places : ℕ) → runRefusal w s places ≡ 0 → cellRefusal s ≡ 0
+pub run-passes : (w : RunSettings) (s : SpmSolver) (places : ℕ) → runRefusal w s places ≡ 0 → cellRefusal s ≡ 0
 unfolding cellRefusal firstRefusal
-run-cell w s places h = let a = run-tests w s places h in rw (a .0, a .1)
+run-passes w s places h = let a = run-tests w s places h in rw (a .0, a .1)
 
 -- Nothing refuses the whole run; at the electrode e its step keeps the two conditions. Then every node of e in the cell that the run leaves is within K·M / 2 ^ 49 of the exact
 -- scheme from the same start over the run's calls, where K = rows · sub-steps of one step.
@@ -94,7 +95,7 @@ pub run-near : (e : Electrode) (w : RunSettings) (s : SpmSolver) (places : ℕ) 
     → val (placeOf (particleAt e (discharged w s places .solver)) i) -F exactPlace e s (callsOf w s places) i
     within nat (discharged w s places .rows * subStepsOf (planFor s (callOf w))) *F val (particleAt e s .params .«c_s_max») /F pow2 49
 run-near e w s places h k i l =
-    let c = run-cell w s places h in
+    let c = run-passes w s places h in
     let n = discharged w s places .rows in
     let k' = each-copies (λ q. StepConditions (numbersAt e s q)) (callOf w) n k in
     let near = solver-near e s (callsOf w s places) c (rw (run-accepted w s places) k') i l in
