@@ -10,6 +10,7 @@ use borrow.Author.Tests.{eq-eqb}
 use Rattle.binary64.specs.Operators.{f64}
 use Rattle.runs.specs.RunAnswers.{writesAnswer}
 use Rattle.discharge_run.specs.Discharge as DR
+use Rattle.replay_run.specs.Replay as R
 use Rattle.galvanostatic_run.specs.Galvanostatic as GR
 use Rattle.cell_images.specs.Images.{cellAt}
 use Rattle.dfn_images.specs.Images as I
@@ -21,7 +22,7 @@ use Rattle.boundary.specs.Runs as BR
 use Rattle.image_laws.specs.Accepted.{accepted}
 use Rattle.image_laws.specs.Encodable.{literal}
 use Rattle.image_laws.specs.CellSteps.{particle-answer, cell-answer}
-use Rattle.image_laws.specs.CellRuns.{run-answer}
+use Rattle.image_laws.specs.CellRuns.{discharge-held, replay-held}
 use Rattle.image_laws.specs.CellBuilds.{particle-built, cell-build-return, cell-build-after, cell-built}
 use Rattle.image_laws.specs.ElectrolyteSteps.{electrolyte-answer}
 use Rattle.image_laws.specs.DfnSteps.{dfn-answer}
@@ -59,8 +60,11 @@ dfn-step-length s bits dt a h =
 pub discharge-length : (s : List ℕ) (i dt t limit : Float) (places : ℕ) (a : List ℕ) → length s ≡ cellBytes → length a ≡ cellRunBytes
     → T (writesAnswer (DR.discharged (DR.runSettings i dt t limit) (cellAt s) places .ended .refusal) (DR.discharged (DR.runSettings i dt t limit) (cellAt s) places .rows))
     → length (BR.dischargeAfter s i dt t limit places a) ≡ cellRunBytes
-unfolding BR.dischargeAfter
-discharge-length s i dt t limit places a m n h = rw (eq-eqb (length s) cellBytes m, eq-eqb (length a) cellRunBytes n) (run-answer s i dt t limit places a n h .size ∙ n)
+discharge-length s i dt t limit places a m n h = discharge-held s i dt t limit places a m n h .cell .size ∙ n
+
+pub replay-length : (s text : List ℕ) (t : Float) (places : ℕ) (a : List ℕ) → length s ≡ cellBytes → length a ≡ cellRunBytes
+    → T (writesAnswer (R.replayed text t (cellAt s) places .ended .refusal) (R.replayed text t (cellAt s) places .rows)) → length (BR.replayAfter s text t places a) ≡ cellRunBytes
+replay-length s text t places a m n h = replay-held s text t places a m n h .cell .size ∙ n
 
 pub galvanostatic-length : (s : List ℕ) (bits : ℕ) (dt limit : Float) (places : ℕ) (a : List ℕ) → length s ≡ dfnBytes → length a ≡ dfnRunBytes
     → T (writesAnswer (GR.galvanostatic (I.cellAt s) (f64 bits) dt limit places .ended .refusal) (GR.galvanostatic (I.cellAt s) (f64 bits) dt limit places .rows))

@@ -13,6 +13,7 @@ use Rattle.matrix_rows.specs.Loops.{either}
 use Rattle.refusal.specs.Numbers.{neither-refused, notFinite}
 use Rattle.runs.specs.RunAnswers.{writesAnswer}
 use Rattle.runs.specs.Rows.{runAfter}
+use Rattle.runs.specs.Laws.{run-keeps}
 use Rattle.runs.specs.Endings.{byRefusal}
 use Rattle.dfn.specs.declared.DfnSolver.{DfnSolver}
 use Rattle.dfn.specs.declared.DfnStepAnswer.{DfnStepAnswer}
@@ -28,7 +29,7 @@ use Rattle.dfn_calls.specs.Runs.{galvanostaticAfter}
 use Rattle.image_laws.specs.Layout.{Holds, holds}
 use Rattle.image_laws.specs.Reports.{writes-ending, ending-read-back, rows-read-back}
 use Rattle.image_laws.specs.DfnImages.{EncodableDfn, writes-dfn, dfn-layout}
-use Rattle.image_laws.specs.Turns.{run-keeps, run-rows, ending-most}
+use Rattle.image_laws.specs.Turns.{run-rows, ending-most}
 use Rattle.image_laws.specs.DfnEncodable.{dfnAt-encodable, dfn-step-encodable}
 use Rattle.image_layout.specs.Layout.{dfnRunBytes}
 
@@ -79,13 +80,13 @@ module _ (d : DfnSolver) (i dt limit : Float) (places : ℕ) where
   unfolding galvanostatic allTurns finishedRun started
   dfn-run-encodable f h =
       either (λ (x : RunOutcome). EncodableDfn (x .cell)) (eqb (runRefusal d (runSettings i dt limit) places) 0) over none
-      (run-keeps overOf (turned (runSettings i dt limit)) lastRow (λ (c : RunState). EncodableDfn (c .cell)) (turned-encodable (runSettings i dt limit) f) (places / 8) (started d) h) h
+      (run-keeps overOf (turned (runSettings i dt limit)) lastRow (started d) (λ (c : RunState). EncodableDfn (c .cell)) (λ c o. turned-encodable (runSettings i dt limit) f c) h (places / 8)) h
 
   pub dfn-run-idle : galvanostatic d i dt limit places .rows ≡ 0 → galvanostatic d i dt limit places .cell ≡ d
   unfolding galvanostatic allTurns finishedRun started
   dfn-run-idle =
       either (λ (x : RunOutcome). x .rows ≡ 0 → x .cell ≡ d) (eqb (runRefusal d (runSettings i dt limit) places) 0) over none
-      (run-keeps overOf (turned (runSettings i dt limit)) lastRow (λ (c : RunState). c .rows ≡ 0 → c .cell ≡ d) (turned-idle (runSettings i dt limit) d) (places / 8) (started d) (λ z. refl)) (λ z. refl)
+      (run-keeps overOf (turned (runSettings i dt limit)) lastRow (started d) (λ (c : RunState). c .rows ≡ 0 → c .cell ≡ d) (λ c o. turned-idle (runSettings i dt limit) d c) (λ z. refl) (places / 8)) (λ z. refl)
 
   dfn-rows-most : galvanostatic d i dt limit places .rows ≤ places
   unfolding galvanostatic allTurns finishedRun started
@@ -94,9 +95,9 @@ module _ (d : DfnSolver) (i dt limit : Float) (places : ℕ) where
       run-rows overOf (turned (runSettings i dt limit)) lastRow (λ (c : RunState). c .rows) (turned-rows (runSettings i dt limit)) (places / 8) (started d) in
       either (λ (x : RunOutcome). x .rows ≤ places) (eqb (runRefusal d (runSettings i dt limit) places) 0) over none (omega (arith, n)) (omega arith)
 
-  dfn-run-ending : galvanostatic d i dt limit places .ended .ending ≤ 4
+  dfn-run-ending : galvanostatic d i dt limit places .ended .ending ≤ 5
   unfolding galvanostatic allTurns finishedRun
-  dfn-run-ending = either (λ (x : RunOutcome). x .ended .ending ≤ 4) (eqb (runRefusal d (runSettings i dt limit) places) 0) over none (ending-most _ _) (le-refl 4)
+  dfn-run-ending = either (λ (x : RunOutcome). x .ended .ending ≤ 5) (eqb (runRefusal d (runSettings i dt limit) places) 0) over none (ending-most _ _) (lit≤ tt)
 
   -- an answer that is written comes from a cell that passes the checks
   written-run : T (writesAnswer (galvanostatic d i dt limit places .ended .refusal) (galvanostatic d i dt limit places .rows)) → runRefusal d (runSettings i dt limit) places ≡ 0

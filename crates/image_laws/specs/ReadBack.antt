@@ -3,7 +3,7 @@
 -- C gives it (`f64 bits`). Assumes nothing.
 use Prim.Native.Nat.{ℕ, _≤_, _<_, _^_}
 use mathlib.Core.Path.{sym, _≡_, refl, ap, _∙_}
-use mathlib.Core.Bool.{Bool, true, false, and-eq-true-iff}
+use mathlib.Core.Bool.{Bool, true, false, cond, and-eq-true-iff}
 use mathlib.Core.List.{List, map}
 use native.Mathlib.Omega.{arith}
 use native.Mathlib.Nat.{le-refl}
@@ -20,6 +20,7 @@ use Rattle.solver.specs.Step as S
 use Rattle.electrolyte.specs.Calls as E
 use Rattle.dfn.specs.Step as D
 use Rattle.discharge_run.specs.Discharge as DR
+use Rattle.replay_run.specs.Replay as R
 use Rattle.galvanostatic_run.specs.Galvanostatic as GR
 use Rattle.dense.specs.Solve.{solved}
 use Rattle.codec.specs.Words.{wordAt, placesAt, putRow}
@@ -43,7 +44,7 @@ use Rattle.image_laws.specs.Rows.{row-read-back}
 use Rattle.image_laws.specs.CellImages.{particleIn}
 use Rattle.image_laws.specs.Reports.{cellReportAt, dfnReportAt}
 use Rattle.image_laws.specs.CellSteps.{particle-answer, cell-answer, sub-steps-answer, report-answer}
-use Rattle.image_laws.specs.CellRuns.{run-answer, run-ending-answer, run-rows-answer}
+use Rattle.image_laws.specs.CellRuns.{discharge-held, replay-held}
 use Rattle.image_laws.specs.CellBuilds.{particle-built, cell-build-return, cell-build-after, cell-built}
 use Rattle.image_laws.specs.ElectrolyteSteps.{electrolyte-answer}
 use Rattle.image_laws.specs.DfnSteps.{dfn-answer, dfn-report-answer}
@@ -105,22 +106,20 @@ dfn-report-read-back s bits dt a h =
     ap dfnReportAt (c .writes) ∙ dfn-report-answer s (f64 bits) dt a (literal bits) (c .refusal) (c .answer)
 
 -- ---- runs: the cell, the ending and the count of rows, where the run returns 0 or has written a row. Lengths from C are below 2 ^ 64.
-pub record DischargeReadBack (s : List ℕ) (i dt t limit : Float) (places : ℕ) (a : List ℕ) : Type 0 where
-  pub cell : cellAt (take cellBytes (BR.dischargeAfter s i dt t limit places a)) ≡ DR.discharged (DR.runSettings i dt t limit) (cellAt s) places .solver
-  pub ending : wordAt (BR.dischargeAfter s i dt t limit places a) 157 ≡ DR.discharged (DR.runSettings i dt t limit) (cellAt s) places .ended .ending
-  pub rows : places < 2 ^ 64 → wordAt (BR.dischargeAfter s i dt t limit places a) 158 ≡ DR.discharged (DR.runSettings i dt t limit) (cellAt s) places .rows
+pub record CellRunReadBack (b : List ℕ) (r : DR.RunOutcome) (places : ℕ) : Type 0 where
+  pub cell : cellAt (take cellBytes b) ≡ r .solver
+  pub ending : wordAt b 157 ≡ r .ended .ending
+  pub rows : places < 2 ^ 64 → wordAt b 158 ≡ r .rows
+
+abbrev pub DischargeReadBack : List ℕ → Float → Float → Float → Float → ℕ → List ℕ → Type 0
+DischargeReadBack s i dt t limit places a = CellRunReadBack (BR.dischargeAfter s i dt t limit places a) (DR.discharged (DR.runSettings i dt t limit) (cellAt s) places) places
 
 pub discharge-read-back : (s : List ℕ) (i dt t limit : Float) (places : ℕ) (a : List ℕ) → length s ≡ cellBytes → length a ≡ cellRunBytes
     → T (writesAnswer (DR.discharged (DR.runSettings i dt t limit) (cellAt s) places .ended .refusal) (DR.discharged (DR.runSettings i dt t limit) (cellAt s) places .rows))
     → DischargeReadBack s i dt t limit places a
-unfolding BR.dischargeAfter
 discharge-read-back s i dt t limit places a m n h =
-    let e : BR.dischargeAfter s i dt t limit places a ≡ CR.dischargeAfter s i dt t limit places a = rw (eq-eqb (length s) cellBytes m, eq-eqb (length a) cellRunBytes n) in
-    record {
-      cell = ap (λ (b : List ℕ). cellAt (take cellBytes b)) e ∙ run-answer s i dt t limit places a n h .first;
-      ending = ap (λ (b : List ℕ). wordAt b 157) e ∙ run-ending-answer s i dt t limit places a n h;
-      rows = λ l. ap (λ (b : List ℕ). wordAt b 158) e ∙ run-rows-answer s i dt t limit places a n h l;
-    }
+    let d = discharge-held s i dt t limit places a m n h in
+    record { cell = d .cell .first; ending = d .ending; rows = d .rows }
 
 pub accepted-discharge-read-back : (s : List ℕ) (i dt t limit : Float) (places : ℕ) (a : List ℕ) → BR.dischargeReturn s i dt t limit places (length a) ≡ 0
     → DischargeReadBack s i dt t limit places a
@@ -129,6 +128,26 @@ accepted-discharge-read-back s i dt t limit places a h =
     let r = DR.discharged (DR.runSettings i dt t limit) (cellAt s) places in
     let c = accepted s a cellBytes cellRunBytes (r .ended .refusal) a h in
     discharge-read-back s i dt t limit places a (c .image) (c .answer) (no-refusal (r .ended .refusal) (r .rows) (c .refusal))
+
+abbrev pub ReplayReadBack : List ℕ → List ℕ → Float → ℕ → List ℕ → Type 0
+ReplayReadBack s text t places a = CellRunReadBack (BR.replayAfter s text t places a) (R.replayed text t (cellAt s) places) places
+
+pub replay-read-back : (s text : List ℕ) (t : Float) (places : ℕ) (a : List ℕ) → length s ≡ cellBytes → length a ≡ cellRunBytes
+    → T (writesAnswer (R.replayed text t (cellAt s) places .ended .refusal) (R.replayed text t (cellAt s) places .rows)) → ReplayReadBack s text t places a
+replay-read-back s text t places a m n h =
+    let d = replay-held s text t places a m n h in
+    record { cell = d .cell .first; ending = d .ending; rows = d .rows }
+
+pub accepted-replay-read-back : (s text : List ℕ) (t : Float) (places : ℕ) (a : List ℕ) → BR.replayReturn s text t places (length a) ≡ 0 → ReplayReadBack s text t places a
+unfolding BR.replayReturn CR.replayReturn
+accepted-replay-read-back s text t places a h =
+    let r = R.replayed text t (cellAt s) places in
+    let c = accepted s a cellBytes cellRunBytes (r .ended .refusal) a (text-taken (R.textFits text) _ h) in
+    replay-read-back s text t places a (c .image) (c .answer) (no-refusal (r .ended .refusal) (r .rows) (c .refusal))
+  where
+    text-taken : (b : Bool) (k : ℕ) → cond b k N.file ≡ 0 → k ≡ 0
+    text-taken true k h = h
+    text-taken false k h = absurd (omega (arith, h))
 
 pub record GalvanostaticReadBack (s : List ℕ) (i dt limit : Float) (places : ℕ) (a : List ℕ) : Type 0 where
   pub cell : I.cellAt (take dfnBytes (BR.galvanostaticAfter s i dt limit places a)) ≡ GR.galvanostatic (I.cellAt s) i dt limit places .cell

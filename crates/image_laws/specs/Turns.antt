@@ -1,4 +1,4 @@
--- What each turn of a run keeps, the run keeps; and a run of k turns writes at most k rows. Assumes nothing.
+-- A run of k turns writes at most k rows, and an ending is a number up to 5. Assumes nothing.
 use Prim.Native.Nat.{ℕ, zero, suc, _≤_, _+_}
 use mathlib.Core.List.{List}
 use native.Mathlib.Omega.{arith}
@@ -10,14 +10,6 @@ use Rattle.runs.specs.Rows.{runAfter}
 use Rattle.runs.specs.Endings.{Ended, endingOf}
 
 module _ {S : Type 0} (over : S → ℕ) (turned : S → S) (row : S → List Float) where
-  pub run-keeps : (P : S → Type 0) → ((s : S) → P s → P (turned s)) → (k : ℕ) (s : S) → P s → P (runAfter over turned row k s)
-  unfolding runAfter
-  run-keeps P f zero s p = p
-  run-keeps P f (suc k) s p =
-      let r = runAfter over turned row k s in
-      let q = run-keeps P f k s p in
-      either P (eqb (over r) 0) (turned r) r (f r q) q
-
   pub run-rows : (rows : S → ℕ) → ((s : S) → rows (turned s) ≤ rows s + 1) → (k : ℕ) (s : S) → rows (runAfter over turned row k s) ≤ rows s + k
   unfolding runAfter
   run-rows rows f zero s = omega arith
@@ -28,8 +20,8 @@ module _ {S : Type 0} (over : S → ℕ) (turned : S → S) (row : S → List Fl
       either (λ (x : S). rows x ≤ rows s + suc k) (eqb (over r) 0) (turned r) r (omega (arith, m, n)) (omega (arith, m))
 
 -- the number of an ending
-pub ending-most : (over k : ℕ) → endingOf over k .ending ≤ 4
+pub ending-most : (over k : ℕ) → endingOf over k .ending ≤ 5
 unfolding endingOf
 ending-most over k =
-    let P : Ended → Type 0 = λ e. e .ending ≤ 4 in
-    either P (eqb over 0) _ _ (lit≤ tt) (either P (eqb over 1) _ _ (lit≤ tt) (either P (eqb over 2) _ _ (lit≤ tt) (le-refl 4)))
+    let P : Ended → Type 0 = λ e. e .ending ≤ 5 in
+    either P (eqb over 0) _ _ (lit≤ tt) (either P (eqb over 1) _ _ (lit≤ tt) (either P (eqb over 2) _ _ (lit≤ tt) (either P (eqb over 5) _ _ (le-refl 5) (lit≤ tt))))
