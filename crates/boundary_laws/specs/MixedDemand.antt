@@ -1,9 +1,9 @@
--- THEOREM 2 OF LISTS THAT MIX BUILDS, STEPS AND RUNS: the cell of the last image is the cell of the last accepted build (or of the first image) after a list of
--- steps, those of the runs among them, and every node is within K·M / 2 ^ 49 of the exact one. Assumes nothing.
+-- THEOREM 2 OF LISTS THAT MIX BUILDS, STEPS, RUNS AND REPLAYS: the cell of the last image is the cell of the last accepted build (or of the first image) after a list of
+-- steps, those of the runs and replays among them, and every node is within K·M / 2 ^ 49 of the exact one. Assumes nothing.
 use Prim.Native.Nat.{ℕ, _<_}
 use mathlib.Core.Path.{_≡_, refl, sym, ap, _∙_}
 use mathlib.Core.Bool.{Bool, true, false, cond}
-use mathlib.Core.Logic.{_⊎_, inl, inr}
+use mathlib.Core.Logic.{inl, inr}
 use mathlib.Core.List.{List, [], _∷_, _++_}
 use borrow.Author.Tests.{eqb-true}
 use lib.Dec.{eqb}
@@ -14,14 +14,18 @@ use Rattle.solver.specs.declared.SpmSolver.{SpmSolver}
 use Rattle.solver.specs.Cell.{cellRefusal}
 use Rattle.solver_laws.specs.Electrodes.{Electrode, nodes-are}
 use Rattle.solver_laws.specs.Demand as SD
+use Rattle.solver_laws.specs.AcceptedLists.{after-append}
 use Rattle.solver_laws.specs.RunLists.{callsOf, run-is-list}
+use Rattle.solver_laws.specs.ReplayCalls as RC
+use Rattle.solver_laws.specs.ReplayLists.{replay-is-list}
 use Rattle.cell_images.specs.Images.{cellAt}
 use Rattle.image_builds.specs.Builds.{cellBuilt}
 use Rattle.boundary_laws.specs.CallLists.{CCall, imageAfter, wellFormed, recordAfter}
 use Rattle.boundary_laws.specs.StepLists.{current}
 use Rattle.boundary_laws.specs.BuildLists.{CellBuild}
 use Rattle.boundary_laws.specs.RunLists.{CellRun}
-use Rattle.boundary_laws.specs.MixedLists.{cellCalls, cell-calls-simulate}
+use Rattle.boundary_laws.specs.ReplayLists.{CellReplay, replay}
+use Rattle.boundary_laws.specs.MixedLists.{CellCall, cellCalls, cell-calls-simulate}
 use Rattle.boundary_laws.specs.Nodes.{nodeAt, mostAt, cell-nodes, node-below}
 use Rattle.boundary_laws.specs.BuiltCells.{cell-build-passes}
 use Rattle.image_layout.specs.Layout.{cellBytes}
@@ -29,6 +33,10 @@ use Rattle.image_layout.specs.Layout.{cellBytes}
 -- ---- a run as a list of steps: one for each row
 abbrev pub turnsOf : SpmSolver → CellRun → List SD.Call
 turnsOf c q = callsOf (DR.runSettings (q .current) (q .dt) (q .temp) (q .limit)) c (q .places)
+
+-- a replay: one for each line that has a row
+abbrev pub linesOf : SpmSolver → CellReplay → List SD.Call
+linesOf c q = RC.callsOf (q .text) (q .temp) (replay c q .rows)
 
 -- ---- the cell of the last accepted build, and the steps since then
 pub record SinceBuild : Type 0 where
@@ -38,29 +46,25 @@ pub record SinceBuild : Type 0 where
 abbrev pub cellOf : SinceBuild → SpmSolver
 cellOf z = SD.cellAfter (z .start) (z .steps)
 
-unfoldable pub sinceBuild : SinceBuild → List (CellBuild ⊎ (SD.Call ⊎ CellRun)) → SinceBuild
+unfoldable pub sinceBuild : SinceBuild → List CellCall → SinceBuild
 sinceBuild z [] = z
 sinceBuild z (inl b ∷ qs) =
     cond (eqb (cellBuilt (b .call) (b .image) .refusal) 0) (sinceBuild (record { start = cellBuilt (b .call) (b .image) .solver; steps = [] }) qs) (sinceBuild z qs)
 sinceBuild z (inr (inl q) ∷ qs) = sinceBuild (record { start = z .start; steps = z .steps ++ q ∷ [] }) qs
-sinceBuild z (inr (inr r) ∷ qs) = sinceBuild (record { start = z .start; steps = z .steps ++ turnsOf (cellOf z) r }) qs
+sinceBuild z (inr (inr (inl r)) ∷ qs) = sinceBuild (record { start = z .start; steps = z .steps ++ turnsOf (cellOf z) r }) qs
+sinceBuild z (inr (inr (inr r)) ∷ qs) = sinceBuild (record { start = z .start; steps = z .steps ++ linesOf (cellOf z) r }) qs
 
 -- of calls from C on the image s
-abbrev pub sinceBuildIn : List ℕ → List (CCall (CellBuild ⊎ (SD.Call ⊎ CellRun))) → SinceBuild
+abbrev pub sinceBuildIn : List ℕ → List (CCall CellCall) → SinceBuild
 sinceBuildIn s qs = sinceBuild (record { start = cellAt s; steps = [] }) (wellFormed cellCalls qs)
 
 -- ---- a list of calls is that list of steps
-after-append : (xs ys : List SD.Call) (c : SpmSolver) → SD.cellAfter c (xs ++ ys) ≡ SD.cellAfter (SD.cellAfter c xs) ys
-unfolding SD.cellAfter
-after-append [] ys c = refl
-after-append (x ∷ xs) ys c = after-append xs ys (SD.answer c x .solver)
-
-one-build : (t : Bool) (qs : List (CellBuild ⊎ (SD.Call ⊎ CellRun))) (a b : SpmSolver) (x y : SinceBuild) → recordAfter cellCalls a qs ≡ cellOf x → recordAfter cellCalls b qs ≡ cellOf y
+one-build : (t : Bool) (qs : List CellCall) (a b : SpmSolver) (x y : SinceBuild) → recordAfter cellCalls a qs ≡ cellOf x → recordAfter cellCalls b qs ≡ cellOf y
     → recordAfter cellCalls (cond t a b) qs ≡ cellOf (cond t x y)
 one-build true qs a b x y p q = p
 one-build false qs a b x y p q = q
 
-since-is : (qs : List (CellBuild ⊎ (SD.Call ⊎ CellRun))) (z : SinceBuild) → recordAfter cellCalls (cellOf z) qs ≡ cellOf (sinceBuild z qs)
+since-is : (qs : List CellCall) (z : SinceBuild) → recordAfter cellCalls (cellOf z) qs ≡ cellOf (sinceBuild z qs)
 unfolding recordAfter sinceBuild SD.cellAfter
 since-is [] z = refl
 since-is (inl b ∷ qs) z =
@@ -68,17 +72,20 @@ since-is (inl b ∷ qs) z =
     one-build (eqb (cellBuilt (b .call) (b .image) .refusal) 0) qs (cellBuilt (b .call) (b .image) .solver) (cellOf z) (sinceBuild new qs) (sinceBuild z qs) (since-is qs new) (since-is qs z)
 since-is (inr (inl q) ∷ qs) z =
     ap (λ (c : SpmSolver). recordAfter cellCalls c qs) (sym (after-append (z .steps) (q ∷ []) (z .start))) ∙ since-is qs (record { start = z .start; steps = z .steps ++ q ∷ [] })
-since-is (inr (inr r) ∷ qs) z =
+since-is (inr (inr (inl r)) ∷ qs) z =
     ap (λ (c : SpmSolver). recordAfter cellCalls c qs) (run-is-list (DR.runSettings (r .current) (r .dt) (r .temp) (r .limit)) (cellOf z) (r .places) ∙ sym (after-append (z .steps) (turnsOf (cellOf z) r) (z .start)))
     ∙ since-is qs (record { start = z .start; steps = z .steps ++ turnsOf (cellOf z) r })
+since-is (inr (inr (inr r)) ∷ qs) z =
+    ap (λ (c : SpmSolver). recordAfter cellCalls c qs) (replay-is-list (r .text) (r .temp) (cellOf z) (r .places) ∙ sym (after-append (z .steps) (linesOf (cellOf z) r) (z .start)))
+    ∙ since-is qs (record { start = z .start; steps = z .steps ++ linesOf (cellOf z) r })
 
 -- THE CELL OF THE LAST IMAGE is the cell of the last accepted build after the steps since then
-pub mixed-images-are : (s : List ℕ) (qs : List (CCall (CellBuild ⊎ (SD.Call ⊎ CellRun)))) → length s ≡ cellBytes → cellAt (imageAfter cellCalls s qs) ≡ cellOf (sinceBuildIn s qs)
+pub mixed-images-are : (s : List ℕ) (qs : List (CCall CellCall)) → length s ≡ cellBytes → cellAt (imageAfter cellCalls s qs) ≡ cellOf (sinceBuildIn s qs)
 unfolding SD.cellAfter
 mixed-images-are s qs l = cell-calls-simulate qs s l .reads ∙ since-is (wellFormed cellCalls qs) (record { start = cellAt s; steps = [] })
 
 -- the cell that the steps start from passes the checks where that of the first image does
-start-passes : (qs : List (CellBuild ⊎ (SD.Call ⊎ CellRun))) (z : SinceBuild) → cellRefusal (z .start) ≡ 0 → cellRefusal (sinceBuild z qs .start) ≡ 0
+start-passes : (qs : List CellCall) (z : SinceBuild) → cellRefusal (z .start) ≡ 0 → cellRefusal (sinceBuild z qs .start) ≡ 0
 unfolding sinceBuild
 start-passes [] z h = h
 start-passes (inl b ∷ qs) z h = go (eqb (cellBuilt (b .call) (b .image) .refusal) 0) refl (start-passes qs (new b)) (start-passes qs z h)
@@ -91,14 +98,15 @@ start-passes (inl b ∷ qs) z h = go (eqb (cellBuilt (b .call) (b .image) .refus
     go true e f g = f (cell-build-passes (b .call) (b .image) (eqb-true (cellBuilt (b .call) (b .image) .refusal) 0 e))
     go false e f g = g
 start-passes (inr (inl q) ∷ qs) z h = start-passes qs (record { start = z .start; steps = z .steps ++ q ∷ [] }) h
-start-passes (inr (inr r) ∷ qs) z h = start-passes qs (record { start = z .start; steps = z .steps ++ turnsOf (cellOf z) r }) h
+start-passes (inr (inr (inl r)) ∷ qs) z h = start-passes qs (record { start = z .start; steps = z .steps ++ turnsOf (cellOf z) r }) h
+start-passes (inr (inr (inr r)) ∷ qs) z h = start-passes qs (record { start = z .start; steps = z .steps ++ linesOf (cellOf z) r }) h
 
-pub mixed-start-passes : (s : List ℕ) (qs : List (CCall (CellBuild ⊎ (SD.Call ⊎ CellRun)))) → cellRefusal (cellAt s) ≡ 0 → cellRefusal (sinceBuildIn s qs .start) ≡ 0
+pub mixed-start-passes : (s : List ℕ) (qs : List (CCall CellCall)) → cellRefusal (cellAt s) ≡ 0 → cellRefusal (sinceBuildIn s qs .start) ≡ 0
 mixed-start-passes s qs h = start-passes (wellFormed cellCalls qs) (record { start = cellAt s; steps = [] }) h
 
 -- THEOREM 2. Where the accepted steps since the last build keep the two conditions at e, every node of e in the last image is within K·M / 2 ^ 49 of the exact
 -- one, K their sub-steps.
-pub mixed-images-near : (e : Electrode) (s : List ℕ) (qs : List (CCall (CellBuild ⊎ (SD.Call ⊎ CellRun)))) → length s ≡ cellBytes → cellRefusal (sinceBuildIn s qs .start) ≡ 0
+pub mixed-images-near : (e : Electrode) (s : List ℕ) (qs : List (CCall CellCall)) → length s ≡ cellBytes → cellRefusal (sinceBuildIn s qs .start) ≡ 0
     → SD.StepConditionsAt e (sinceBuildIn s qs .start) (sinceBuildIn s qs .steps) → (i : ℕ) → i < sinceBuildIn s qs .start .config .«n_nodes»
     → nodeAt e (imageAfter cellCalls s qs) i -F SD.exactPlace e (sinceBuildIn s qs .start) (sinceBuildIn s qs .steps) i
     within nat (SD.K (sinceBuildIn s qs .start) (sinceBuildIn s qs .steps)) *F mostAt e (sinceBuildIn s qs .start) /F pow2 49

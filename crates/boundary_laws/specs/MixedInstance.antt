@@ -1,9 +1,9 @@
--- A worked instance of theorem 2 of a list that mixes builds, steps and runs, every premise met: from an image of zeros, a build with an answer a byte short, a build of graphite_lfp, the steps
--- of `Instance`, and among them a run without room for a row. Assumes nothing.
+-- A worked instance of theorem 2 of a list that mixes builds, steps, runs and replays, every premise met: from an image of zeros, a build with an answer a byte short, a build of graphite_lfp,
+-- the steps of `Instance`, and among them a run without room for a row and a replay of a text without a line. Assumes nothing.
 use Prim.Native.Nat.{ℕ, _<_}
 use mathlib.Core.Path.{_≡_, ap, _∙_}
 use mathlib.Core.List.{List, [], _∷_}
-use mathlib.Core.Logic.{_⊎_, inl, inr}
+use mathlib.Core.Logic.{inl, inr}
 use native.Mathlib.Omega.{arith}
 use lib.Dec.{lit≤}
 use Rattle.fraction.specs.Fraction.{nat, pow2, _-F_, _*F_, _/F_, _within_}
@@ -11,6 +11,8 @@ use Rattle.elementary.specs.Exp.{one}
 use Rattle.solver.specs.declared.SpmSolver.{SpmSolver}
 use Rattle.solver_laws.specs.Electrodes.{Electrode}
 use Rattle.solver_laws.specs.Demand as SD
+use Rattle.solver_laws.specs.ReplayCalls.{callsOf}
+use Rattle.solver_laws.specs.ReplayLists.{rows-bytes}
 use Rattle.solver_laws.specs.Instance.{start, start-passes, two, three, draw, no-current, too-long, discharge, discharge-counted, discharge-conditions}
 use Rattle.discharge_run.specs.declared.RunSettings.{RunSettings}
 use Rattle.discharge_run.specs.Discharge.{discharged}
@@ -21,9 +23,10 @@ use Rattle.boundary_laws.specs.CallLists.{CCall, imageAfter, wellFormed}
 use Rattle.boundary_laws.specs.StepLists.{current}
 use Rattle.boundary_laws.specs.BuildLists.{CellBuild}
 use Rattle.boundary_laws.specs.RunLists.{CellRun}
-use Rattle.boundary_laws.specs.MixedLists.{cellCalls}
+use Rattle.boundary_laws.specs.ReplayLists.{CellReplay, replay}
+use Rattle.boundary_laws.specs.MixedLists.{CellCall, cellCalls}
 use Rattle.boundary_laws.specs.Nodes.{nodeAt, mostAt}
-use Rattle.boundary_laws.specs.MixedDemand.{turnsOf, sinceBuild, sinceBuildIn, mixed-images-near}
+use Rattle.boundary_laws.specs.MixedDemand.{turnsOf, linesOf, sinceBuild, sinceBuildIn, mixed-images-near}
 use Rattle.boundary_laws.specs.Instance.{zeros, zeros-length, configImage, image, config-length, build-accepted, build-is}
 use Rattle.image_layout.specs.Layout.{cellBytes, cellRunBytes, cellStepBytes}
 
@@ -35,17 +38,23 @@ graphiteLfp = record { call = 8; least = lit≤ tt; most = lit≤ tt; image = co
 abbrev noRoom : CellRun
 noRoom = record { current = draw three one .current; dt = draw three one .dt; temp = draw three one .temp; limit = one; places = 0 }
 
-abbrev step : SD.Call → CCall (CellBuild ⊎ (SD.Call ⊎ CellRun))
+-- no line
+abbrev noLines : CellReplay
+noLines = record { text = []; temp = draw three one .temp; places = 8 }
+
+abbrev step : SD.Call → CCall CellCall
 step q = record { call = inr (inl q); answer = zeros cellStepBytes }
 
-abbrev pub mixedCalls : List (CCall (CellBuild ⊎ (SD.Call ⊎ CellRun)))
+abbrev pub mixedCalls : List (CCall CellCall)
 mixedCalls =
     record { call = inl graphiteLfp; answer = zeros 1255 } ∷ record { call = inl graphiteLfp; answer = zeros cellBytes } ∷ step no-current ∷ step (draw three two)
-    ∷ record { call = inr (inr noRoom); answer = zeros cellRunBytes } ∷ step too-long ∷ step (draw three one) ∷ step no-current ∷ []
+    ∷ record { call = inr (inr (inl noRoom)); answer = zeros cellRunBytes } ∷ step too-long ∷ record { call = inr (inr (inr noLines)); answer = zeros cellRunBytes } ∷ step (draw three one)
+    ∷ step no-current ∷ []
 
-abbrev mixedFormed : List (CellBuild ⊎ (SD.Call ⊎ CellRun))
+abbrev mixedFormed : List CellCall
 mixedFormed =
-    inl graphiteLfp ∷ inr (inl no-current) ∷ inr (inl (draw three two)) ∷ inr (inr noRoom) ∷ inr (inl too-long) ∷ inr (inl (draw three one)) ∷ inr (inl no-current) ∷ []
+    inl graphiteLfp ∷ inr (inl no-current) ∷ inr (inl (draw three two)) ∷ inr (inr (inl noRoom)) ∷ inr (inl too-long) ∷ inr (inr (inr noLines)) ∷ inr (inl (draw three one))
+    ∷ inr (inl no-current) ∷ []
 
 -- ---- the premises
 formed-calls : wellFormed cellCalls mixedCalls ≡ mixedFormed
@@ -59,9 +68,16 @@ no-rows w c = let m = rows-most w c 0 in omega (arith, m)
 no-turns : (c : SpmSolver) → turnsOf c noRoom ≡ []
 no-turns c = rw (no-rows _ c)
 
+-- nor does a text without a line
+no-calls : (c : SpmSolver) → linesOf c noLines ≡ []
+unfolding callsOf
+no-calls c =
+    let n : replay c noLines .rows ≡ 0 = (let m = rows-bytes [] (noLines .temp) c 8 in omega (arith, m)) in
+    rw n
+
 since-build : (c : SpmSolver) → sinceBuild (record { start = c; steps = [] }) mixedFormed ≡ record { start = cellBuilt 8 configImage .solver; steps = discharge }
 unfolding sinceBuild
-since-build c = rw (build-accepted, no-turns)
+since-build c = rw (build-accepted, no-turns, no-calls)
 
 pub mixed-since : sinceBuildIn (zeros cellBytes) mixedCalls ≡ record { start = start; steps = discharge }
 mixed-since = ap (sinceBuild (record { start = cellAt (zeros cellBytes); steps = [] })) formed-calls ∙ since-build (cellAt (zeros cellBytes)) ∙ ap (λ (c : SpmSolver). record { start = c; steps = discharge }) build-is

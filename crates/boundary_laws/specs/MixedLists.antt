@@ -1,4 +1,4 @@
--- LISTS THAT MIX BUILDS, STEPS AND RUNS of C. A build replaces the record; a run hands on the cell after its finished rows, also where it is refused after a
+-- LISTS THAT MIX BUILDS, STEPS, RUNS AND REPLAYS of C. A build replaces the record; a run or a replay hands on the cell after its finished rows, also where it is refused after a
 -- row; a refused call changes nothing. The record of the last image is the record after the same calls. Assumes nothing.
 use Prim.Native.Nat.{ℕ}
 use mathlib.Core.Path.{_≡_}
@@ -15,14 +15,19 @@ use Rattle.boundary_laws.specs.CallLists.{Calls, CCall, Simulates, simul
 use Rattle.boundary_laws.specs.StepLists.{ElectrolyteCall, DfnCall, particleSteps, cellSteps, electrolyteSteps, dfnSteps, particle-steps-implement, cell-steps-implement, electrolyte-steps-implement, dfn-steps-implement}
 use Rattle.boundary_laws.specs.BuildLists.{Build, CellBuild, particleBuilds, cellBuilds, electrolyteBuilds, dfnBuilds, particle-builds-implement, cell-builds-implement, electrolyte-builds-implement, dfn-builds-implement}
 use Rattle.boundary_laws.specs.RunLists.{CellRun, DfnRun, cellRuns, dfnRuns, cell-runs-implement, dfn-runs-implement}
+use Rattle.boundary_laws.specs.ReplayLists.{CellReplay, cellReplays, cell-replays-implement}
 use Rattle.image_layout.specs.Layout.{particleBytes, electrolyteBytes, cellBytes, dfnBytes}
 
 -- ---- lists of all of them
 abbrev pub particleCalls : Calls particleBytes particleIn (Build ⊎ PD.Call)
 particleCalls = orElse particleBuilds particleSteps
 
-abbrev pub cellCalls : Calls cellBytes cellAt (CellBuild ⊎ (SD.Call ⊎ CellRun))
-cellCalls = orElse cellBuilds (orElse cellSteps cellRuns)
+-- a call on a single-particle cell: a build, a step, a run or a replay
+abbrev pub CellCall : Type 0
+CellCall = CellBuild ⊎ (SD.Call ⊎ (CellRun ⊎ CellReplay))
+
+abbrev pub cellCalls : Calls cellBytes cellAt CellCall
+cellCalls = orElse cellBuilds (orElse cellSteps (orElse cellRuns cellReplays))
 
 abbrev pub electrolyteCalls : Calls electrolyteBytes electrolyteAt (Build ⊎ ElectrolyteCall)
 electrolyteCalls = orElse electrolyteBuilds electrolyteSteps
@@ -34,9 +39,11 @@ dfnCalls = orElse dfnBuilds (orElse dfnSteps dfnRuns)
 pub particle-calls-simulate : (qs : List (CCall (Build ⊎ PD.Call))) (s : List ℕ) → length s ≡ particleBytes → Simulates particleCalls s qs
 particle-calls-simulate = simulates particleCalls (both-implement particleBuilds particleSteps particle-builds-implement particle-steps-implement)
 
-pub cell-calls-simulate : (qs : List (CCall (CellBuild ⊎ (SD.Call ⊎ CellRun)))) (s : List ℕ) → length s ≡ cellBytes → Simulates cellCalls s qs
+pub cell-calls-simulate : (qs : List (CCall CellCall)) (s : List ℕ) → length s ≡ cellBytes → Simulates cellCalls s qs
 cell-calls-simulate =
-    simulates cellCalls (both-implement cellBuilds (orElse cellSteps cellRuns) cell-builds-implement (both-implement cellSteps cellRuns cell-steps-implement cell-runs-implement))
+    let runs = both-implement cellRuns cellReplays cell-runs-implement cell-replays-implement in
+    let steps = both-implement cellSteps (orElse cellRuns cellReplays) cell-steps-implement runs in
+    simulates cellCalls (both-implement cellBuilds (orElse cellSteps (orElse cellRuns cellReplays)) cell-builds-implement steps)
 
 pub electrolyte-calls-simulate : (qs : List (CCall (Build ⊎ ElectrolyteCall))) (s : List ℕ) → length s ≡ electrolyteBytes → Simulates electrolyteCalls s qs
 electrolyte-calls-simulate = simulates electrolyteCalls (both-implement electrolyteBuilds electrolyteSteps electrolyte-builds-implement electrolyte-steps-implement)

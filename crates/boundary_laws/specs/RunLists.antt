@@ -71,7 +71,7 @@ dfnRuns = record {
 
 -- ---- each run implements its definition
 -- an answer that is not written is that of a run without a row
-no-row : (refusal rows : ℕ) → writesAnswer refusal rows ≡ false → rows ≡ 0
+pub no-row : (refusal rows : ℕ) → writesAnswer refusal rows ≡ false → rows ≡ 0
 no-row refusal rows h = go (eqb refusal 0) (eqb rows 0) refl h
   where
     go : (x y : Bool) → eqb rows 0 ≡ y → x || not y ≡ false → rows ≡ 0

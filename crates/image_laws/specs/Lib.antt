@@ -3,7 +3,7 @@
 -- WHERE TO START
 --   ReadBack   for each call that returns 0: the record, the report, the ending, the number or the solution in its answer is the one that the call's definition gives. Steps
 --              (`particle-step-read-back`, `cell-step-read-back`, `electrolyte-step-read-back`, `dfn-step-read-back`, with their reports), runs (`discharge-read-back`,
---              `galvanostatic-read-back`), builds (`..-build-read-back`, `ready-..-read-back`), `number-read-back`, `solution-read-back`
+--              `replay-read-back`, `galvanostatic-read-back`), builds (`..-build-read-back`, `ready-..-read-back`), `number-read-back`, `solution-read-back`
 --   Layout     the law that they go by: a record that can be encoded is read back from an answer with room for it, and from its first bytes alone
 --
 -- WHAT THEY STAND ON
@@ -13,7 +13,7 @@
 --   CellImages, ElectrolyteImages, DfnImages, Reports   each record is read back from its image, where it can be encoded
 --   CellEncodable, DfnEncodable   what the checks let pass of an image can be encoded, and what a step makes of it
 --   CellSteps, ElectrolyteSteps, DfnSteps, CellRuns, DfnRuns, CellBuilds, DfnBuilds, ReadyRecords, Numbers, Dense   what each call answers can be encoded
---   Turns      what each turn of a run keeps, the run keeps
+--   Turns      a run of k turns writes at most k rows
 --   Accepted   what it means that a call returns 0;  AnswerLengths: an answer keeps its length
 pub mod Accepted
 pub mod Words
