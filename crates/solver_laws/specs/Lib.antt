@@ -10,7 +10,7 @@
 --   RunLists    `run-is-list`: the cell that a run leaves is the cell after one call of `step` for each of its rows, all of them accepted (`run-accepted`);  `run-near`: theorem 2 for it
 --   ReplayLists `replay-is-list`, `replay-accepted`: the same for a replay, whose calls are the numbers of its lines in order (`ReplayCalls: callsOf`);  `replay-row`: row j is the row of the
 --               solver's own step with line j on the cell that the lines above left, `replay-line`: and that line is of its form and accepted;  `replay-kept`: the places after the last
---               row are as they were;  `replay-ends`: how it ends, `replay-done`, `done-replay`: done exactly where no byte is left and the last row did not cut off
+--               row are as they were;  `replay-ends`: how it ends, `replay-done`, `replay-all-read`: done exactly where no byte is left and the last row did not cut off
 --   ReplayDemand  `replay-near`, `replay-ranked`: theorems 2 and 3 for the cells that replays leave, the premises line by line
 --   Instance    the ready cell of graphite and lithium iron phosphate, 11 nodes: `discharge-near`, theorem 2 for a call of two sub-steps and one on what it leaves, refused calls before,
 --               between and after them, K = 3;  `discharge-ranked`, theorem 3 for that list and one at 4 A with its refused calls elsewhere, from a cell of another clock.

@@ -108,7 +108,7 @@ module _ (text : List ℕ) (temp : Float) (s : SpmSolver) where
       go true e f z = refused-number text temp s (places / 8) f z
       go false e f z = eqb-false (replayRefusal text s temp places) 0 e z
 
-  -- DONE is the ending exactly where the text has the lines of the rows and no byte more, and the last row did not cut off
+  -- DONE is the ending where the text has the lines of the rows and no byte more, and the last row did not cut off
   pub replay-done : (places : ℕ) → replayRefusal text s temp places ≡ 0 → length text ≡ replayed text temp s places .rows * 34 → cutoffAfter text temp s (replayed text temp s places .rows) ≡ false
       → replayed text temp s places .ended ≡ record { ending = byDone; refusal = 0 }
   unfolding endedAfter
@@ -116,10 +116,11 @@ module _ (text : List ℕ) (temp : Float) (s : SpmSolver) where
       let n : noneLeft text (replayed text temp s places .rows) ≡ true = le-leb (length text) _ (le-of-eq e) in
       rw (replay-ends places h, c, n)
 
-  pub done-replay : (places : ℕ) → replayRefusal text s temp places ≡ 0 → replayed text temp s places .ended .ending ≡ byDone
+  -- and only there
+  pub replay-all-read : (places : ℕ) → replayRefusal text s temp places ≡ 0 → replayed text temp s places .ended .ending ≡ byDone
       → (length text ≡ replayed text temp s places .rows * 34) × (cutoffAfter text temp s (replayed text temp s places .rows) ≡ false)
   unfolding endedAfter
-  done-replay places h d =
+  replay-all-read places h d =
       let n = replayed text temp s places .rows in
       let a = go (cutoffAfter text temp s n) (noneLeft text n) (leb (places / 8) n) (rw (replay-ends places h) at d) in
       (omega (arith, rows-bytes places, leb-true (length text) (n * 34) (a .1)), a .0)
