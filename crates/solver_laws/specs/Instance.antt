@@ -68,7 +68,7 @@ abbrev pub later : SpmSolver
 later = cellAt «3600·0»
 
 -- ---- the calls, all at 298.15 K
-abbrev room : Float
+abbrev pub room : Float
 room = «298·15»
 
 -- 2 s, and a day
@@ -178,7 +178,7 @@ unfolding planOf fresh
 plan-is i dt q e = rw (anode-diffusivity, cathode-diffusivity, e)
 
 -- an interval of k sub-steps of 1 s
-record Split (dt : Float) (k : ℕ) : Type 0 where
+pub record Split (dt : Float) (k : ℕ) : Type 0 where
   q : Float
   quotient-is : quotient dt ≡ q
   passes : (i : Float) → planRefusal (planBy i dt q) ≡ 0
@@ -186,11 +186,11 @@ record Split (dt : Float) (k : ℕ) : Type 0 where
   part : dt ⊘ count k ≡ one
   fits : T (intervalFits dt)
 
-one-split : Split one 1
+pub one-split : Split one 1
 unfolding fresh spacing stableStep planRefusal firstRefusal refusalUnless graphiteAnode lfpCathode ceilOf isNan le lt mul div round size ofInt ofBits
 one-split = record { q = one; quotient-is = refl; passes = λ i. refl; count-is = refl; part = refl; fits = tt }
 
-two-split : Split two 2
+pub two-split : Split two 2
 unfolding fresh spacing stableStep planRefusal firstRefusal refusalUnless graphiteAnode lfpCathode ceilOf isNan le lt mul div round size ofInt ofBits
 two-split = record { q = f64 0x3ff6_c16c_16c1_6c14; quotient-is = refl; passes = λ i. refl; count-is = refl; part = refl; fits = tt }
 
@@ -260,7 +260,7 @@ diffusivity-is : (e : Electrode) (i dt q : Float) → diffusivityIn e (planBy i 
 diffusivity-is Electrode.anode i dt q = refl
 diffusivity-is Electrode.cathode i dt q = refl
 
-draw-conditions : (e : Electrode) (i dt : Float) (k : ℕ) → Split dt k → Sized i (2 ^ 20) 1 → T (loadFits i four) → StepConditions (numbersAt e start (draw i dt))
+pub draw-conditions : (e : Electrode) (i dt : Float) (k : ℕ) → Split dt k → Sized i (2 ^ 20) 1 → T (loadFits i four) → StepConditions (numbersAt e start (draw i dt))
 draw-conditions e i dt k c m h =
     let plan = plan-is i dt (c .q) (c .quotient-is) in
     let D : diffusivityIn e (planFor start (draw i dt)) ≡ diffusivityOf e = ap (diffusivityIn e) plan ∙ diffusivity-is e i dt (c .q) in
@@ -275,7 +275,7 @@ draw-conditions e i dt k c m h =
     record { stable = rw (D, t) (s .stable); fluxBound = rw D g }
 
 -- ---- a cell of that make, in the middle of a list
-room-fits : T (temperatureFits room)
+pub room-fits : T (temperatureFits room)
 unfolding le ofBits
 room-fits = tt
 
@@ -289,7 +289,7 @@ module _ (r : SpmSolver) (v : Inv start r) where
 
   -- A DRAW is accepted, whatever the profiles, and reports its sub-steps
   module _ (i dt : Float) (k : ℕ) (c : Split dt k) (h : T (loadFits i «1e6»)) (f : T (finite (r .«time_s» ⊕ dt))) where
-    draw-accepted : answer r (draw i dt) .refusal ≡ 0
+    pub draw-accepted : answer r (draw i dt) .refusal ≡ 0
     draw-accepted = step-accepted r i dt room (draw-input i dt h (c .fits)) (rw (draw-plan i dt (c .q) (c .quotient-is)) (c .passes i)) f
 
     draw-count : answer r (draw i dt) .«sub_steps» ≡ k
@@ -308,11 +308,11 @@ module _ (r : SpmSolver) (v : Inv start r) where
   unfolding stepped planned
   too-long-refused h = rw (draw-input three day h (day-split .1 .1), draw-plan three day dayQuotient (day-split .0), day-split .1 .0 three)
 
-currents-fit : T (loadFits three «1e6») × T (loadFits four «1e6»)
+pub currents-fit : T (loadFits three «1e6») × T (loadFits four «1e6»)
 unfolding le neg ofBits
 currents-fit = (tt, tt)
 
-small : T (loadFits three four) × T (loadFits four four)
+pub small : T (loadFits three four) × T (loadFits four four)
 unfolding le neg ofBits
 small = (tt, tt)
 
@@ -401,11 +401,11 @@ drawn-conditions e i r qs m s v d =
     rw (d .calls) (Each.more (k two 2 two-split) (Each.more (k one 1 one-split) Each.none))
 
 -- ---- the two lists
-clocks : (T (finite (start .«time_s» ⊕ two)) × T (finite (start .«time_s» ⊕ two ⊕ one))) × (T (finite (later .«time_s» ⊕ two)) × T (finite (later .«time_s» ⊕ two ⊕ one)))
+pub clocks : (T (finite (start .«time_s» ⊕ two)) × T (finite (start .«time_s» ⊕ two ⊕ one))) × (T (finite (later .«time_s» ⊕ two)) × T (finite (later .«time_s» ⊕ two ⊕ one)))
 unfolding add ofBits
 clocks = ((tt, tt), (tt, tt))
 
-start-made : Inv start start
+pub start-made : Inv start start
 start-made = itself start start-passes
 
 discharge-drawn : Drawn three start discharge

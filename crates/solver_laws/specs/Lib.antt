@@ -15,6 +15,7 @@
 --   Instance    the ready cell of graphite and lithium iron phosphate, 11 nodes: `discharge-near`, theorem 2 for a call of two sub-steps and one on what it leaves, refused calls before,
 --               between and after them, K = 3;  `discharge-ranked`, theorem 3 for that list and one at 4 A with its refused calls elsewhere, from a cell of another clock.
 --               Every premise is computed or proved, that the cells accept the calls too
+--   ReplayInstance  that cell and a text of three lines, the third in lower case: `text-near`, theorem 2 for what the replay leaves, with one row or two
 --
 -- WHAT ELSE IS PROVED
 --   Build       `build-passes`: an accepted build gives a cell that passes the checks;  `build-refused`: a refused one the record of zeros
@@ -43,3 +44,4 @@ pub mod ReplayLists
 pub mod ReplayDemand
 pub mod RunEnds
 pub mod Instance
+pub mod ReplayInstance
