@@ -1,15 +1,9 @@
 // The list of names, with units, ranges and what a run starts from.
-use crate::arguments::is;
 use cell_file::records::ready;
 use csv_rows::OUT;
 use electrode::ElectrodeParams;
 use setting_messages::say;
 use setting_messages::write_name;
-
-// Whether the first argument asks for the list.
-pub(crate) fn is_asked(word: &[u8]) -> bool {
-    is(word, b"help") | is(word, b"--help") | is(word, b"-h")
-}
 
 pub(crate) fn write_help() {
     say(

@@ -2,6 +2,7 @@
 use cell_file::GIVEN_TWICE;
 use cell_file::OUT_OF_RANGE;
 use cell_file::Settings;
+use cell_file::UNKNOWN_NAME;
 use csv_rows::OUT;
 
 pub const ERR: i32 = 2;
@@ -78,11 +79,11 @@ pub fn range(fd: i32, k: usize) {
     unit(fd, k);
 }
 
-// The fault, after the place where it was found.
-fn say_what(fault: u64, place: usize) {
+// The fault, after the place where it was found; the program lists its names.
+fn say_what(fault: u64, place: usize, program: &[u8]) {
     entry(
         ERR,
-        b"|expected NAME=VALUE|no such name: 'discharge help' lists them|expected a decimal number, such as 298.15 or 2e-4|",
+        b"|expected NAME=VALUE|no such name: '|expected a decimal number, such as 298.15 or 2e-4|",
         fault as usize,
     );
     entry(
@@ -95,22 +96,26 @@ fn say_what(fault: u64, place: usize) {
         b"||||||||a cell file has at most 4,095 bytes|not given, and a cell file gives both sheets whole|",
         fault as usize,
     );
+    if fault == UNKNOWN_NAME {
+        say(ERR, program);
+        say(ERR, b" help' lists them");
+    }
     if fault == OUT_OF_RANGE {
         range(ERR, place);
     }
 }
 
 // Of an argument.
-pub fn in_argument(st: Settings, text: &[u8]) {
+pub fn in_argument(st: Settings, text: &[u8], program: &[u8]) {
     say(ERR, b"'");
     say(ERR, text);
     say(ERR, b"': ");
-    say_what(st.fault, st.place);
+    say_what(st.fault, st.place, program);
     say(ERR, b"\n");
 }
 
 // Of a cell file, with its line.
-pub fn in_file(st: Settings, path: &[u8]) {
+pub fn in_file(st: Settings, path: &[u8], program: &[u8]) {
     say(ERR, path);
     if st.line != 0 {
         say(ERR, b": line ");
@@ -121,7 +126,7 @@ pub fn in_file(st: Settings, path: &[u8]) {
         name(ERR, st.place);
         say(ERR, b": ");
     }
-    say_what(st.fault, st.place);
+    say_what(st.fault, st.place, program);
     if st.fault == GIVEN_TWICE {
         let k = st.place;
         let given = st.given;
