@@ -3,7 +3,10 @@ use cell_file::GIVEN_TWICE;
 use cell_file::OUT_OF_RANGE;
 use cell_file::Settings;
 use cell_file::UNKNOWN_NAME;
+use cell_file::records::ready;
 use csv_rows::OUT;
+use electrode::ElectrodeParams;
+use setting_table::names::in_load;
 
 pub const ERR: i32 = 2;
 
@@ -153,4 +156,18 @@ pub fn write_name(v: &[f64; 30], k: usize) {
         say(OUT, b", whole");
     }
     say(OUT, b")\n");
+}
+
+// Writes the list of names with what each is for nmc, without those that a load file stands for where there is one, and what a cell file is.
+pub fn write_names(load: bool) {
+    let v = ready(ElectrodeParams::nmc_cathode());
+    for k in 0..30 {
+        if !(load & in_load(k)) {
+            write_name(&v, k);
+        }
+    }
+    say(
+        OUT,
+        b"\nA cell file has a line NAME = VALUE for each number of both sheets, and for any other that it sets; '#' begins a remark.\n",
+    );
 }
