@@ -5,7 +5,7 @@ use setting_messages::ERR;
 use setting_messages::say;
 
 // The numbers, and which argument names the load file, 0 for none.
-pub(crate) struct Given {
+pub(crate) struct Arguments {
     pub(crate) settings: Settings,
     pub(crate) load: usize,
 }
@@ -32,28 +32,28 @@ fn take_setting(st: Settings, i: usize, word: &[u8]) -> Settings {
 }
 
 // Takes load=FILE.
-fn take_load(g: Given, i: usize, word: &[u8]) -> Given {
+fn take_load(g: Arguments, i: usize, word: &[u8]) -> Arguments {
     let st = g.settings;
     if word.len() == 5 {
-        return Given {
+        return Arguments {
             settings: refused(st, word, b"': expected load=FILE\n"),
             load: i,
         };
     }
     if g.load != 0 {
-        return Given {
+        return Arguments {
             settings: refused(st, word, b"': given twice\n"),
             load: i,
         };
     }
-    Given {
+    Arguments {
         settings: st,
         load: i,
     }
 }
 
 // Takes argument i, unless a fault was met before.
-fn take(g: Given, i: usize) -> Given {
+fn take(g: Arguments, i: usize) -> Arguments {
     if g.settings.fault != 0 {
         return g;
     }
@@ -64,15 +64,15 @@ fn take(g: Given, i: usize) -> Given {
         return take_load(g, i, word);
     }
     let load = g.load;
-    Given {
+    Arguments {
         settings: take_setting(g.settings, i, word),
         load,
     }
 }
 
 // What all arguments say, of which the first is at hand, or those before the first that is wrong.
-pub(crate) fn given(first: &[u8]) -> Given {
-    let mut g = Given {
+pub(crate) fn given(first: &[u8]) -> Arguments {
+    let mut g = Arguments {
         settings: arguments::first_settings(first, b"replay"),
         load: 0,
     };

@@ -23,7 +23,9 @@ fn load_buffer() -> [u8; 65537]
 // Whether a line was refused; the other numbers refuse a replay before its first line.
 fn of_a_line(number: u64) -> bool {
     let numbers = (number == refusal::LOAD) | (number == refusal::INTERVAL);
-    let step = (number == refusal::DIFFUSIVITY) | (number == refusal::SUB_STEPS) | (number == refusal::NOT_FINITE);
+    let step = (number == refusal::DIFFUSIVITY)
+        | (number == refusal::SUB_STEPS)
+        | (number == refusal::NOT_FINITE);
     (number == refusal::LINE) | numbers | step
 }
 
@@ -55,12 +57,15 @@ fn replay(v: [f64; 30], cell: SpmSolver, named: &[u8], path: &[u8]) {
     write_ending(e, r.rows);
 }
 
-// Builds the cell and replays the load file that an argument names.
-fn run(v: [f64; 30], named: &[u8], load: usize) {
-    let built = command_line::build(&v);
+// Builds the cell and replays the file that argument i names, load=FILE.
+fn run(v: [f64; 30], named: &[u8], i: usize) {
     let mut word = io::buffer();
-    let size = os::arg(load, &mut word);
-    if (built.refusal == 0) & (5 <= size) {
+    let size = os::arg(i, &mut word);
+    let built = command_line::build(&v);
+    if built.refusal != 0 {
+        return;
+    }
+    if 5 <= size {
         replay(v, built.solver, named, &word[5..size]);
     }
 }
