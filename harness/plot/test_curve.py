@@ -245,6 +245,11 @@ class CurveTest(unittest.TestCase):
                 self.assertTrue(message.startswith("curve.py: "), message)
                 self.assertIn(words, message)
 
+    def test_picture_of_the_drive_cycle(self):
+        picture = (CRATES.parent / "docs" / "drive_cycle.svg").read_text()
+        _, svg, _ = self.run_curve(given=(CRATES / "replay" / "stdout").read_text())
+        self.assertTrue(svg == picture, "docs/drive_cycle.svg is not the picture of crates/replay/stdout: README.md has the command that makes it")
+
     def test_as_a_program(self):
         for given, status, message in ((csv(), 0, ""), ("", 1, "curve.py: standard input: no row to draw, the input is empty\n")):
             done = subprocess.run([sys.executable, HERE / "curve.py"], input=given, capture_output=True, text=True, check=False)
