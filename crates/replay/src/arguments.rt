@@ -10,11 +10,13 @@ pub(crate) struct Arguments {
     pub(crate) load: usize,
 }
 
-// Says what is wrong with an argument.
+// Says what is wrong with an argument, and gives numbers that no other argument changes.
 fn refused(st: Settings, word: &[u8], fault: &[u8]) -> Settings {
     say(ERR, b"'");
     say(ERR, word);
+    say(ERR, b"': ");
     say(ERR, fault);
+    say(ERR, b"\n");
     let values = st.values;
     arguments::fresh(values, arguments::OTHER_FAULT)
 }
@@ -25,7 +27,7 @@ fn take_setting(st: Settings, i: usize, word: &[u8]) -> Settings {
         return refused(
             st,
             word,
-            b"': a replay has current, dt and time from its load file\n",
+            b"a replay has current, dt and time from its load file",
         );
     }
     arguments::take_argument(st, i, word, b"replay")
@@ -36,13 +38,13 @@ fn take_load(g: Arguments, i: usize, word: &[u8]) -> Arguments {
     let st = g.settings;
     if word.len() == 5 {
         return Arguments {
-            settings: refused(st, word, b"': expected load=FILE\n"),
+            settings: refused(st, word, b"expected load=FILE"),
             load: i,
         };
     }
     if g.load != 0 {
         return Arguments {
-            settings: refused(st, word, b"': given twice\n"),
+            settings: refused(st, word, b"given twice"),
             load: i,
         };
     }
