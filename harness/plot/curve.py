@@ -1,10 +1,10 @@
 #!/usr/bin/env python3
-"""Draws discharges: the voltages over each other, and under them the stoichiometries, as SVG to standard output.
+"""Draws runs: the voltages over each other, and under them the stoichiometries, as SVG to standard output. Where a current varies, it has a panel between them.
 
     target/bin/discharge nmc | harness/plot/curve.py > curve.svg
     harness/plot/curve.py 1A.csv 5A.csv 10A.csv > rates.svg
 
-Each FILE is what the program discharge writes; - or no FILE is standard input. The title has cell, current and temperature, as far as the runs tell them;
+Each FILE is what the program discharge or replay writes; - or no FILE is standard input. The title has cell, load, current and temperature, as far as the runs tell them;
 what differs from run to run is in the legend too, with the capacity in Ah, the ending, and when a surface became full or empty.
 Dashed lines stand at v_min and v_max, where that leaves the curve at least a twentieth of the height, else their values stand at the edge.
 Marks stand where the surface of an electrode is full (1) or empty (0) for the first time: from there on charge is lost and the rows are not
@@ -22,7 +22,7 @@ sys.dont_write_bytecode = True
 from run_csv import AVERAGES, SURFACES, BadInput, number, read_run
 
 WIDTH, LEFT, RIGHT, LIMITS = 1140, 80, 390, 105
-TOP, UPPER_AXIS, HEIGHT, GAP, BOTTOM = 60, 44, 270, 50, 60
+TOP, UPPER_AXIS, HEIGHT, CURRENT_HEIGHT, GAP, BOTTOM = 60, 44, 270, 150, 50, 60
 RIGHT_EDGE = WIDTH - RIGHT
 INK, GREY, RED = "#333333", "#666666", "#b00020"
 ELECTRODE = {"anode": "#1b6ca8", "cathode": "#c2410c"}
@@ -78,15 +78,15 @@ def padded(low, high, part):
 class Panel:
     """A part of the picture with its own axes."""
 
-    def __init__(self, top, x_range, y_range, label):
-        self.top, self.bottom, self.label = top, top + HEIGHT, label
+    def __init__(self, top, x_range, y_range, label, height=HEIGHT):
+        self.top, self.bottom, self.height, self.label = top, top + height, height, label
         (self.x0, self.x1), (self.y0, self.y1) = x_range, y_range
 
     def x(self, value):
         return LEFT + (RIGHT_EDGE - LEFT) * (value - self.x0) / (self.x1 - self.x0)
 
     def y(self, value):
-        return self.top + HEIGHT * (self.y1 - value) / (self.y1 - self.y0)
+        return self.top + self.height * (self.y1 - value) / (self.y1 - self.y0)
 
     def axes(self):
         """The frame, and the ticks of both axes with their numbers."""
@@ -97,9 +97,9 @@ class Panel:
         for value, words in ticks(self.y0, self.y1, 6):
             out.append(line_at(LEFT, self.y(value), RIGHT_EDGE, self.y(value), 'stroke="#ddd"'))
             out.append(text_at(LEFT - 8, self.y(value) + 4, words, 'class="tick-y" text-anchor="end"'))
-        middle = self.top + HEIGHT / 2
+        middle = self.top + self.height / 2
         out.append(text_at(22, middle, self.label, f'text-anchor="middle" transform="rotate(-90 22 {middle})"'))
-        out.append(f'<rect x="{LEFT}" y="{self.top}" width="{RIGHT_EDGE - LEFT}" height="{HEIGHT}" fill="none" stroke="#444"/>')
+        out.append(f'<rect x="{LEFT}" y="{self.top}" width="{RIGHT_EDGE - LEFT}" height="{self.height}" fill="none" stroke="#444"/>')
         return out
 
     def upper_axis(self, factor, label):
@@ -185,9 +185,9 @@ class Picture:
         return [given] if given is not None else sorted({run.settings[name] for run in self.runs if name in run.settings})
 
     def settings_of(self, run):
-        """Cell, current and temperature in words; each '' where the run does not tell it."""
+        """Cell, load, current and temperature in words; each '' where the run does not tell it, or where the current varies."""
         temperature = run.settings.get("temperature")
-        return [run.cell, self.current_words(run.current), "" if temperature is None else f"{temperature:g} K"]
+        return [run.cell, run.load, self.current_words(run.current), "" if temperature is None else f"{temperature:g} K"]
 
     def current_words(self, current):
         if current is None:
@@ -196,7 +196,7 @@ class Picture:
         return f"{current:g} A" + (f" ({abs(current) / rate:.3g}C)" if rate else "")
 
     def title(self):
-        """Cell, current and temperature; all values where the runs differ, and the first and the last of more than five."""
+        """Cell, load, current and temperature; all values where the runs differ, and the first and the last of more than five."""
         if self.options.title is not None:
             return self.options.title
         parts = []
@@ -212,7 +212,7 @@ class Picture:
         if len(self.runs) == 1:
             return ["terminal voltage"]
         settings = [self.settings_of(run) for run in self.runs]
-        differ = [k for k in range(3) if len({words[k] for words in settings}) > 1]
+        differ = [k for k in range(len(settings[0])) if len({words[k] for words in settings}) > 1]
         labels = [", ".join(words[k] for k in differ if words[k]) for words in settings]
         unclear = {label for label in labels if labels.count(label) > 1 or not label}
         return [", ".join(filter(None, [label, run.name])) if label in unclear else label for label, run in zip(labels, self.runs)]
@@ -260,12 +260,23 @@ class Picture:
         """A run in the legend."""
         legend.entry(label, colour, kind="run")
         if run.capacities:
-            legend.note(f"{run.capacities[-1]:.4g} Ah in {run.times[-1]:g} s")
+            both = min(run.currents) < 0 < max(run.currents)
+            legend.note(f"{run.capacities[-1]:.4g} Ah{' net' if both else ''} in {run.times[-1]:g} s")
         legend.note(run.ending or f"no line says how it ended; rows: {len(run.times)}")
         for electrode, state, row in marks:
             at = f", {run.capacities[row]:.4g} Ah" if run.capacities else ""
             legend.note(f"{electrode} {state} from {run.times[row]:g} s{at}")
         legend.space()
+
+    def draw_currents(self, panel, legend):
+        """The panel between, in steps: a row's current flowed since the row before it."""
+        out = panel.axes()
+        for run, xs, colour in zip(self.runs, self.xs, self.colours):
+            if None not in run.currents:
+                edges = [x for pair in zip([0.0, *xs], xs) for x in pair]
+                out.append(panel.line(edges, [current for current in run.currents for _ in range(2)], colour, 'class="current"'))
+        legend.entry("current, discharge positive", INK if len(self.runs) == 1 else GREY)
+        return out
 
     def draw_stoichiometries(self, panel, legend):
         """The lower panel. One run has its electrodes in colours and averages dashed; several have their own colours, and the cathode is dashed."""
@@ -294,9 +305,15 @@ class Picture:
         x_range = min(0.0, *values), (max(0.0, *values) or 1.0) * 1.02
         stoichiometries = [theta for run in self.runs for name in SURFACES.values() for theta in run.columns[name]]
         upper = Panel(TOP + (UPPER_AXIS if self.current else 0), x_range, self.voltage_range(), "voltage [V]")
-        lower = Panel(upper.bottom + GAP, x_range, padded(min(0.0, *stoichiometries), max(1.0, *stoichiometries), 0.05), "stoichiometry [1]")
         legend = Legend(upper.top + 10)
-        body = self.draw_voltages(upper, legend)
+        body, bottom = self.draw_voltages(upper, legend), upper.bottom
+        if any(run.varies for run in self.runs):
+            currents = [current for run in self.runs for current in run.currents if current is not None]
+            middle = Panel(bottom + GAP, x_range, padded(min(0.0, *currents), max(0.0, *currents), 0.08), "current [A]", CURRENT_HEIGHT)
+            legend.at = max(legend.at + 14, middle.top + 10)
+            body += self.draw_currents(middle, legend)
+            bottom = middle.bottom
+        lower = Panel(bottom + GAP, x_range, padded(min(0.0, *stoichiometries), max(1.0, *stoichiometries), 0.05), "stoichiometry [1]")
         legend.at = max(legend.at + 14, lower.top + 10)
         body += self.draw_stoichiometries(lower, legend)
         body.append(text_at((LEFT + RIGHT_EDGE) / 2, lower.bottom + 42, self.capacity_words() if self.by_capacity else "time [s]",
@@ -322,7 +339,7 @@ def parse(arguments):
     parser = Parser(prog="curve.py", description=__doc__, formatter_class=argparse.RawDescriptionHelpFormatter)
     parser.add_argument("files", metavar="FILE", nargs="*", help="the CSV of a run; - or none is standard input")
     parser.add_argument("--x", choices=["time", "capacity"], default="time", help="the axis below (default: time)")
-    parser.add_argument("--title", help="instead of cell, current and temperature")
+    parser.add_argument("--title", help="instead of cell, load, current and temperature")
     parser.add_argument("--label", action="append", metavar="TEXT", help="a run's name in the legend; once for each FILE, in their order")
     parser.add_argument("--v-min", metavar="V", help="draw the lower limit here, whatever the runs say")
     parser.add_argument("--v-max", metavar="V", help="draw the upper limit here, whatever the runs say")

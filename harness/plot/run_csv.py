@@ -1,8 +1,9 @@
-"""Reads what the program `discharge` writes: a line of column names with their units, rows of numbers, and remarks after '#'.
+"""Reads what the programs `discharge` and `replay` write: a line of column names with their units, rows of numbers, and remarks after '#'.
 
 A remark with at least one of the four names of SETTINGS says how the run was set, its cell first:
 
     # nmc current=5 A temperature=298.15 K v_min=3 V v_max=4.2 V
+    # nmc load=drive.txt temperature=298.15 K v_min=3 V v_max=4.2 V
 
 Any of them may be missing, and so may units. The last of the other remarks says how the run ended.
 """
@@ -26,12 +27,13 @@ class Run:
 
     def __init__(self, name, columns, remarks):
         self.name, self.columns = name, columns
-        self.cell, self.settings, self.ending = "", {}, ""
+        self.cell, self.load, self.settings, self.ending = "", "", {}, ""
         for remark in remarks:
             self.take_remark(remark)
         self.times, self.voltages = columns["time [s]"], columns["voltage [V]"]
         self.currents = columns.get("current [A]") or [self.settings.get("current")] * len(self.times)
-        self.current = self.currents[0] if len(set(self.currents)) == 1 else None
+        self.varies = len(set(self.currents)) > 1
+        self.current = None if self.varies else self.currents[0]
         self.capacities = self.integrate() if None not in self.currents else None
 
     def take_remark(self, remark):
@@ -40,6 +42,8 @@ class Run:
             self.ending = remark
             return
         self.cell = re.split(r"(?:^|\s)[\w.]+=", remark)[0].strip() or self.cell
+        load = re.search(rf"(?:^|\s)load=(.*?)(?:\s(?:{'|'.join(SETTINGS)})=|$)", remark)
+        self.load = load.group(1).split("/")[-1] if load else self.load
         for name, value in found:
             self.settings[name] = number(value, f"{self.name}: {name} in a remark")
 

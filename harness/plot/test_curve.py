@@ -20,15 +20,18 @@ sys.dont_write_bytecode = True
 import curve
 
 HERE = Path(__file__).resolve().parent
-SAMPLE = HERE.parent.parent / "crates" / "discharge" / "stdout"
+CRATES = HERE.parent.parent / "crates"
 HEADER = "time [s],voltage [V],current [A],theta_neg [1],theta_pos [1],theta_neg_avg [1],theta_pos_avg [1],cutoff [1]"
 REMARK = "# nmc current=5 A temperature=298.15 K v_min=3 V v_max=4.2 V"
 ENDING = "# ended by time after 6 rows"
+LOAD = "# nmc load=logs/my drive.txt temperature=298.15 K v_min=3 V v_max=4.2 V"
+CURRENTS = (5.0, 15.0, 0.0, -4.0, -4.0, 5.0)
 
 
 def csv(current=5.0, remark=REMARK, anode=(0.8, 0.7, 0.6, 0.5, 0.4, 0.3), cathode=(0.2, 0.3, 0.4, 0.5, 0.6, 0.7)):
-    """A run of six rows, a row each 600 s, from 3.9 V to 3.4 V."""
-    rows = [f"{600 * (k + 1)},{3.9 - 0.1 * k},{current},{anode[k]},{cathode[k]},0.5,0.5,0" for k in range(6)]
+    """A run of six rows, a row each 600 s, from 3.9 V to 3.4 V, at one current or at six."""
+    currents = current if isinstance(current, tuple) else (current,) * 6
+    rows = [f"{600 * (k + 1)},{3.9 - 0.1 * k},{currents[k]},{anode[k]},{cathode[k]},0.5,0.5,0" for k in range(6)]
     return "\n".join(filter(None, [HEADER, *rows, remark, ENDING])) + "\n"
 
 
@@ -54,13 +57,13 @@ class Drawn:
         return lambda value: at_a + (at_b - at_a) * (value - a) / (b - a)
 
     def panels(self):
-        """The scales of the time, the voltage and the stoichiometry. The numbers of the voltage come first and rise, then those of the stoichiometry."""
+        """The scales of the time and of each panel from above to below: the numbers of a panel rise, and the next panel's begin lower."""
         numbers = self.of("tick-y")
-        cut = next(k for k in range(1, len(numbers)) if float(numbers[k][2]) < float(numbers[k - 1][2]))
+        cuts = [k for k in range(1, len(numbers)) if float(numbers[k][2]) < float(numbers[k - 1][2])]
         parts = []
-        for part in (numbers[:cut], numbers[cut:]):
+        for first, last in zip([0, *cuts], [*cuts, len(numbers)]):
             drawn = Drawn("<svg xmlns='x'/>")
-            drawn.elements = part
+            drawn.elements = numbers[first:last]
             parts.append(drawn.scale("tick-y", "y", 4.0))
         return self.scale("tick-x", "x"), *parts
 
@@ -182,13 +185,36 @@ class CurveTest(unittest.TestCase):
         far = self.draw("--v-max", "1000", given=csv())
         self.assertEqual((far.of("v_max"), far.texts("v_max-label")), ([], ["↑ v_max 1000 V"]))
 
-    def test_what_the_program_writes(self):
-        text = SAMPLE.read_text()
-        drawn = self.draw(given=text)
-        rows = [line for line in text.splitlines() if re.match(r"[0-9]", line)]
-        self.assertEqual([len(points) for points in drawn.points("voltage")], [len(rows)])
-        for name in ("v_min", "v_max"):
-            self.assertEqual(len(drawn.of(name + "-label")), int(f" {name}=" in text))
+    def test_varying_current(self):
+        load = self.file("load.csv", csv(CURRENTS, LOAD))
+        drawn = self.draw("--nominal-capacity", "2.5", load)
+        x, voltage, current, theta = drawn.panels()
+        self.assertEqual((drawn.texts("title"), drawn.texts("run")), (["nmc · my drive.txt · 298.15 K"], ["terminal voltage"]))
+        self.assertEqual((drawn.of("tick-upper"), drawn.of("upper-label")), ([], []))
+        steps, = drawn.points("current")
+        expected = [(x(600 * (k + edge)), current(CURRENTS[k])) for k in range(6) for edge in (0, 1)]
+        self.assertEqual(len(steps), len(expected))
+        for found, wanted in zip(steps, expected):
+            self.near(found, wanted)
+        self.near(drawn.points("voltage")[0][5], (x(3600), voltage(3.4)))
+        self.near(drawn.points("surface")[0][5], (x(3600), theta(0.3)))
+        self.assertIn("2.833 Ah net in 3600 s", drawn.texts("note"))
+        self.assertIn("current, discharge positive", drawn.texts("entry"))
+        both = self.draw(load, self.file("constant.csv", csv()))
+        self.assertEqual(both.texts("run"), ["my drive.txt", "5 A"])
+        self.assertEqual([len(points) for points in both.points("current")], [12, 12])
+        self.assertEqual(len({at["stroke"] for _, at, _ in both.of("current")}), 2)
+        self.assertEqual(self.draw("constant.csv").of("current"), [])
+
+    def test_what_the_programs_write(self):
+        for program, steps in (("discharge", []), ("replay", [622])):
+            text = (CRATES / program / "stdout").read_text()
+            drawn = self.draw(given=text)
+            rows = [line for line in text.splitlines() if re.match(r"[0-9]", line)]
+            self.assertEqual([len(points) for points in drawn.points("voltage")], [len(rows)])
+            self.assertEqual([len(points) for points in drawn.points("current")], steps)
+            for name in ("v_min", "v_max"):
+                self.assertEqual(len(drawn.of(name + "-label")), int(f" {name}=" in text))
 
     def test_faults(self):
         good = self.file("good.csv", csv())
@@ -218,6 +244,11 @@ class CurveTest(unittest.TestCase):
                 self.assertEqual(len(message.splitlines()), 1, message)
                 self.assertTrue(message.startswith("curve.py: "), message)
                 self.assertIn(words, message)
+
+    def test_picture_of_the_drive_cycle(self):
+        picture = (CRATES.parent / "docs" / "drive_cycle.svg").read_text()
+        _, svg, _ = self.run_curve(given=(CRATES / "replay" / "stdout").read_text())
+        self.assertTrue(svg == picture, "docs/drive_cycle.svg is not the picture of crates/replay/stdout: README.md has the command that makes it")
 
     def test_as_a_program(self):
         for given, status, message in ((csv(), 0, ""), ("", 1, "curve.py: standard input: no row to draw, the input is empty\n")):

@@ -1,15 +1,6 @@
-// The list of names, with units, ranges and what a run starts from.
-use crate::arguments::is;
-use cell_file::records::ready;
+// What the program takes: the list of names, with units, ranges and what a run starts from.
 use csv_rows::OUT;
-use electrode::ElectrodeParams;
 use setting_messages::say;
-use setting_messages::write_name;
-
-// Whether the first argument asks for the list.
-pub(crate) fn is_asked(word: &[u8]) -> bool {
-    is(word, b"help") | is(word, b"--help") | is(word, b"-h")
-}
 
 pub(crate) fn write_help() {
     say(
@@ -20,12 +11,5 @@ pub(crate) fn write_help() {
         OUT,
         b"Discharges a cell at a constant current and writes its rows as CSV. The names, what each starts from for nmc, and its range:\n\n",
     );
-    let v = ready(ElectrodeParams::nmc_cathode());
-    for k in 0..30 {
-        write_name(&v, k);
-    }
-    say(
-        OUT,
-        b"\nA cell file has a line NAME = VALUE for each number of both sheets, and for any other that it sets; '#' begins a remark.\n",
-    );
+    setting_messages::write_names(false);
 }

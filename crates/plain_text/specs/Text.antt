@@ -50,6 +50,9 @@ linesOf (b ∷ s) = cond (eqb b 10) ([] ∷ linesOf s) (headed b (linesOf s))
 unfoldable pub startsWith : List ℕ → List ℕ → Bool
 startsWith s p = leb (length p) (length s) && allBelow (length p) (λ j. eqb (getD s j 0) (getD p j 0))
 
+unfoldable pub isText : List ℕ → List ℕ → Bool
+isText s p = eqb (length s) (length p) && startsWith s p
+
 -- a text without the byte order mark that it may begin with
 unfoldable pub afterMark : List ℕ → List ℕ
 afterMark s = cond (startsWith s (239 ∷ 187 ∷ 191 ∷ [])) (drop 3 s) s

@@ -3,7 +3,7 @@ ghost use mathlib.Core.Path.{_≡_};
 ghost use mathlib.Core.Bool.{cond};
 ghost use Prim.Native.Nat.{_+_, _≤_};
 ghost use lib.ListN.{length, drop, getD};
-ghost use Rattle.plain_text.specs.Text.{isBlank, indexOf, blanksAhead, solidEnd, trimmed, startsWith, afterMark};
+ghost use Rattle.plain_text.specs.Text.{isBlank, indexOf, blanksAhead, solidEnd, trimmed, startsWith, isText, afterMark};
 
 // The byte at i, or 0 past the end.
 fn byte_at(s: &[u8], i: usize) -> u8
@@ -88,6 +88,13 @@ pub fn starts_with(s: &[u8], p: &[u8]) -> bool
         same = same & (byte_at(s, j) == p[j]);
     }
     (p.len() <= s.len()) & same
+}
+
+// Whether a text is p.
+pub fn is(s: &[u8], p: &[u8]) -> bool
+    ensures { λ r. ⌜ r ≡ isText (now (s .entry)) (now (p .entry)) ⌝ }
+{
+    (s.len() == p.len()) & starts_with(s, p)
 }
 
 // A text without the byte order mark that it may begin with.

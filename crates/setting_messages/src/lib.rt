@@ -2,7 +2,11 @@
 use cell_file::GIVEN_TWICE;
 use cell_file::OUT_OF_RANGE;
 use cell_file::Settings;
+use cell_file::UNKNOWN_NAME;
+use cell_file::records::ready;
 use csv_rows::OUT;
+use electrode::ElectrodeParams;
+use setting_table::names::in_load;
 
 pub const ERR: i32 = 2;
 
@@ -78,11 +82,11 @@ pub fn range(fd: i32, k: usize) {
     unit(fd, k);
 }
 
-// The fault, after the place where it was found.
-fn say_what(fault: u64, place: usize) {
+// The fault, after the place where it was found; the program lists its names.
+fn say_what(fault: u64, place: usize, program: &[u8]) {
     entry(
         ERR,
-        b"|expected NAME=VALUE|no such name: 'discharge help' lists them|expected a decimal number, such as 298.15 or 2e-4|",
+        b"|expected NAME=VALUE|no such name: '|expected a decimal number, such as 298.15 or 2e-4|",
         fault as usize,
     );
     entry(
@@ -95,22 +99,26 @@ fn say_what(fault: u64, place: usize) {
         b"||||||||a cell file has at most 4,095 bytes|not given, and a cell file gives both sheets whole|",
         fault as usize,
     );
+    if fault == UNKNOWN_NAME {
+        say(ERR, program);
+        say(ERR, b" help' lists them");
+    }
     if fault == OUT_OF_RANGE {
         range(ERR, place);
     }
 }
 
 // Of an argument.
-pub fn in_argument(st: Settings, text: &[u8]) {
+pub fn in_argument(st: Settings, text: &[u8], program: &[u8]) {
     say(ERR, b"'");
     say(ERR, text);
     say(ERR, b"': ");
-    say_what(st.fault, st.place);
+    say_what(st.fault, st.place, program);
     say(ERR, b"\n");
 }
 
 // Of a cell file, with its line.
-pub fn in_file(st: Settings, path: &[u8]) {
+pub fn in_file(st: Settings, path: &[u8], program: &[u8]) {
     say(ERR, path);
     if st.line != 0 {
         say(ERR, b": line ");
@@ -121,7 +129,7 @@ pub fn in_file(st: Settings, path: &[u8]) {
         name(ERR, st.place);
         say(ERR, b": ");
     }
-    say_what(st.fault, st.place);
+    say_what(st.fault, st.place, program);
     if st.fault == GIVEN_TWICE {
         let k = st.place;
         let given = st.given;
@@ -148,4 +156,18 @@ pub fn write_name(v: &[f64; 30], k: usize) {
         say(OUT, b", whole");
     }
     say(OUT, b")\n");
+}
+
+// Writes the list of names with what each is for nmc, without those that a load file stands for where there is one, and what a cell file is.
+pub fn write_names(load: bool) {
+    let v = ready(ElectrodeParams::nmc_cathode());
+    for k in 0..30 {
+        if !(load & in_load(k)) {
+            write_name(&v, k);
+        }
+    }
+    say(
+        OUT,
+        b"\nA cell file has a line NAME = VALUE for each number of both sheets, and for any other that it sets; '#' begins a remark.\n",
+    );
 }

@@ -2,7 +2,7 @@
 use Prim.Native.Nat.{ℕ, zero, suc, _+_, _*_, _%_}
 use Prim.Native.Char.{code}
 use Prim.Native.String.{String, [] as empty, _∷_ as _before_}
-use mathlib.Core.Bool.{Bool, cond, _&&_}
+use mathlib.Core.Bool.{Bool, cond, _&&_, _||_}
 use mathlib.Core.List.{List, [], _∷_}
 use lib.Dec.{leb, ltb, eqb}
 use lib.ListN.{length, drop, getD}
@@ -47,3 +47,7 @@ placeOf s =
 -- byte j of the name at a place, without the electrode before it
 unfoldable pub letterOf : ℕ → ℕ → ℕ
 letterOf k j = cond (ltb k 10) (getD (bytesOf runNames) (k * 12 + j) 0) (getD (bytesOf sheetNames) (k % 10 * 12 + j) 0)
+
+-- current, dt and time: a load file has a current and an interval in each line, and its last line ends a replay
+abbrev pub inLoad : ℕ → Bool
+inLoad k = eqb k 0 || eqb k 1 || eqb k 3

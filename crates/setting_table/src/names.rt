@@ -2,7 +2,7 @@
 ghost use mathlib.Core.Path.{_≡_};
 ghost use mathlib.Core.Bool.{cond};
 ghost use Prim.Native.Nat.{_<_, _≤_};
-ghost use Rattle.setting_table.specs.Names.{paddedAt, isNamed, placeBy, shifted, placeOf, letterOf, runNames, sheetNames, bytesOf};
+ghost use Rattle.setting_table.specs.Names.{paddedAt, isNamed, placeBy, shifted, placeOf, letterOf, runNames, sheetNames, bytesOf, inLoad};
 
 // How many names there are; the place of what is no name.
 pub const NONE: usize = 30;
@@ -73,4 +73,11 @@ pub fn letter(k: usize, j: usize) -> u8
 {
     let names = names_of(10 <= k);
     names[k % 10 * 12 + j]
+}
+
+// Whether a load file stands for the number at place k: it has a current and an interval in each line, and its last line ends a replay.
+pub fn in_load(k: usize) -> bool
+    ensures { λ r. ⌜ r ≡ inLoad k ⌝ }
+{
+    (k == 0) | (k == 1) | (k == 3)
 }

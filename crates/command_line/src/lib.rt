@@ -1,0 +1,25 @@
+// The command line of a program that runs a cell: the numbers that its arguments set, the cell that they make, and, in words, what was run and how it ended.
+// What arguments and files hold, and what is written, no contract can say.
+pub mod arguments;
+pub mod ending;
+
+use cell_file::records::config_of;
+use cell_file::records::sheet_at;
+use solver::SpmBuildAnswer;
+use solver::SpmSolver;
+ghost use mathlib.Core.Path.{_≡_};
+ghost use Rattle.command_line.specs.Arguments.{builtFrom};
+
+// The cell that thirty numbers make; where it is refused, it says so.
+pub fn build(v: &[f64; 30]) -> SpmBuildAnswer
+    ensures { λ r. ⌜ r ≡ builtFrom (now (v .entry)) ⌝ }
+{
+    let config = config_of(v);
+    let anode = sheet_at(v, 10);
+    let cathode = sheet_at(v, 20);
+    let answer = SpmSolver::new(config, anode, cathode);
+    if answer.refusal != 0 {
+        ending::not_built(answer.refusal);
+    }
+    answer
+}
