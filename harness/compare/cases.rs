@@ -542,7 +542,12 @@ fn replays(draw: &mut Draw, turn: u64) -> Case {
     let temp_k = cell_temperature(draw, &cell);
     let count = texts::count(draw);
     let mut loads = texts::loads(draw, count, least_interval(&cell, temp_k), cell.anode.sheet.numbers[6]);
-    if draw.below(3) == 0 {
+    let way = draw.below(3);
+    if way == 0 {
+        cell.config.numbers[..2].copy_from_slice(&[-10.0, 10.0]);
+        build = None;
+    }
+    if way == 1 {
         let (mut voltages, mut next) = (Vec::new(), cell.clone());
         for [dt, current] in loads.iter().take(draw.count(2, 12) as usize) {
             let Ok((after, report)) = next.step(*current, *dt, temp_k) else { break };

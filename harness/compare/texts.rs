@@ -59,7 +59,7 @@ pub fn with_fault(draw: &mut Draw, text: &mut Vec<u8>, least: f64) {
     let lines = text.len() / LINE;
     let start = LINE * draw.below(1 + lines as u64) as usize;
     let at = draw.below(1 + text.len() as u64) as usize;
-    match draw.below(12) {
+    match draw.below(18) {
         0..=2 if at < text.len() => text[at] = other_byte(draw),
         3 if at < text.len() => drop(text.remove(at)),
         4 => text.insert(at, other_byte(draw)),
