@@ -19,7 +19,7 @@ use Rattle.solver.specs.Cell.{gridFits, cellFits}
 use Rattle.solver.specs.Step.{stepped}
 use Rattle.discharge_run.specs.declared.RunSettings.{RunSettings}
 use Rattle.discharge_run.specs.declared.RunState.{RunState}
-use Rattle.discharge_run.specs.declared.DischargeRun.{DischargeRun}
+use Rattle.discharge_run.specs.declared.CellRun.{CellRun}
 
 abbrev pub runSettings : Float → Float → Float → Float → RunSettings
 runSettings i dt t limit = record { «current_a» = i; dt = dt; «temp_k» = t; «max_time_s» = limit }
@@ -73,7 +73,7 @@ pub record RunOutcome : Type 0 where
   pub rows : ℕ
   pub solver : SpmSolver
 
-abbrev pub runOutcome : DischargeRun → RunOutcome
+abbrev pub runOutcome : CellRun → RunOutcome
 runOutcome r = record { ended = endedBy (r .ending); rows = r .rows; solver = r .solver }
 
 unfoldable pub finishedRun : RunState → RunOutcome

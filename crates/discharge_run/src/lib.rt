@@ -32,8 +32,8 @@ pub struct RunState {
     pub state: SpmState,
 }
 
-// What a run gives: how it ended, how many rows it wrote, and the cell after them.
-pub struct DischargeRun {
+// What a run of the cell gives: how it ended, how many rows it wrote, and the cell after them.
+pub struct CellRun {
     pub ending: Ending,
     pub rows: usize,
     pub solver: SpmSolver,
@@ -107,7 +107,7 @@ fn turn(w: RunSettings, s: RunState) -> RunState
 }
 
 // The row of a report: its eight fields, the cutoff as 1 or 0.
-fn row_of(s: SpmState) -> [f64; 8]
+pub fn row_of(s: SpmState) -> [f64; 8]
     ensures { λ r. ⌜ r ≡ rowOf s ⌝ }
 {
     let mut cutoff = 0.0;
@@ -127,11 +127,11 @@ fn row_of(s: SpmState) -> [f64; 8]
 }
 
 // What a run that has stopped gives.
-fn finished(s: RunState) -> DischargeRun
+fn finished(s: RunState) -> CellRun
     ensures { λ r. ⌜ runOutcome r ≡ finishedRun s ⌝ }
 {
     let cell = s.solver;
-    DischargeRun {
+    CellRun {
         ending: ending_of(s.over, s.refusal),
         rows: s.rows,
         solver: cell,
@@ -160,7 +160,7 @@ fn run_refusal(w: RunSettings, s: SpmSolver, places: usize) -> u64
 }
 
 // At most `total` turns of a run, each step with its row.
-fn run_rows(w: RunSettings, first: RunState, out: &mut [f64], total: usize) -> DischargeRun
+fn run_rows(w: RunSettings, first: RunState, out: &mut [f64], total: usize) -> CellRun
     requires { ⌜ (first .rows ≡ 0) × ((total < 2 ^ 61) × (total * 8 ≤ length (now out))) ⌝ }
     ensures result { λ r. ⌜ runOutcome r ≡ allTurns w first total ⌝ }
     ensures rows { λ r. ⌜ now (out .exit) ≡ allRows w first total (now (out .entry)) ⌝ }
@@ -193,7 +193,7 @@ pub fn simulate_discharge(
     temp_k: f64,
     max_time_s: f64,
     out: &mut [f64],
-) -> DischargeRun
+) -> CellRun
     ensures result { λ r. ⌜ runOutcome r ≡ discharged (runSettings «current_a» dt «temp_k» «max_time_s») s (length (now (out .entry))) ⌝ }
     ensures rows { λ r. ⌜ now (out .exit) ≡ dischargedRows (runSettings «current_a» dt «temp_k» «max_time_s») s (now (out .entry)) ⌝ }
 {
@@ -205,7 +205,7 @@ pub fn simulate_discharge(
     };
     let number = run_refusal(w, s, out.len());
     if number != 0 {
-        return DischargeRun {
+        return CellRun {
             ending: Ending::Refused(number),
             rows: 0,
             solver: s,

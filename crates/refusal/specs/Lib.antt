@@ -1,9 +1,9 @@
 -- What docs/REFERENCE.md's table of refusals means.
 --
--- Numbers: the ten numbers by name, the first of two that is met, and what a row that met nothing has passed.
+-- Numbers: the numbers by name, the first of two that is met, and what a row that met nothing has passed.
 -- Ranges: the tests on numbers that the rows cite.
 -- RangeLaws: what numbers that passed have met.
--- EqualParts: tests and numbers of equal parts are equal.
+-- EqualParts: tests and numbers of equal parts are equal, and a number that was met before is not met again.
 -- Answers: what the enum that a call answers with says, and what a call with a number and a value says.
 --
 -- A call's refusal is written as the table has it, its rows in the order 1, 10, 2 to 9:

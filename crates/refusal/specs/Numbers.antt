@@ -36,6 +36,12 @@ singular = 9
 abbrev pub badLength : ℕ
 badLength = 10
 
+abbrev pub line : ℕ
+line = 11
+
+abbrev pub file : ℕ
+file = 12
+
 -- none where the test passed, else the number
 unfoldable pub refusalUnless : Bool → ℕ → ℕ
 refusalUnless ok number = cond ok 0 number

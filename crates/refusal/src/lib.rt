@@ -26,6 +26,10 @@ pub const NOT_FINITE: u64 = 8;
 pub const SINGULAR: u64 = 9;
 // A run's slice under eight places, or matrix lengths that are not n * n and n.
 pub const LENGTH: u64 = 10;
+// A line of a recorded load not of its form.
+pub const LINE: u64 = 11;
+// A recorded load above 65,536 bytes.
+pub const FILE: u64 = 12;
 
 // 0 where the test passed, else the number.
 pub fn refusal_unless(ok: bool, number: u64) -> u64

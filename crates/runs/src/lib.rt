@@ -7,15 +7,16 @@ ghost use lib.Ieee.{nan};
 ghost use Rattle.array_update.specs.ArrayUpdate.{placesBy};
 ghost use Rattle.runs.specs.Endings.{endedBy, endingOf};
 
-// How a run ends: by the voltage, by the time, with every whole row written, or by a refusal and its number.
+// How a run ends: by the voltage, by the time, with every whole row written, by a refusal and its number, or with nothing left to do.
 pub enum Ending {
     Voltage,
     Time,
     Full,
     Refused(u64),
+    Done,
 }
 
-// What has ended a run so far: nothing, the voltage, the time, a refusal. A run that nothing ended is full.
+// What has ended a run so far: nothing, the voltage, the time, a refusal, nothing left to do. A run that nothing ended is full.
 pub const GOING: u64 = 0;
 
 pub const VOLTAGE: u64 = 1;
@@ -23,6 +24,8 @@ pub const VOLTAGE: u64 = 1;
 pub const TIME: u64 = 2;
 
 pub const REFUSED: u64 = 4;
+
+pub const DONE: u64 = 5;
 
 // The ending of a run that has stopped.
 pub fn ending_of(over: u64, refusal: u64) -> Ending
@@ -32,11 +35,12 @@ pub fn ending_of(over: u64, refusal: u64) -> Ending
         0 => Ending::Full,
         1 => Ending::Voltage,
         2 => Ending::Time,
+        5 => Ending::Done,
         _ => Ending::Refused(refusal),
     }
 }
 
-// The number of an ending: 1 voltage, 2 time, 3 full, 4 refused.
+// The number of an ending: 1 voltage, 2 time, 3 full, 4 refused, 5 done.
 pub fn ending_number(e: Ending) -> u64
     ensures { λ r. ⌜ r ≡ endedBy e .ending ⌝ }
 {
@@ -45,6 +49,7 @@ pub fn ending_number(e: Ending) -> u64
         Ending::Time => 2,
         Ending::Full => 3,
         Ending::Refused(_) => 4,
+        Ending::Done => 5,
     }
 }
 
@@ -57,6 +62,7 @@ pub fn ending_refusal(e: Ending) -> u64
         Ending::Time => 0,
         Ending::Full => 0,
         Ending::Refused(k) => k,
+        Ending::Done => 0,
     }
 }
 

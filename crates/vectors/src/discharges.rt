@@ -8,12 +8,12 @@ use crate::list::next_u64;
 use crate::rows::is_ending;
 use crate::rows::is_rows;
 use crate::rows::mark_all;
-use discharge_run::DischargeRun;
+use discharge_run::CellRun;
 use discharge_run::simulate_discharge;
 use solver::SpmSolver;
 
 // Whether the next answer is r: the ending, the refusal, the rows; then, where there is a row, both profiles and the clock.
-fn is_run(fd: i32, before: SpmSolver, r: DischargeRun, rows: &[f64]) -> bool {
+fn is_run(fd: i32, before: SpmSolver, r: CellRun, rows: &[f64]) -> bool {
     let kind = r.ending;
     let number = next_u64(fd);
     let ending = is_ending(kind, number, next_u64(fd));

@@ -1,10 +1,7 @@
 -- `discharge_run::run_refusal` meets its contract. Assumes nothing.
-use Prim.Native.Nat.{ℕ, zero, suc}
-use mathlib.Core.Path.{_≡_, refl, _∙_}
-use lib.Dec.{eqb·suc-zero}
+use mathlib.Core.Path.{_∙_}
 use Rattle.refusal.specs.Numbers as N
-use Rattle.refusal.specs.Numbers.{firstRefusal}
-use Rattle.refusal.specs.EqualParts.{_both_, equal-unless, equal-first}
+use Rattle.refusal.specs.EqualParts.{_both_, equal-unless, equal-first, first-once}
 use Rattle.solver.specs.Cell.{cellRefusal}
 use Rattle.discharge_run.specs.Discharge.{runRefusal}
 use borrow.Author.Needs.{needs}
@@ -59,12 +56,6 @@ first-refusal-requires-4 c κs = search needs
 first-refusal-requires-5 : tie.Need-first-refusal-requires-5
 first-refusal-requires-5 c κs = search needs
 
--- what refuses the cell is its grid or what is met after that
-grid-once : (g l f x : ℕ) → firstRefusal g (firstRefusal l (firstRefusal (firstRefusal g f) x)) ≡ firstRefusal g (firstRefusal l (firstRefusal f x))
-unfolding firstRefusal
-grid-once zero l f x = refl
-grid-once (suc g) l f x = rw eqb·suc-zero
-
 returns : tie.Need-returns
 unfolding runRefusal cellRefusal
 returns c =
@@ -90,7 +81,7 @@ returns c =
     let late = first-refusal2 .ensures ∙ equal-first load (first-refusal .ensures ∙ equal-first interval temperature) in
     c .first-refusal5 .ensures
     ∙ equal-first grid (first-refusal4 .ensures ∙ equal-first (refusal-unless2 .ensures) (first-refusal3 .ensures ∙ equal-first (refusal .ensures) late))
-    ∙ grid-once _ _ _ _
+    ∙ first-once _ _ _ _
 
 pub run-refusal-spec : {M : Type 1} → statement M
 run-refusal-spec =

@@ -18,7 +18,17 @@ returns-3 c = rw (c .match .keys3)
 
 returns-4 : tie.Need-returns-4
 unfolding endingOf
-returns-4 c = rw (ne-eqb _ _ (c .match .rest .0 .0 .1), ne-eqb _ _ (c .match .rest .0 .1), ne-eqb _ _ (c .match .rest .1))
+returns-4 c = rw (c .match .keys4)
+
+returns-5 : tie.Need-returns-5
+unfolding endingOf
+returns-5 c =
+    rw (
+      ne-eqb _ _ (c .match .rest .0 .0 .0 .1),
+      ne-eqb _ _ (c .match .rest .0 .0 .1),
+      ne-eqb _ _ (c .match .rest .0 .1),
+      ne-eqb _ _ (c .match .rest .1),
+    )
 
 pub ending-of-spec : {M : Type 1} → statement M
-ending-of-spec = tie.close (tie.spec returns returns-2 returns-3 returns-4)
+ending-of-spec = tie.close (tie.spec returns returns-2 returns-3 returns-4 returns-5)
