@@ -7,8 +7,11 @@ use crate::rows::mark_all;
 use replay_run::replay;
 use solver::SpmSolver;
 
-// The word whose highest byte is the byte i of a text, of which each word of the list holds eight.
-fn word_of_byte(fd: i32, i: usize, last: u64) -> u64 {
+// The word whose highest byte is the byte i of a text: each word of the list holds eight, and bytes that are not listed are 0.
+fn word_of_byte(fd: i32, i: usize, listed: u64, last: u64) -> u64 {
+    if i as u64 >= listed {
+        return 0;
+    }
     if i % 8 == 0 {
         return next_u64(fd);
     }
@@ -19,16 +22,14 @@ fn highest_byte(word: u64) -> u8 {
     ((word >> 56) % 256) as u8
 }
 
-// Reads a text, whose length is read already: how many bytes are listed, then these; the others are left.
+// Reads a text, whose length is read already: how many bytes are listed, then these.
 fn read_text(fd: i32, text: &mut [u8]) {
     let listed = next_u64(fd);
     let n = text.len();
     let mut word: u64 = 0;
     for i in 0..n {
-        if (i as u64) < listed {
-            word = word_of_byte(fd, i, word);
-            text[i] = highest_byte(word);
-        }
+        word = word_of_byte(fd, i, listed, word);
+        text[i] = highest_byte(word);
     }
 }
 
