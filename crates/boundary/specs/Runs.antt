@@ -1,9 +1,11 @@
 -- The same for runs: the number, the rows and the answer. Definitions only.
 use Prim.Native.Nat.{ℕ}
-use mathlib.Core.Bool.{cond}
+use mathlib.Core.Bool.{cond, _&&_}
 use mathlib.Core.List.{List}
 use lib.ListN.{length}
 use lib.Ieee.{Float}
+use Rattle.refusal.specs.Numbers as N
+use Rattle.replay_run.specs.Replay.{textFits}
 use Rattle.cell_calls.specs.Runs as C
 use Rattle.dfn_calls.specs.Runs as P
 use Rattle.boundary.specs.Calls.{lengths, afterLengths}
@@ -19,6 +21,18 @@ dischargeRows s i dt t limit l answer = cond (lengths (length s) cellBytes answe
 
 unfoldable pub dischargeAfter : List ℕ → Float → Float → Float → Float → ℕ → List ℕ → List ℕ
 dischargeAfter s i dt t limit places a = cond (lengths (length s) cellBytes (length a) cellRunBytes) (C.dischargeAfter s i dt t limit places a) a
+
+-- ---- a recorded load on a single-particle cell: 12 before the lengths
+
+unfoldable pub replayReturn : List ℕ → List ℕ → Float → ℕ → ℕ → ℕ
+replayReturn s text t places answer =
+    cond (textFits text) (afterLengths (lengths (length s) cellBytes answer cellRunBytes) (C.replayReturn s text t places)) N.file
+
+unfoldable pub replayRows : List ℕ → List ℕ → Float → List Float → ℕ → List Float
+replayRows s text t l answer = cond (textFits text && lengths (length s) cellBytes answer cellRunBytes) (C.replayRows s text t l) l
+
+unfoldable pub replayAfter : List ℕ → List ℕ → Float → ℕ → List ℕ → List ℕ
+replayAfter s text t places a = cond (textFits text && lengths (length s) cellBytes (length a) cellRunBytes) (C.replayAfter s text t places a) a
 
 -- ---- a Doyle-Fuller-Newman cell
 

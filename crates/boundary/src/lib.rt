@@ -21,7 +21,7 @@ ghost use mathlib.Core.Path.{_≡_};
 ghost use lib.ListN.{length};
 ghost use Rattle.codec.specs.Words.{putRow};
 ghost use Rattle.boundary.specs.Calls.{listed, lengths, numberCall, buildReturn, buildAfter, particleReturn, particleAfter, cellReturn, cellAfter, electrolyteReturn, electrolyteAfter, dfnReturn, dfnAfter, denseReturn, denseAfter};
-ghost use Rattle.boundary.specs.Runs.{dischargeReturn, dischargeRows, dischargeAfter, galvanostaticReturn, galvanostaticRows, galvanostaticAfter};
+ghost use Rattle.boundary.specs.Runs.{dischargeReturn, dischargeRows, dischargeAfter, replayReturn, replayRows, replayAfter, galvanostaticReturn, galvanostaticRows, galvanostaticAfter};
 
 // Whether a call is listed: 1 to n.
 fn is_listed(call: u64, n: u64) -> bool
@@ -174,6 +174,28 @@ pub extern "C" fn pj_simulate_discharge(
         return refusal::LENGTH;
     }
     cell_calls::simulate_discharge(cell, current_a, dt, temp_k, max_time_s, rows, answer)
+}
+
+// A recorded load replayed on a single-particle cell; its answer as in a run. A text that is too long is 12, whatever the lengths.
+#[no_mangle]
+pub extern "C" fn pj_replay(
+    cell: &[u8],
+    text: &[u8],
+    temp_k: f64,
+    rows: &mut [f64],
+    answer: &mut [u8],
+) -> u64
+    ensures number { λ r. ⌜ r ≡ replayReturn (now (cell .entry)) (now (text .entry)) «temp_k» (length (now (rows .entry))) (length (now (answer .entry))) ⌝ }
+    ensures rows { λ _. ⌜ now (rows .exit) ≡ replayRows (now (cell .entry)) (now (text .entry)) «temp_k» (now (rows .entry)) (length (now (answer .entry))) ⌝ }
+    ensures written { λ _. ⌜ now (answer .exit) ≡ replayAfter (now (cell .entry)) (now (text .entry)) «temp_k» (length (now (rows .entry))) (now (answer .entry)) ⌝ }
+{
+    if !replay_run::text_fits(text) {
+        return refusal::FILE;
+    }
+    if !lengths_fit(cell.len(), CELL_BYTES, answer.len(), CELL_RUN_BYTES) {
+        return refusal::LENGTH;
+    }
+    cell_calls::replay(cell, text, temp_k, rows, answer)
 }
 
 // A run of a Doyle-Fuller-Newman cell; its answer as in a run of a single-particle cell.

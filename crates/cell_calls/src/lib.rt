@@ -1,5 +1,6 @@
 // Steps and runs of a particle and of a single-particle cell on their images: each writes its answer's image and returns 0
 // or the number of a refusal.
+use discharge_run::CellRun;
 use image_layout::CELL_ANODE;
 use image_layout::CELL_ANODE_PROFILE;
 use image_layout::CELL_CATHODE;
@@ -15,7 +16,8 @@ use solver_step::report::SpmState;
 ghost use mathlib.Core.Path.{_≡_};
 ghost use lib.ListN.{length};
 ghost use Rattle.cell_calls.specs.Steps.{particleReturn, particleAfter, putStepped, cellReturn, cellAfter};
-ghost use Rattle.cell_calls.specs.Runs.{dischargeReturn, dischargeRows, dischargeAfter};
+ghost use Rattle.discharge_run.specs.Discharge.{runOutcome};
+ghost use Rattle.cell_calls.specs.Runs.{runWritten, dischargeReturn, dischargeRows, dischargeAfter, replayReturn, replayRows, replayAfter};
 
 // A step of a particle.
 pub fn particle_step(particle: &[u8], j_n: f64, dt: f64, temp_k: f64, answer: &mut [u8]) -> u64
@@ -77,6 +79,22 @@ pub fn cell_step(cell: &[u8], current_a: f64, dt: f64, temp_k: f64, answer: &mut
     refusal
 }
 
+// Writes the cell after a run, the ending and the count of rows, unless the run is refused before its first row, and gives the refusal's number or 0.
+fn put_run(answer: &mut [u8], run: CellRun) -> u64
+    ensures number { λ r. ⌜ r ≡ runOutcome run .ended .refusal ⌝ }
+    ensures written { λ _. ⌜ now (answer .exit) ≡ runWritten (runOutcome run) (now (answer .entry)) ⌝ }
+{
+    let ending = run.ending;
+    let refusal = runs::ending_refusal(ending);
+    let made = run.rows;
+    if (refusal == 0) | (made != 0) {
+        let after = run.solver;
+        cell_images::put_cell(answer, after);
+        put_ending(answer, CELL_ENDING, runs::ending_number(ending), made);
+    }
+    refusal
+}
+
 // A run of a single-particle cell. The answer is written unless the run is refused before its first row.
 pub fn simulate_discharge(
     cell: &[u8],
@@ -99,13 +117,15 @@ pub fn simulate_discharge(
         max_time_s,
         rows,
     );
-    let ending = run.ending;
-    let refusal = runs::ending_refusal(ending);
-    let made = run.rows;
-    if (refusal == 0) | (made != 0) {
-        let after = run.solver;
-        cell_images::put_cell(answer, after);
-        put_ending(answer, CELL_ENDING, runs::ending_number(ending), made);
-    }
-    refusal
+    put_run(answer, run)
+}
+
+// A recorded load replayed on a single-particle cell; its answer as in a run.
+pub fn replay(cell: &[u8], text: &[u8], temp_k: f64, rows: &mut [f64], answer: &mut [u8]) -> u64
+    ensures number { λ r. ⌜ r ≡ replayReturn (now (cell .entry)) (now (text .entry)) «temp_k» (length (now (rows .entry))) ⌝ }
+    ensures rows { λ _. ⌜ now (rows .exit) ≡ replayRows (now (cell .entry)) (now (text .entry)) «temp_k» (now (rows .entry)) ⌝ }
+    ensures written { λ _. ⌜ now (answer .exit) ≡ replayAfter (now (cell .entry)) (now (text .entry)) «temp_k» (length (now (rows .entry))) (now (answer .entry)) ⌝ }
+{
+    let run = replay_run::replay(cell_images::cell_at(cell), text, temp_k, rows);
+    put_run(answer, run)
 }

@@ -19,9 +19,9 @@ use Rattle.replay_run.specs.declared.lines.LoadLine.{LoadLine}
 use Rattle.replay_run.specs.declared.ReplayState.{ReplayState}
 use Rattle.replay_run.specs.Lines.{lineAt, noneLeft}
 
--- the most bytes of a text
-abbrev pub mostBytes : ℕ
-mostBytes = 65536
+-- a text has at most 65,536 bytes
+abbrev pub textFits : List ℕ → Bool
+textFits text = leb (length text) 65536
 
 -- ---- the endings
 -- after a row, with so many lines read: the voltage, then done
@@ -69,18 +69,18 @@ unfoldable pub allRows : List ℕ → Float → ReplayState → ℕ → List Flo
 allRows text temp r total l = rowsAfter overOf (turned text temp) lastRow total r l
 
 -- ---- refusals of the whole replay, before the first line: 12, 1, 10, 2, 5
-unfoldable pub replayRefusal : ℕ → SpmSolver → Float → ℕ → ℕ
-replayRefusal bytes s temp places =
-    N.firstRefusal (N.refusalUnless (leb bytes mostBytes) N.file)
+unfoldable pub replayRefusal : List ℕ → SpmSolver → Float → ℕ → ℕ
+replayRefusal text s temp places =
+    N.firstRefusal (N.refusalUnless (textFits text) N.file)
     (N.firstRefusal (N.refusalUnless (gridFits s) N.grid)
     (N.firstRefusal (N.refusalUnless (leb 8 places) N.badLength)
     (N.firstRefusal (N.refusalUnless (cellFits s) N.sheet) (N.refusalUnless (temperatureFits temp) N.temperature))))
 
 unfoldable pub replayed : List ℕ → Float → SpmSolver → ℕ → RunOutcome
 replayed text temp s places =
-    cond (eqb (replayRefusal (length text) s temp places) 0) (allTurns text temp (started text s) (places / 8)) (refusedRun (replayRefusal (length text) s temp places) s)
+    cond (eqb (replayRefusal text s temp places) 0) (allTurns text temp (started text s) (places / 8)) (refusedRun (replayRefusal text s temp places) s)
 
 -- the final content of the lent slice
 unfoldable pub replayedRows : List ℕ → Float → SpmSolver → List Float → List Float
 replayedRows text temp s l =
-    cond (eqb (replayRefusal (length text) s temp (length l)) 0) (allRows text temp (started text s) (length l / 8) l) l
+    cond (eqb (replayRefusal text s temp (length l)) 0) (allRows text temp (started text s) (length l / 8) l) l

@@ -19,10 +19,7 @@ ghost use mathlib.Core.Path.{_≡_};
 ghost use Prim.Native.Nat.{_<_, _≤_, _^_, _*_};
 ghost use lib.ListN.{length};
 ghost use Rattle.discharge_run.specs.Discharge.{runOutcome};
-ghost use Rattle.replay_run.specs.Replay.{overAfter, started, refusedLine, turned, finishedReplay, allTurns, allRows, replayRefusal, replayed, replayedRows};
-
-// The most bytes of a text.
-const MOST_BYTES: usize = 65536;
+ghost use Rattle.replay_run.specs.Replay.{overAfter, started, refusedLine, turned, finishedReplay, allTurns, allRows, textFits, replayRefusal, replayed, replayedRows};
 
 // A replay on its way: the cell, the rows so far, which are the lines read, what has ended it, a refusal's number, the last report.
 pub struct ReplayState {
@@ -114,11 +111,18 @@ fn finished(s: ReplayState) -> CellRun
     }
 }
 
-// The number that refuses the whole replay: 12, 1, 10, 2, 5.
-fn replay_refusal(bytes: usize, s: SpmSolver, temp_k: f64, places: usize) -> u64
-    ensures { λ r. ⌜ r ≡ replayRefusal bytes s «temp_k» places ⌝ }
+// Whether a text has at most 65,536 bytes.
+pub fn text_fits(text: &[u8]) -> bool
+    ensures { λ r. ⌜ r ≡ textFits (now (text .entry)) ⌝ }
 {
-    let file = refusal::refusal_unless(bytes <= MOST_BYTES, refusal::FILE);
+    text.len() <= 65536
+}
+
+// The number that refuses the whole replay: 12, 1, 10, 2, 5.
+fn replay_refusal(text: &[u8], s: SpmSolver, temp_k: f64, places: usize) -> u64
+    ensures { λ r. ⌜ r ≡ replayRefusal (now (text .entry)) s «temp_k» places ⌝ }
+{
+    let file = refusal::refusal_unless(text_fits(text), refusal::FILE);
     let grid = refusal::refusal_unless(s.grid_fits(), refusal::GRID);
     let length = refusal::refusal_unless(8 <= places, refusal::LENGTH);
     let cell = s.refusal();
@@ -167,7 +171,7 @@ pub fn replay(s: SpmSolver, text: &[u8], temp_k: f64, out: &mut [f64]) -> CellRu
     ensures result { λ r. ⌜ runOutcome r ≡ replayed (now (text .entry)) «temp_k» s (length (now (out .entry))) ⌝ }
     ensures rows { λ r. ⌜ now (out .exit) ≡ replayedRows (now (text .entry)) «temp_k» s (now (out .entry)) ⌝ }
 {
-    let number = replay_refusal(text.len(), s, temp_k, out.len());
+    let number = replay_refusal(text, s, temp_k, out.len());
     if number != 0 {
         return CellRun {
             ending: Ending::Refused(number),

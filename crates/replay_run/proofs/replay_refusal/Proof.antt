@@ -8,6 +8,9 @@ use borrow.Author.Needs.{needs}
 use Rattle.replay_run.proofs.replay_refusal.Statement.{statement}
 use Rattle.replay_run.proofs.replay_refusal.Tie as tie
 
+text-fits-requires : tie.Need-text-fits-requires
+text-fits-requires c κs = search needs
+
 refusal-unless-requires : tie.Need-refusal-unless-requires
 refusal-unless-requires c κs = search needs
 
@@ -54,16 +57,19 @@ returns c =
     let refusal-unless2 = c .before .before .before .before .before .before .before .before .refusal-unless2 in
     let grid-fits = c .before .before .before .before .before .before .before .before .before .grid-fits in
     let refusal-unless = c .before .before .before .before .before .before .before .before .before .before .refusal-unless in
+    let text-fits = c .before .before .before .before .before .before .before .before .before .before .before .text-fits in
+    let file = refusal-unless .ensures ∙ equal-unless N.file (text-fits .ensures) in
     let grid = refusal-unless2 .ensures ∙ equal-unless N.grid (grid-fits .ensures) in
     let temperature = refusal-unless4 .ensures ∙ equal-unless N.temperature (temperature-fits .ensures) in
     let late = first-refusal2 .ensures ∙ equal-first (refusal-unless3 .ensures) (first-refusal .ensures ∙ equal-first (refusal .ensures) temperature) in
     c .first-refusal4 .ensures
-    ∙ equal-first (refusal-unless .ensures) (first-refusal3 .ensures ∙ equal-first grid late ∙ first-once _ _ _ _)
+    ∙ equal-first file (first-refusal3 .ensures ∙ equal-first grid late ∙ first-once _ _ _ _)
 
 pub replay-refusal-spec : {M : Type 1} → statement M
 replay-refusal-spec =
     tie.close
     (tie.spec
+    text-fits-requires
     refusal-unless-requires
     grid-fits-requires
     refusal-unless-requires-2
