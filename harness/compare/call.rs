@@ -301,18 +301,15 @@ fn of_build(call: u64, reader: &mut Reader) -> Answer {
     }
 }
 
-/// What the oracle answers. Lengths that the header fixes come before all else, a text that is too long before them; a call that is not listed is 2.
+/// What the oracle answers. Lengths that the header fixes come before all else but a text that is too long; a call that is not listed is 2.
 pub fn ask_oracle(call: &Call) -> Answer {
     let function = call.function;
     if !function.is_listed() {
         return Answer::refused(2);
     }
-    if call.text.len() > MOST_TEXT {
-        return Answer::refused(12);
-    }
     let solve = function == Function::Solve;
     if call.answer_bytes != function.answer_bytes() || !solve && call.image.len() != function.record().bytes() {
-        return Answer::refused(10);
+        return Answer::refused(if call.text.len() > MOST_TEXT { 12 } else { 10 });
     }
     let slots = if solve { Vec::new() } else { slots_of(function.record().parts(), &call.image) };
     let mut reader = Reader::new(&slots);

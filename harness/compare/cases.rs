@@ -507,7 +507,7 @@ fn room_for(draw: &mut Draw, lines: usize) -> usize {
 fn replay(draw: &mut Draw, cell: &Cell, loads: &[[f64; 2]], temp_k: f64) -> Turn {
     let least = least_interval(cell, temp_k);
     let mut text = texts::text_of(loads);
-    if draw.below(3) == 0 {
+    if draw.below(2) == 0 {
         for _ in 0..draw.count(1, 2) {
             texts::with_fault(draw, &mut text, least);
         }

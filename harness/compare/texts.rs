@@ -34,24 +34,39 @@ pub fn count(draw: &mut Draw) -> usize {
     }
 }
 
-/// A line with its interval, its current or both at their limits.
+/// A line with its interval, its current or both at their limits; one in four has a wrong byte too.
 fn limit_line(draw: &mut Draw, least: f64) -> Vec<u8> {
     let dt = if draw.below(3) == 0 { interval_of(draw, least).to_bits() } else { around(draw, 0.0, 86_400.0) };
     let current = around(draw, -1e6, 1e6);
-    line(match draw.below(4) {
+    let mut line = line(match draw.below(4) {
         0 => [dt, current],
         1 => [1f64.to_bits(), current],
         _ => [dt, 0],
-    })
+    });
+    if draw.below(4) == 0 {
+        change_byte(draw, &mut line);
+    }
+    line
 }
 
 /// A byte in place of one of a line's: next to the digits, a digit, another white space, or any.
 fn other_byte(draw: &mut Draw) -> u8 {
-    match draw.below(3) {
-        0 => draw.pick(b"/:@G`abcdefg \t\n\r\0"),
-        1 => draw.pick(b"0123456789ABCDEF"),
+    match draw.below(4) {
+        0 => draw.pick(b"/:@G`abcdefg"),
+        1 => draw.pick(b" \t\n\r\0"),
+        2 => draw.pick(b"0123456789ABCDEF"),
         _ => draw.bits() as u8,
     }
+}
+
+/// Changes a digit, the tab or the line feed of a line.
+fn change_byte(draw: &mut Draw, line: &mut [u8]) {
+    let at = match draw.below(4) {
+        0 => 16,
+        1 => 33,
+        _ => draw.below(LINE as u64) as usize,
+    };
+    line[at] = other_byte(draw);
 }
 
 /// Changes a text in one place: a byte, a line, its length.
@@ -59,15 +74,15 @@ pub fn with_fault(draw: &mut Draw, text: &mut Vec<u8>, least: f64) {
     let lines = text.len() / LINE;
     let start = LINE * draw.below(1 + lines as u64) as usize;
     let at = draw.below(1 + text.len() as u64) as usize;
-    match draw.below(18) {
-        0..=2 if at < text.len() => text[at] = other_byte(draw),
-        3 if at < text.len() => drop(text.remove(at)),
-        4 => text.insert(at, other_byte(draw)),
-        5 => text.truncate(at),
-        6 => text.truncate(text.len().saturating_sub(1)),
-        7 => text[start.min(at)..].make_ascii_lowercase(),
-        8 => text.insert(start, b'\n'),
-        9 => *text = text.iter().flat_map(|byte| if *byte == b'\n' { vec![b'\r', b'\n'] } else { vec![*byte] }).collect(),
+    match draw.below(20) {
+        0..=4 if start + LINE <= text.len() => change_byte(draw, &mut text[start..start + LINE]),
+        5 if at < text.len() => drop(text.remove(at)),
+        6 => text.insert(at, other_byte(draw)),
+        7 => text.truncate(at),
+        8 => text.truncate(text.len().saturating_sub(1)),
+        9 => text[start.min(at)..].make_ascii_lowercase(),
+        10 => text.insert(start, b'\n'),
+        11 => *text = text.iter().flat_map(|byte| if *byte == b'\n' { vec![b'\r', b'\n'] } else { vec![*byte] }).collect(),
         _ => drop(text.splice(start..start, limit_line(draw, least))),
     }
 }
