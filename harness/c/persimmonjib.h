@@ -452,8 +452,7 @@ enum pj_dfn_row {
 };
 
 /* A run steps until the voltage, the time limit, the end of a replay's text or the room for rows ends it, tested after each row in this
- * order, or until a step or a line is refused. Places after its last row keep their
- * content.
+ * order, or until a step or a line is refused. Places after its last row keep their content.
  *
  * A run that returns 0 has written its answer. One that returns a refusal has written it only if it finished a row: the cell
  * after these rows, PJ_ENDED_REFUSED, and their count. Refused before its first row it leaves the answer AS IT WAS: an old answer is
