@@ -1,5 +1,8 @@
 -- `replay_run::turn` meets its contract: a line that is not of its form or whose step is refused ends the replay, any other writes a row. Assumes nothing.
+use mathlib.Core.Path.{_≡_}
 use borrow.Author.Tests.{not-true, not-false, eq-eqb, ne-eqb}
+use Rattle.solver.specs.Step.{stepped}
+use Rattle.replay_run.specs.Lines.{lineAt}
 use Rattle.replay_run.specs.Replay.{followed, lineTurned, turned}
 use borrow.Author.Needs.{needs}
 use Rattle.replay_run.proofs.turn.Statement.{statement}
@@ -15,7 +18,9 @@ returns : tie.Need-returns
 unfolding turned lineTurned
 returns c =
     let line-at = c .before .before .before .line-at in
-    rw (← line-at .ensures, not-true (line-at .result .«well_formed») (c .before .if1 .taken)) (c .refused-line .ensures)
+    let args = c .before .before .before .before .before .args in
+    let line : line-at .result ≡ lineAt (args .text .now) (args .s .rows) = line-at .ensures in
+    rw (← line, not-true (line-at .result .«well_formed») (c .before .if1 .taken)) (c .refused-line .ensures)
 
 step-requires : tie.Need-step-requires
 step-requires c κs = search needs
@@ -30,7 +35,10 @@ returns-2 c =
     let step = c .before .before .before .step in
     let if1 = c .before .before .before .before .if1 in
     let line-at = c .before .before .before .before .before .before .line-at in
-    rw (← line-at .ensures, not-false (line-at .result .«well_formed») (if1 .left), ← step .ensures, ne-eqb _ _ (if2 .taken)) (c .refused-line2 .ensures)
+    let args = c .before .before .before .before .before .before .before .before .args in
+    let line : line-at .result ≡ lineAt (args .text .now) (args .s .rows) = line-at .ensures in
+    let made : step .result ≡ stepped (args .s .solver) (line-at .result .«current_a») (line-at .result .dt) (args .temp-k) = step .ensures in
+    rw (← line, not-false (line-at .result .«well_formed») (if1 .left), ← made, ne-eqb _ _ (if2 .taken)) (c .refused-line2 .ensures)
 
 add-rows : tie.Need-add-rows
 add-rows c = search needs
@@ -45,7 +53,10 @@ returns-3 c =
     let step = c .before .before .before .before .before .before .step in
     let if1 = c .before .before .before .before .before .before .before .if1 in
     let line-at = c .before .before .before .before .before .before .before .before .before .line-at in
-    rw (← line-at .ensures, not-false (line-at .result .«well_formed») (if1 .left), ← step .ensures, eq-eqb _ _ (if2 .left), c .over-after .ensures)
+    let args = c .before .before .before .before .before .before .before .before .before .before .before .args in
+    let line : line-at .result ≡ lineAt (args .text .now) (args .s .rows) = line-at .ensures in
+    let made : step .result ≡ stepped (args .s .solver) (line-at .result .«current_a») (line-at .result .dt) (args .temp-k) = step .ensures in
+    rw (← line, not-false (line-at .result .«well_formed») (if1 .left), ← made, eq-eqb _ _ (if2 .left), c .over-after .ensures)
 
 pub turn-spec : {M : Type 1} → statement M
 turn-spec =
