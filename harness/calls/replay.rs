@@ -1,4 +1,5 @@
-//! A recorded load on the single-particle cell: a text of lines, each an interval and a current, and one temperature.
+//! A recorded load on the single-particle cell: a text of lines, each an interval and a current, and one temperature. The Rust has no such
+//! call; its step makes each row.
 use crate::runs::{refused, Ending, Run, ROW};
 use crate::solver::Cell;
 use crate::table::TEMPERATURE;
@@ -6,6 +7,8 @@ use crate::table::TEMPERATURE;
 pub const MOST_TEXT: usize = 65_536;
 /// Bytes of a line: 16 digits, a tab, 16 digits, a line feed.
 pub const LINE: usize = 34;
+/// Lines that a text can have.
+pub const MOST_LINES: usize = MOST_TEXT / LINE;
 
 /// An upper-case hexadecimal digit's value.
 fn digit(byte: u8) -> Result<u64, u64> {

@@ -8,6 +8,7 @@ use calls::dfn;
 use calls::electrode::{self, Sheet};
 use calls::electrolyte::{Electrolyte, POROSITY};
 use calls::particle::Particle;
+use calls::replay::MOST_LINES;
 use calls::solver::{Cell, DIFFUSIVITY};
 use calls::table::{Range, TEMPERATURE};
 use calls::words::{word, Slot};
@@ -527,8 +528,8 @@ fn longest_replay(draw: &mut Draw) -> Case {
     let mut cell = Cell::graphite_nmc(records::config(draw, n)).expect("a config in range");
     cell.config.numbers[..2].copy_from_slice(&[-10.0, 10.0]);
     let temp_k = draw.uniform(270.0, 330.0);
-    let loads = texts::loads(draw, 1927, least_interval(&cell, temp_k), cell.anode.sheet.numbers[6]);
-    let mut turn = Turn::new(draw, Function::Replay, &[temp_k]).with_rows(8 * 1927);
+    let loads = texts::loads(draw, MOST_LINES, least_interval(&cell, temp_k), cell.anode.sheet.numbers[6]);
+    let mut turn = Turn::new(draw, Function::Replay, &[temp_k]).with_rows(8 * MOST_LINES);
     turn.call.text = texts::text_of(&loads);
     Case { start: image_of(Record::Cell.parts(), &cell.slots()), turns: vec![turn] }
 }

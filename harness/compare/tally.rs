@@ -1,6 +1,7 @@
 //! What was compared: by call, accepted and refused, and by refusal number; endings, counts of nodes, orders.
 use crate::call::{listed, Answer, Call, Function};
 use crate::images::words_of;
+use calls::replay::MOST_LINES;
 use calls::runs::Ending;
 use std::collections::{BTreeMap, BTreeSet};
 
@@ -28,9 +29,6 @@ pub struct Tally {
     orders: BTreeSet<u64>,
     unexpected: BTreeSet<String>,
 }
-
-/// Lines that a text can have.
-const MOST_LINES: u64 = 1927;
 
 const ENDINGS: [(Function, &str); 13] = [
     (Function::Discharge, "voltage"),
@@ -161,7 +159,7 @@ impl Tally {
             }
         }
         println!("rows of the longest replay: {} of {MOST_LINES}", self.longest_replay);
-        if self.longest_replay != MOST_LINES {
+        if self.longest_replay != MOST_LINES as u64 {
             missing.push("no replay of the longest text".to_string());
         }
         println!("rows of runs: {}; sub-steps of a cell's steps: {}", self.run_rows, self.sub_steps);
