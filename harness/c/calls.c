@@ -584,6 +584,177 @@ static void galvanostatic_runs(void)
     EXPECT_U64(run, PJ_AT_CELL_ENDING + PJ_AT_ENDING_HOW, 0);
 }
 
+/* ---- replays: a text of lines on cell_nmc ---- */
+enum { LINES = 170 };
+
+static uint8_t text[PJ_MOST_TEXT_BYTES + 1];
+
+/* A replay of the first bytes of the text, from rows that hold -7 and an ending of 0. */
+static uint64_t replay(size_t text_len, double temp_k, size_t rows_len)
+{
+    size_t i;
+    for (i = 0; i < PJ_ROW_DOUBLES * ROWS; i++)
+        rows[i] = -7.0;
+    pj_put_u64(run, PJ_AT_CELL_ENDING + PJ_AT_ENDING_HOW, 0);
+    return pj_replay(cell_nmc, sizeof cell_nmc, text, text_len, temp_k, rows, rows_len, run, sizeof run);
+}
+
+/* Whether the places from the given row on hold -7 still. */
+static int kept_from(size_t row)
+{
+    size_t i;
+    for (i = PJ_ROW_DOUBLES * row; i < PJ_ROW_DOUBLES * ROWS; i++)
+        if (rows[i] != -7.0)
+            return 0;
+    return 1;
+}
+
+/* Three lines that differ: 10 s at 3 A, 60 s at 2 A, 0.5 s at -1 A. */
+static void three_lines(void)
+{
+    pj_put_line(text, 0, 10.0, 3.0);
+    pj_put_line(text, PJ_LINE_BYTES, 60.0, 2.0);
+    pj_put_line(text, 2 * PJ_LINE_BYTES, 0.5, -1.0);
+}
+
+/* The rows are those of separate steps, and the line that the header shows is what pj_put_line writes. */
+static void replayed_rows(void)
+{
+    static const double dt[3] = {10.0, 60.0, 0.5}, current[3] = {3.0, 2.0, -1.0};
+    static uint8_t step[PJ_CELL_STEP_BYTES];
+    size_t i;
+    three_lines();
+    EXPECT(memcmp(text + PJ_LINE_BYTES, "404E000000000000\t4000000000000000\n", PJ_LINE_BYTES) == 0);
+    EXPECT(replay(3 * PJ_LINE_BYTES, T, PJ_ROW_DOUBLES * ROWS) == PJ_REFUSAL_NONE);
+    EXPECT_ENDING(run, PJ_AT_CELL_ENDING, PJ_ENDED_DONE, 3);
+    EXPECT(kept_from(3));
+    memcpy(step, cell_nmc, sizeof cell_nmc);
+    for (i = 0; i < 3; i++) {
+        memcpy(cell_of, step, sizeof cell_of);
+        EXPECT(pj_cell_step(cell_of, sizeof cell_of, current[i], dt[i], T, step, sizeof step) == PJ_REFUSAL_NONE);
+        EXPECT(memcmp(rows + PJ_ROW_DOUBLES * i, step + PJ_AT_CELL_REPORT, PJ_AT_REPORT_CUTOFF) == 0);
+        EXPECT(rows[PJ_ROW_DOUBLES * i + PJ_CELL_ROW_CUTOFF] == 0.0);
+    }
+    EXPECT(memcmp(run, step, PJ_CELL_BYTES) == 0);
+}
+
+static void replay_endings(void)
+{
+    static double discharged[PJ_ROW_DOUBLES * ROWS];
+    size_t i;
+    EXPECT(discharge(36000.0, PJ_ROW_DOUBLES * ROWS) == PJ_REFUSAL_NONE);
+    memcpy(discharged, rows, sizeof rows);
+    for (i = 0; i < LINES; i++)
+        pj_put_line(text, PJ_LINE_BYTES * i, 10.0, 5.0);
+    EXPECT(replay(LINES * PJ_LINE_BYTES, T, PJ_ROW_DOUBLES * ROWS) == PJ_REFUSAL_NONE);
+    EXPECT_ENDING(run, PJ_AT_CELL_ENDING, PJ_ENDED_VOLTAGE, 156);
+    EXPECT(memcmp(rows, discharged, 156 * PJ_ROW_DOUBLES * sizeof(double)) == 0 && kept_from(156));
+    /* on the last line, and with room for no other row, it is the voltage all the same */
+    EXPECT(replay(156 * PJ_LINE_BYTES, T, 156 * PJ_ROW_DOUBLES) == PJ_REFUSAL_NONE);
+    EXPECT_ENDING(run, PJ_AT_CELL_ENDING, PJ_ENDED_VOLTAGE, 156);
+    EXPECT(replay(2 * PJ_LINE_BYTES, T, 2 * PJ_ROW_DOUBLES) == PJ_REFUSAL_NONE);
+    EXPECT_ENDING(run, PJ_AT_CELL_ENDING, PJ_ENDED_DONE, 2);
+    EXPECT(replay(0, T, PJ_ROW_DOUBLES) == PJ_REFUSAL_NONE);
+    EXPECT_ENDING(run, PJ_AT_CELL_ENDING, PJ_ENDED_DONE, 0);
+    EXPECT(memcmp(run, cell_nmc, sizeof cell_nmc) == 0 && kept_from(0));
+    /* one byte left is enough, whatever it is; the 15 doubles are one row */
+    text[PJ_LINE_BYTES] = 'x';
+    EXPECT(replay(PJ_LINE_BYTES + 1, T, 15) == PJ_REFUSAL_NONE);
+    EXPECT_ENDING(run, PJ_AT_CELL_ENDING, PJ_ENDED_FULL, 1);
+    EXPECT(kept_from(1));
+}
+
+/* A line that is none in its second place: the row above is kept, and the cell after it. */
+static void wrong_line(int line, size_t text_len)
+{
+    expect(line, replay(text_len, T, PJ_ROW_DOUBLES * ROWS) == PJ_REFUSAL_LINE, "a line that is none is refused");
+    expect(line, pj_get_u64(run, PJ_AT_CELL_ENDING + PJ_AT_ENDING_HOW) == PJ_ENDED_REFUSED, "it ends the replay");
+    expect(line, pj_get_u64(run, PJ_AT_CELL_ENDING + PJ_AT_ENDING_ROWS) == 1, "one row is written");
+    expect(line, rows[PJ_CELL_ROW_TIME_S] == 10.0 && kept_from(1), "the row above is kept");
+    expect(line, pj_get_f64(run, PJ_AT_CELL_TIME_S) == 10.0, "the cell is that after the row");
+    three_lines();
+}
+
+static void wrong_lines(void)
+{
+    static const char bytes[] = "/:@G`afg \r";
+    size_t i, at;
+    three_lines();
+    for (i = 0; i < sizeof bytes; i++)
+        for (at = 0; at < PJ_LINE_BYTES; at++) {
+            text[PJ_LINE_BYTES + at] = (uint8_t)bytes[i];
+            wrong_line(__LINE__, 3 * PJ_LINE_BYTES);
+        }
+    /* cut off, a blank line, CR LF */
+    for (i = 1; i < PJ_LINE_BYTES; i++)
+        wrong_line(__LINE__, PJ_LINE_BYTES + i);
+    text[PJ_LINE_BYTES] = '\n';
+    wrong_line(__LINE__, PJ_LINE_BYTES + 1);
+    memcpy(text + 2 * PJ_LINE_BYTES - 1, "\r\n", 2);
+    wrong_line(__LINE__, 2 * PJ_LINE_BYTES + 1);
+}
+
+/* A step that is refused after a row, and before one, where the answer is left as it was. */
+static void refused_steps(void)
+{
+    static const struct {
+        double dt, current_a;
+        uint64_t refusal;
+    } list[] = {
+        {1.0, 2e6, PJ_REFUSAL_LOAD}, {0.0, 1.0, PJ_REFUSAL_INTERVAL}, {86400.0, 1.0, PJ_REFUSAL_SUB_STEPS}, {0.0, 2e6, PJ_REFUSAL_LOAD},
+    };
+    size_t i;
+    memcpy(cell_of, cell_nmc, sizeof cell_of);
+    /* a small particle needs many sub-steps */
+    pj_put_f64(cell_nmc, PJ_AT_CELL_ANODE + PJ_AT_SHEET_R_PARTICLE, 1e-7);
+    for (i = 0; i < sizeof list / sizeof list[0]; i++) {
+        pj_put_line(text, 0, 0.01, 1.0);
+        pj_put_line(text, PJ_LINE_BYTES, list[i].dt, list[i].current_a);
+        EXPECT(replay(2 * PJ_LINE_BYTES, T, PJ_ROW_DOUBLES * ROWS) == list[i].refusal);
+        EXPECT_ENDING(run, PJ_AT_CELL_ENDING, PJ_ENDED_REFUSED, 1);
+        EXPECT(rows[PJ_CELL_ROW_TIME_S] == 0.01 && kept_from(1));
+        EXPECT_F64(run, PJ_AT_CELL_TIME_S, 0.01);
+        pj_put_line(text, 0, list[i].dt, list[i].current_a);
+        EXPECT(replay(2 * PJ_LINE_BYTES, T, PJ_ROW_DOUBLES * ROWS) == list[i].refusal);
+        EXPECT_U64(run, PJ_AT_CELL_ENDING + PJ_AT_ENDING_HOW, 0);
+        EXPECT(kept_from(0));
+    }
+    memcpy(cell_nmc, cell_of, sizeof cell_nmc);
+}
+
+/* What is tested before the first line, each against one that comes after it: 12, 10 of a length, 1, 10 of the rows, 2, 5, 11. */
+static void refused_replays(void)
+{
+    static uint8_t kept[PJ_CELL_RUN_BYTES];
+    text[0] = 'x';
+    EXPECT(replay(2 * PJ_LINE_BYTES, T, PJ_ROW_DOUBLES) == PJ_REFUSAL_LINE);
+    memcpy(kept, run, sizeof run);
+    EXPECT(replay(2 * PJ_LINE_BYTES, 500.0, PJ_ROW_DOUBLES) == PJ_REFUSAL_TEMPERATURE);
+    memcpy(cell_of, cell_nmc, sizeof cell_of);
+    pj_put_f64(cell_nmc, PJ_AT_CELL_TIME_S, -1.0);
+    EXPECT(replay(2 * PJ_LINE_BYTES, 500.0, PJ_ROW_DOUBLES) == PJ_REFUSAL_SHEET);
+    EXPECT(replay(2 * PJ_LINE_BYTES, 500.0, PJ_ROW_DOUBLES - 1) == PJ_REFUSAL_LENGTH);
+    EXPECT(replay(0, 500.0, 0) == PJ_REFUSAL_LENGTH);
+    pj_put_u64(cell_nmc, PJ_AT_CELL_CONFIG + PJ_AT_CONFIG_N_NODES, 2);
+    EXPECT(replay(2 * PJ_LINE_BYTES, 500.0, 0) == PJ_REFUSAL_GRID);
+    EXPECT(pj_replay(cell_nmc, sizeof cell_nmc - 1, text, 1, T, rows, 8, run, sizeof run) == PJ_REFUSAL_LENGTH);
+    EXPECT(pj_replay(cell_nmc, sizeof cell_nmc, text, 1, T, rows, 8, run, sizeof run - 1) == PJ_REFUSAL_LENGTH);
+    EXPECT(replay(PJ_MOST_TEXT_BYTES, 500.0, 0) == PJ_REFUSAL_GRID);
+    EXPECT(replay(PJ_MOST_TEXT_BYTES + 1, 500.0, 0) == PJ_REFUSAL_FILE);
+    EXPECT(pj_replay(cell_nmc, 0, text, PJ_MOST_TEXT_BYTES + 1, T, rows, 8, run, 0) == PJ_REFUSAL_FILE);
+    EXPECT(memcmp(run, kept, sizeof run) == 0 && kept_from(0));
+    memcpy(cell_nmc, cell_of, sizeof cell_nmc);
+
+    /* a diffusivity is looked at with the first step: not where no line is left, and after the line itself */
+    pj_put_f64(cell_nmc, PJ_AT_CELL_ANODE + PJ_AT_SHEET_D_S_REF, 1e-8);
+    pj_put_f64(cell_nmc, PJ_AT_CELL_ANODE + PJ_AT_SHEET_E_A_DS, 5e4);
+    EXPECT(replay(0, 350.0, PJ_ROW_DOUBLES) == PJ_REFUSAL_NONE);
+    EXPECT(replay(PJ_LINE_BYTES, 350.0, PJ_ROW_DOUBLES) == PJ_REFUSAL_LINE);
+    three_lines();
+    EXPECT(replay(PJ_LINE_BYTES, 350.0, PJ_ROW_DOUBLES) == PJ_REFUSAL_DIFFUSIVITY);
+    memcpy(cell_nmc, cell_of, sizeof cell_nmc);
+}
+
 /* The input that docs/REFERENCE.md names for each refusal. */
 static void refusals(void)
 {
@@ -649,6 +820,11 @@ int main(void)
     dfn_steps();
     discharges();
     galvanostatic_runs();
+    replayed_rows();
+    replay_endings();
+    wrong_lines();
+    refused_steps();
+    refused_replays();
     refusals();
     if (failures != 0) {
         fprintf(stderr, "calls.c: %d of %d do not hold\n", failures, checks);

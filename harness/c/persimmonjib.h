@@ -7,21 +7,21 @@
  * Every pattern of a NaN is read as the NaN; an answer that is written holds no NaN and no infinity. Images may lie at any
  * address. Places of an array that are not used must be +0 by their bits.
  *
- * SLICES are a pointer and then a length: in bytes for images and answers, in doubles for rows and matrices. A pointer must not
+ * SLICES are a pointer and then a length: in bytes for images, answers and texts, in doubles for rows and matrices. A pointer must not
  * be null, not even that of an empty slice; what one call is lent must not overlap; doubles are aligned to 8.
  *
  * EACH CALL RETURNS 0 or a PJ_REFUSAL_... Every length of an image and of an answer must be exact, else the call is refused with
- * PJ_REFUSAL_LENGTH before all else is looked at. A refusal changes nothing that was lent; runs, below, are the exception.
+ * PJ_REFUSAL_LENGTH before all else is looked at (but a replay's text that is too long). A refusal changes nothing that was lent; runs, below, are the exception.
  *
  * RANGES are closed, and no NaN and no infinity lies in one. A whole record is checked by every call.
  *
- * PLATFORM. The archive is for x86-64 (System V calling convention) and holds about 103 kB of code and tables. It leaves memcpy
+ * PLATFORM. The archive is for x86-64 (System V calling convention) and holds about 109 kB of code and tables. It leaves memcpy
  * and memset undefined, which the C library or the firmware has to supply, and needs nothing else: no heap, no file, no clock, no
  * C library beyond these two, no thread. Calls keep no state, so that they may run on several threads at once, each on memory of its own.
  *
  * FLOATING POINT. A call must find the processor as the System V convention has it at a program's start: round to nearest, all
  * floating-point exceptions masked, and neither flush-to-zero nor denormals-are-zero (MXCSR = 0x1F80). With both of the last on,
- * 2.0 in 100 drawn calls give other bits or another refusal (in 7.3 of 100 drawn lists of calls; harness/flush/run counts them), and
+ * 2.0 in 100 drawn calls give other bits or another refusal (in 7.0 of 100 drawn lists of calls; harness/flush/run counts them), and
  * no proof covers that. A program that gcc links with -ffast-math starts with both on: turn them off around the calls.
  *
  * STACK. A call needs at most PJ_STACK_..._BYTES of it, whatever it is handed, and what memcpy and memset need besides.
@@ -54,17 +54,21 @@ enum pj_refusal {
     PJ_REFUSAL_SUB_STEPS = 7,   /* single-particle cell: dt needs more than 4,096 sub-steps */
     PJ_REFUSAL_NOT_FINITE = 8,  /* the result would hold a NaN or an infinity */
     PJ_REFUSAL_SINGULAR = 9,    /* pj_solve_dense: the largest pivot of a column is below 1e-14 */
-    PJ_REFUSAL_LENGTH = 10      /* a wrong length of image or answer, rows_len under 8, a_len not n*n, b_len not n */
+    PJ_REFUSAL_LENGTH = 10,     /* a wrong length of image or answer, rows_len under 8, a_len not n*n, b_len not n */
+    PJ_REFUSAL_LINE = 11,       /* pj_replay: the next bytes of the text are not a line */
+    PJ_REFUSAL_FILE = 12        /* pj_replay: a text longer than PJ_MOST_TEXT_BYTES */
 };
-/* Where several are met, one is returned: a call number that is not listed (2), then a wrong length of image or answer (10), then
- * the first of 1, 10, 2, 3, 4, 5, 6, 7, 8, 9. */
+/* Where several are met, one is returned: a call number that is not listed (2) or a text that is too long (12), then a wrong length of
+ * image or answer (10), then the first of 1, 10, 2, 3, 4, 5, 6, 7, 8, 9. A replay tests 1, 10, 2, 5 before its first line, and then of each
+ * line 11, 3, 4, 6, 7, 8. */
 
 /* How a run ended: the first word after the cell in its answer. No ending is 0. */
 enum pj_ending {
     PJ_ENDED_VOLTAGE = 1, /* the last row's voltage is below v_min or above v_max */
     PJ_ENDED_TIME = 2,    /* the time limit */
     PJ_ENDED_FULL = 3,    /* every whole row is written: hand the answer's cell in again, with the time that is left, to go on */
-    PJ_ENDED_REFUSED = 4  /* a step was refused; the call returned its number */
+    PJ_ENDED_REFUSED = 4, /* a step or a line was refused; the call returned its number */
+    PJ_ENDED_DONE = 5     /* pj_replay: no line is left */
 };
 
 /* ---- sizes of images, in bytes -------------------------------------------------------------------------------------------- */
@@ -143,7 +147,7 @@ enum pj_at {
     PJ_AT_CELL_ANODE = 48,    /* particle; its n_nodes is the config's, else PJ_REFUSAL_GRID */
     PJ_AT_CELL_CATHODE = 648, /* particle; likewise */
     PJ_AT_CELL_TIME_S = 1248, /* s, the cell's clock: finite, not below 0 */
-    /* after the cell, in the answers of pj_cell_step and pj_simulate_discharge */
+    /* after the cell, in the answers of pj_cell_step, pj_simulate_discharge and pj_replay */
     PJ_AT_CELL_REPORT = 1256,
     PJ_AT_CELL_ENDING = 1256,
 
@@ -272,6 +276,7 @@ enum pj_stack {
     PJ_STACK_DFN_STEP_BYTES = 32768,
     PJ_STACK_SIMULATE_DISCHARGE_BYTES = 16384,
     PJ_STACK_RUN_GALVANOSTATIC_BYTES = 65536,
+    PJ_STACK_REPLAY_BYTES = 16384,
     PJ_STACK_SOLVE_DENSE_BYTES = 16384
 };
 
@@ -446,8 +451,8 @@ enum pj_dfn_row {
     PJ_DFN_ROW_NEWTON_ITER = 7    /* always 1.0 */
 };
 
-/* A run steps until the voltage, the time limit, the room for rows or a refusal ends it. Places after its last row keep their
- * content.
+/* A run steps until the voltage, the time limit, the end of a replay's text or the room for rows ends it, tested after each row in this
+ * order, or until a step or a line is refused. Places after its last row keep their content.
  *
  * A run that returns 0 has written its answer. One that returns a refusal has written it only if it finished a row: the cell
  * after these rows, PJ_ENDED_REFUSED, and their count. Refused before its first row it leaves the answer AS IT WAS: an old answer is
@@ -471,6 +476,41 @@ uint64_t pj_simulate_discharge(const uint8_t *cell, size_t cell_len, double curr
  * answer           DFN cell and ending, PJ_DFN_RUN_BYTES */
 uint64_t pj_run_galvanostatic(const uint8_t *cell, size_t cell_len, double current_a, double dt_s, double max_time_s,
                               double *rows, size_t rows_len, uint8_t *answer, size_t answer_len);
+
+/* A replay is a run under a recorded load: a text of lines, each of which makes a step and a row. A line is PJ_LINE_BYTES bytes: interval
+ * (s) and current (A), each as the 16 hexadecimal digits 0-9 A-F of its binary64's bits, the highest first, a tab between them and a line feed
+ * after them, in the last line too. Lower case, CR, blanks, an empty line and a cut one are refused. 60 s at 2 A:
+ *
+ *     404E000000000000<tab>4000000000000000<line feed>
+ */
+#define PJ_LINE_BYTES 34
+#define PJ_MOST_TEXT_BYTES 65536 /* 1,927 lines, and 18 bytes that are none */
+
+/* Writes the digits of a number, or a line, at a byte of a text. */
+static inline void pj_put_digits(uint8_t *text, size_t at, double number)
+{
+    uint64_t word;
+    size_t i;
+    memcpy(&word, &number, sizeof word);
+    for (i = 0; i < 16; i++)
+        text[at + i] = (uint8_t)"0123456789ABCDEF"[word >> (60 - 4 * i) & 15];
+}
+
+static inline void pj_put_line(uint8_t *text, size_t at, double dt, double current_a)
+{
+    pj_put_digits(text, at, dt);
+    text[at + 16] = '\t';
+    pj_put_digits(text, at + 17, current_a);
+    text[at + 33] = '\n';
+}
+
+/* text    lines, at most PJ_MOST_TEXT_BYTES; none at all is PJ_ENDED_DONE with no row. Interval and current of a line as in
+ *         pj_cell_step, with its WARNINGS. What follows the line of the last row is not looked at: PJ_ENDED_FULL says only that a byte is left
+ * temp_k  K, 200 to 400, of all lines
+ * answer  cell and ending, PJ_CELL_RUN_BYTES; the count of rows is the index, from 0, of the line that was refused. To go on after
+ *         PJ_ENDED_FULL hand in the answer's cell and the text from PJ_LINE_BYTES times that count on */
+uint64_t pj_replay(const uint8_t *cell, size_t cell_len, const uint8_t *text, size_t text_len, double temp_k,
+                   double *rows, size_t rows_len, uint8_t *answer, size_t answer_len);
 
 /* ---- linear equations ------------------------------------------------------------------------------------------------------- */
 

@@ -196,7 +196,8 @@ static void dfn_cells(void)
 }
 
 /* ---- arguments ---- */
-static uint8_t particle[PJ_PARTICLE_BYTES], cell[PJ_CELL_BYTES], electrolyte[PJ_ELECTROLYTE_BYTES], dfn[PJ_DFN_CELL_BYTES];
+/* coarse: a cell of three nodes, which takes 86,400 s in less than 4,096 sub-steps */
+static uint8_t particle[PJ_PARTICLE_BYTES], cell[PJ_CELL_BYTES], coarse[PJ_CELL_BYTES], electrolyte[PJ_ELECTROLYTE_BYTES], dfn[PJ_DFN_CELL_BYTES];
 static double rows[PJ_ROW_DOUBLES];
 
 /* Each call as a function of one of its arguments. */
@@ -216,6 +217,16 @@ static uint64_t run_temp(double x) { return pj_simulate_discharge(cell, sizeof c
 static uint64_t run_limit(double x) { return pj_simulate_discharge(cell, sizeof cell, 1.0, 1.0, T, x, rows, PJ_ROW_DOUBLES, answer, PJ_CELL_RUN_BYTES); }
 static uint64_t dfn_run_current(double x) { return pj_run_galvanostatic(dfn, sizeof dfn, x, 1.0, 1.0, rows, PJ_ROW_DOUBLES, answer, PJ_DFN_RUN_BYTES); }
 static uint64_t dfn_run_limit(double x) { return pj_run_galvanostatic(dfn, sizeof dfn, 0.0, 1.0, x, rows, PJ_ROW_DOUBLES, answer, PJ_DFN_RUN_BYTES); }
+static uint64_t replay(double dt, double current_a, double temp_k)
+{
+    static uint8_t text[PJ_LINE_BYTES];
+    pj_put_line(text, 0, dt, current_a);
+    return pj_replay(coarse, sizeof coarse, text, sizeof text, temp_k, rows, PJ_ROW_DOUBLES, answer, PJ_CELL_RUN_BYTES);
+}
+
+static uint64_t replay_current(double x) { return replay(1.0, x, T); }
+static uint64_t replay_dt(double x) { return replay(x, 0.0, T); }
+static uint64_t replay_temp(double x) { return replay(1.0, 1.0, x); }
 static uint64_t theta(double x) { return pj_number(PJ_NUMBER_OCP, new_particle, PJ_SHEET_BYTES, x, 0.0, answer, PJ_NUMBER_BYTES); }
 static uint64_t radius(double x) { return pj_number(PJ_NUMBER_SPHERE_VOLUME, empty, 0, x, 0.0, answer, PJ_NUMBER_BYTES); }
 static uint64_t porosity(double x) { return pj_number(PJ_NUMBER_D_E_EFF, regions, PJ_ELECTROLYTE_PARAMS_BYTES, x, T, answer, PJ_NUMBER_BYTES); }
@@ -243,12 +254,12 @@ static void arguments(void)
         {"flux", flux, -1e13, 1e13, PJ_REFUSAL_LOAD}, {"current", current, -1e6, 1e6, PJ_REFUSAL_LOAD},
         {"source_neg", source_neg, -1e9, 1e9, PJ_REFUSAL_LOAD}, {"source_pos", source_pos, -1e9, 1e9, PJ_REFUSAL_LOAD},
         {"dfn_current", dfn_current, -1e6, 1e6, PJ_REFUSAL_LOAD}, {"run_current", run_current, -1e6, 1e6, PJ_REFUSAL_LOAD},
-        {"dfn_run_current", dfn_run_current, -1e6, 1e6, PJ_REFUSAL_LOAD},
+        {"dfn_run_current", dfn_run_current, -1e6, 1e6, PJ_REFUSAL_LOAD}, {"replay_current", replay_current, -1e6, 1e6, PJ_REFUSAL_LOAD},
         {"particle_dt", particle_dt, DBL_MIN, 86400, PJ_REFUSAL_INTERVAL}, {"salt_dt", salt_dt, DBL_MIN, 86400, PJ_REFUSAL_INTERVAL},
-        {"dfn_dt", dfn_dt, DBL_MIN, 86400, PJ_REFUSAL_INTERVAL},
+        {"dfn_dt", dfn_dt, DBL_MIN, 86400, PJ_REFUSAL_INTERVAL}, {"replay_dt", replay_dt, DBL_MIN, 86400, PJ_REFUSAL_INTERVAL},
         {"particle_temp", particle_temp, 200, 400, PJ_REFUSAL_TEMPERATURE}, {"cell_temp", cell_temp, 200, 400, PJ_REFUSAL_TEMPERATURE},
         {"salt_temp", salt_temp, 200, 400, PJ_REFUSAL_TEMPERATURE}, {"run_temp", run_temp, 200, 400, PJ_REFUSAL_TEMPERATURE},
-        {"salt_k", salt_k, 200, 400, PJ_REFUSAL_TEMPERATURE},
+        {"salt_k", salt_k, 200, 400, PJ_REFUSAL_TEMPERATURE}, {"replay_temp", replay_temp, 200, 400, PJ_REFUSAL_TEMPERATURE},
         {"run_limit", run_limit, -DBL_MAX, DBL_MAX, PJ_REFUSAL_INTERVAL}, {"dfn_run_limit", dfn_run_limit, -DBL_MAX, DBL_MAX, PJ_REFUSAL_INTERVAL},
         {"theta", theta, -DBL_MAX, DBL_MAX, PJ_REFUSAL_SHEET}, {"radius", radius, 1e-8, 1e-3, PJ_REFUSAL_SHEET},
         {"porosity", porosity, 0.01, 1, PJ_REFUSAL_SHEET}, {"clock", clock_s, 0, DBL_MAX, PJ_REFUSAL_SHEET},
@@ -287,6 +298,8 @@ int main(void)
     dfn_cells();
     expect(__LINE__, "particle", pj_build(PJ_BUILD_PARTICLE, new_particle, sizeof new_particle, particle, sizeof particle), PJ_REFUSAL_NONE);
     expect(__LINE__, "cell", pj_build(PJ_BUILD_CELL_NMC, config, sizeof config, cell, sizeof cell), PJ_REFUSAL_NONE);
+    pj_put_u64(config, PJ_AT_CONFIG_N_NODES, 3);
+    expect(__LINE__, "coarse cell", pj_build(PJ_BUILD_CELL_NMC, config, sizeof config, coarse, sizeof coarse), PJ_REFUSAL_NONE);
     expect(__LINE__, "electrolyte", pj_build(PJ_BUILD_ELECTROLYTE, regions, sizeof regions, electrolyte, sizeof electrolyte), PJ_REFUSAL_NONE);
     expect(__LINE__, "DFN cell", pj_build(PJ_BUILD_DFN, new_dfn, sizeof new_dfn, dfn, sizeof dfn), PJ_REFUSAL_NONE);
     arguments();

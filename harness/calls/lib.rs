@@ -9,6 +9,7 @@ pub mod dfn;
 pub mod electrode;
 pub mod electrolyte;
 pub mod particle;
+pub mod replay;
 pub mod runs;
 pub mod solver;
 pub mod table;

@@ -8,6 +8,7 @@ pub enum Ending {
     Time = 2,
     Full = 3,
     Refused = 4,
+    Done = 5,
 }
 
 pub const ROW: usize = 8;

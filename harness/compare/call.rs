@@ -3,6 +3,7 @@ use crate::images::{bytes_of, image_of, slots_of, words_of, Part, Record, DFN_PA
 use calls::electrode::Sheet;
 use calls::electrolyte::{Electrolyte, Params, Regions};
 use calls::particle::Particle;
+use calls::replay::MOST_TEXT;
 use calls::runs::{Ending, Run, ROW};
 use calls::solver::{Cell, Config};
 use calls::words::{bits, Reader, Slot};
@@ -19,6 +20,7 @@ pub enum Function {
     DfnStep,
     Discharge,
     Galvanostatic,
+    Replay,
     Solve,
 }
 
@@ -48,7 +50,7 @@ pub fn listed() -> Vec<Function> {
     let mut all: Vec<Function> = (1..=19).map(Function::Number).collect();
     all.extend((1..=12).map(Function::Build));
     all.extend([Function::ParticleStep, Function::CellStep, Function::ElectrolyteStep, Function::DfnStep]);
-    all.extend([Function::Discharge, Function::Galvanostatic, Function::Solve]);
+    all.extend([Function::Discharge, Function::Galvanostatic, Function::Replay, Function::Solve]);
     all
 }
 
@@ -73,8 +75,14 @@ impl Function {
             Function::DfnStep => "DFN step".to_string(),
             Function::Discharge => "simulate_discharge".to_string(),
             Function::Galvanostatic => "run_galvanostatic".to_string(),
+            Function::Replay => "replay".to_string(),
             Function::Solve => "solve_dense".to_string(),
         }
+    }
+
+    /// Whether the call writes rows into a lent slice.
+    pub fn is_run(self) -> bool {
+        matches!(self, Function::Discharge | Function::Galvanostatic | Function::Replay)
     }
 
     /// The record that the call is lent.
@@ -97,7 +105,7 @@ impl Function {
                 _ => Record::Nothing,
             },
             Function::ParticleStep => Record::Particle,
-            Function::CellStep | Function::Discharge => Record::Cell,
+            Function::CellStep | Function::Discharge | Function::Replay => Record::Cell,
             Function::ElectrolyteStep => Record::Electrolyte,
             Function::DfnStep | Function::Galvanostatic => Record::DfnCell,
             Function::Solve => Record::Nothing,
@@ -124,7 +132,7 @@ impl Function {
             Function::Build(5 | 6) => bytes_of(&DFN_PARAMS),
             Function::CellStep => 72,
             Function::DfnStep => 64,
-            Function::Discharge | Function::Galvanostatic => 16,
+            Function::Discharge | Function::Galvanostatic | Function::Replay => 16,
             Function::Solve => 256,
             _ => 0,
         };
@@ -149,6 +157,7 @@ impl Function {
             Function::DfnStep => &[Load(1e6), Interval],
             Function::Discharge => &[Load(1e6), Interval, Temperature, Finite],
             Function::Galvanostatic => &[Load(1e6), Interval, Finite],
+            Function::Replay => &[Temperature],
         }
     }
 
@@ -167,6 +176,7 @@ impl Function {
             Function::Build(_) => &[1, 2, 10],
             Function::ParticleStep => &[1, 2, 3, 4, 5, 10],
             Function::CellStep | Function::Discharge => &[1, 2, 3, 4, 5, 6, 7, 10],
+            Function::Replay => &[1, 2, 3, 4, 5, 6, 7, 10, 11, 12],
             Function::ElectrolyteStep => &[1, 2, 3, 4, 5, 8, 10],
             Function::DfnStep | Function::Galvanostatic => &[1, 2, 3, 4, 8, 10],
             Function::Solve => &[1, 2, 8, 9, 10],
@@ -191,6 +201,8 @@ pub struct Call {
     pub numbers: Vec<u64>,
     /// places of the lent slice
     pub rows: usize,
+    /// a replay's lines
+    pub text: Vec<u8>,
     pub system: System,
     pub answer_bytes: usize,
     /// what lent memory holds before the call, and where in a word its bytes start
@@ -289,7 +301,7 @@ fn of_build(call: u64, reader: &mut Reader) -> Answer {
     }
 }
 
-/// What the oracle answers. Lengths that the header fixes come before all else; a call that is not listed is 2.
+/// What the oracle answers. Lengths that the header fixes come before all else but a text that is too long; a call that is not listed is 2.
 pub fn ask_oracle(call: &Call) -> Answer {
     let function = call.function;
     if !function.is_listed() {
@@ -297,7 +309,7 @@ pub fn ask_oracle(call: &Call) -> Answer {
     }
     let solve = function == Function::Solve;
     if call.answer_bytes != function.answer_bytes() || !solve && call.image.len() != function.record().bytes() {
-        return Answer::refused(10);
+        return Answer::refused(if call.text.len() > MOST_TEXT { 12 } else { 10 });
     }
     let slots = if solve { Vec::new() } else { slots_of(function.record().parts(), &call.image) };
     let mut reader = Reader::new(&slots);
@@ -328,6 +340,10 @@ pub fn ask_oracle(call: &Call) -> Answer {
         (Function::Galvanostatic, [current_a, dt_s, limit]) => {
             let made = dfn::Cell::read(&mut reader).run_galvanostatic(*current_a, *dt_s, *limit, call.rows);
             Answer::run(&join(parts, 2), &made, dfn::Cell::slots)
+        }
+        (Function::Replay, [temp_k]) => {
+            let made = Cell::read(&mut reader).replay(&call.text, *temp_k, call.rows);
+            Answer::run(&join(parts, 2), &made, Cell::slots)
         }
         (Function::Solve, []) => {
             let floats = |words: &[u64]| -> Vec<f64> { words.iter().map(|n| f64::from_bits(*n)).collect() };
@@ -406,6 +422,7 @@ impl Lent {
 pub struct Asked {
     pub number: u64,
     image: Lent,
+    text: Lent,
     a: Lent,
     b: Lent,
     rows: Lent,
@@ -420,6 +437,7 @@ pub fn ask_port(call: &Call) -> Asked {
     let mut a = Lent::new(&mut filler, 0, 8 * call.system.a.len(), Some(raw(&call.system.a)));
     let mut b = Lent::new(&mut filler, 0, 8 * call.system.b.len(), Some(raw(&call.system.b)));
     let mut rows = Lent::new(&mut filler, 0, 8 * call.rows, None);
+    let mut text = Lent::new(&mut filler, (call.filler >> 10) as usize % 8, call.text.len(), Some(&call.text));
     let mut answer = Lent::new(&mut filler, (call.filler >> 13) as usize % 8, call.answer_bytes, None);
     let numbers: Vec<f64> = call.numbers.iter().map(|n| f64::from_bits(*n)).collect();
     let number = match (call.function, &numbers[..]) {
@@ -435,10 +453,11 @@ pub fn ask_port(call: &Call) -> Asked {
         (Function::Galvanostatic, [i, dt, limit]) => {
             port::run_galvanostatic(image.bytes(), [*i, *dt, *limit], rows.floats(), answer.bytes())
         }
+        (Function::Replay, [t]) => port::replay(image.bytes(), text.bytes(), *t, rows.floats(), answer.bytes()),
         (Function::Solve, []) => port::solve_dense(a.floats(), b.floats(), call.system.n as usize, answer.bytes()),
         _ => panic!("a call with another count of arguments"),
     };
-    Asked { number, image, a, b, rows, answer }
+    Asked { number, image, text, a, b, rows, answer }
 }
 
 impl Asked {
@@ -481,13 +500,13 @@ impl Asked {
         if now[rows..] != then[rows..] {
             all.push("places after the last row are written".to_string());
         }
-        for (what, lent) in [("image", &self.image), ("matrix", &self.a), ("right side", &self.b)] {
+        let read = [("image", &self.image), ("text", &self.text), ("matrix", &self.a), ("right side", &self.b)];
+        for (what, lent) in read {
             if lent.now() != lent.then() {
                 all.push(format!("the lent {what} is changed"));
             }
         }
-        let guarded = [("image", &self.image), ("matrix", &self.a), ("right side", &self.b), ("rows", &self.rows), ("answer", &self.answer)];
-        for (what, lent) in guarded {
+        for (what, lent) in read.into_iter().chain([("rows", &self.rows), ("answer", &self.answer)]) {
             if !lent.guards_kept() {
                 all.push(format!("memory beside the {what} is written"));
             }
@@ -497,7 +516,7 @@ impl Asked {
 
     /// How many bytes had to stay as they were.
     pub fn kept_bytes(&self, oracle: &Answer) -> u64 {
-        let lent = [&self.image, &self.a, &self.b, &self.rows, &self.answer];
+        let lent = [&self.image, &self.text, &self.a, &self.b, &self.rows, &self.answer];
         let all: usize = lent.iter().map(|lent| 8 * lent.memory.len()).sum();
         (all - 8 * oracle.rows.len() - oracle.image.as_ref().map_or(0, Vec::len)) as u64
     }

@@ -3,10 +3,12 @@ use crate::call::{Argument, Call, Function, System};
 use crate::draw::Draw;
 use crate::images::{image_of, words_of, Meaning, Record};
 use crate::records;
+use crate::texts;
 use calls::dfn;
 use calls::electrode::{self, Sheet};
 use calls::electrolyte::{Electrolyte, POROSITY};
 use calls::particle::Particle;
+use calls::replay::MOST_LINES;
 use calls::solver::{Cell, DIFFUSIVITY};
 use calls::table::{Range, TEMPERATURE};
 use calls::words::{word, Slot};
@@ -33,6 +35,7 @@ impl Turn {
             image: Vec::new(),
             numbers: numbers.iter().map(|x| x.to_bits()).collect(),
             rows: 0,
+            text: Vec::new(),
             system: System::default(),
             answer_bytes: function.answer_bytes(),
             filler: draw.bits(),
@@ -94,7 +97,7 @@ const SPECIAL: [u64; 18] = [
 ];
 
 /// A number at or around a limit, special, or of random bits.
-fn around(draw: &mut Draw, low: f64, high: f64) -> u64 {
+pub fn around(draw: &mut Draw, low: f64, high: f64) -> u64 {
     match draw.below(4) {
         0 => draw.pick(&SPECIAL),
         1 if draw.below(2) == 0 => draw.bits(),
@@ -163,8 +166,7 @@ fn one_fault(draw: &mut Draw, turn: &mut Turn, record: Record, words: &[u64]) {
         turn.changes.extend(CELL_COUNTS.map(|at| (at, count)));
         return;
     }
-    let run = matches!(turn.call.function, Function::Discharge | Function::Galvanostatic);
-    if run && draw.below(8) == 0 {
+    if turn.call.function.is_run() && draw.below(8) == 0 {
         turn.call.rows = draw.below(9) as usize;
         return;
     }
@@ -294,7 +296,7 @@ fn ready(draw: &mut Draw, turn: u64) -> Case {
 }
 
 /// An interval in which so many sub-steps of the given length go, up to 2^14 of them.
-fn interval_of(draw: &mut Draw, least: f64) -> f64 {
+pub fn interval_of(draw: &mut Draw, least: f64) -> f64 {
     let count = match draw.below(8) {
         0 => draw.pick(&[0.01, 0.5, 1.0, 2.0, 3.0, 4095.0, 4096.0, 4097.0]),
         1 => draw.count(1, 40) as f64,
@@ -487,6 +489,80 @@ fn discharges(draw: &mut Draw, turn: u64) -> Case {
         let rows = slice_length(draw);
         turns.push(Turn::new(draw, Function::Discharge, &[current, dt, temp_k, limit]).with_rows(rows));
     }
+    listed(draw, Record::Cell, &cell.slots(), build, turns)
+}
+
+/// A slice for a text of so many lines: for all of them, for one fewer or more, or any.
+fn room_for(draw: &mut Draw, lines: usize) -> usize {
+    match draw.below(8) {
+        0 => slice_length(draw),
+        1 => 8 * lines.saturating_sub(1) + draw.below(8) as usize,
+        2 => 8 * draw.count(1, 1 + lines as u64) as usize,
+        3 | 4 => 8 * lines,
+        _ => 8 * lines + draw.count(1, 16) as usize,
+    }
+    .max(8)
+}
+
+/// A replay of drawn loads on the cell, the text whole or with a fault; of few it is as long as can be.
+fn replay(draw: &mut Draw, cell: &Cell, loads: &[[f64; 2]], temp_k: f64) -> Turn {
+    let least = least_interval(cell, temp_k);
+    let mut text = texts::text_of(loads);
+    if draw.below(2) == 0 {
+        for _ in 0..draw.count(1, 2) {
+            texts::with_fault(draw, &mut text, least);
+        }
+    }
+    if draw.below(24) == 0 {
+        texts::lengthen(draw, &mut text);
+    }
+    let rows = room_for(draw, loads.len());
+    let mut turn = Turn::new(draw, Function::Replay, &[temp_k]).with_rows(rows);
+    turn.call.text = text;
+    turn
+}
+
+/// The longest text, on a cell whose voltage stays between its limits.
+fn longest_replay(draw: &mut Draw) -> Case {
+    let n = draw.count(3, 12);
+    let mut cell = Cell::graphite_nmc(records::config(draw, n)).expect("a config in range");
+    cell.config.numbers[..2].copy_from_slice(&[-10.0, 10.0]);
+    let temp_k = draw.uniform(270.0, 330.0);
+    let loads = texts::loads(draw, MOST_LINES, least_interval(&cell, temp_k), cell.anode.sheet.numbers[6]);
+    let mut turn = Turn::new(draw, Function::Replay, &[temp_k]).with_rows(8 * MOST_LINES);
+    turn.call.text = texts::text_of(&loads);
+    Case { start: image_of(Record::Cell.parts(), &cell.slots()), turns: vec![turn] }
+}
+
+fn replays(draw: &mut Draw, turn: u64) -> Case {
+    if draw.below(200) == 0 {
+        return longest_replay(draw);
+    }
+    let n = if draw.below(4) == 0 { 3 + turn % 62 } else { draw.count(3, 12) };
+    let (mut cell, mut build) = some_cell(draw, n);
+    let temp_k = cell_temperature(draw, &cell);
+    let count = texts::count(draw);
+    let mut loads = texts::loads(draw, count, least_interval(&cell, temp_k), cell.anode.sheet.numbers[6]);
+    let way = draw.below(3);
+    if way == 0 {
+        cell.config.numbers[..2].copy_from_slice(&[-10.0, 10.0]);
+        build = None;
+    }
+    if way == 1 {
+        let (mut voltages, mut next) = (Vec::new(), cell.clone());
+        for [dt, current] in loads.iter().take(draw.count(2, 12) as usize) {
+            let Ok((after, report)) = next.step(*current, *dt, temp_k) else { break };
+            voltages.push(report.state.voltage);
+            next = after;
+        }
+        limit_between(draw, &voltages, &mut cell.config.numbers[..2]);
+        build = None;
+        // the voltage ends the replay on its last line
+        if draw.below(3) == 0 {
+            loads.truncate(voltages.len());
+        }
+    }
+    let turns = (0..draw.count(1, 2)).map(|_| replay(draw, &cell, &loads, temp_k)).collect();
     listed(draw, Record::Cell, &cell.slots(), build, turns)
 }
 
@@ -683,6 +759,9 @@ fn random_images(draw: &mut Draw, _: u64) -> Case {
     let numbers: Vec<f64> = function.arguments().iter().map(|_| f64::from_bits(draw.bits())).collect();
     let mut turn = Turn::new(draw, function, &numbers);
     turn.call.rows = draw.below(40) as usize;
+    if function == Function::Replay {
+        turn.call.text = (0..draw.below(80)).map(|_| draw.bits() as u8).collect();
+    }
     let start = (0..record.bytes()).map(|_| draw.bits() as u8).collect();
     Case { start, turns: vec![turn] }
 }
@@ -700,10 +779,10 @@ fn random_byte(draw: &mut Draw, turn: u64) -> Case {
 }
 
 /// The plans in turn, some more often than others.
-pub const PLANS: [Plan; 26] = [
+pub const PLANS: [Plan; 27] = [
     sheet_numbers, particle_steps, cell_steps, electrolyte_steps, dfn_steps, solve, discharges, galvanostatic, ready, salt_numbers,
     particle_steps, cell_steps, random_byte, dfn_steps, solve, sphere, electrolyte_steps, random_images, particle_steps, cell_steps,
-    sheet_numbers, dfn_steps, discharges, galvanostatic, dfn_exponents, dfn_overpotentials,
+    sheet_numbers, dfn_steps, discharges, galvanostatic, dfn_exponents, dfn_overpotentials, replays,
 ];
 
 /// A case by its number; it depends on the seed and the number alone.

@@ -13,6 +13,7 @@ mod images;
 mod records;
 mod shrink;
 mod tally;
+mod texts;
 
 use call::{ask_oracle, ask_port, Call, Function};
 use cases::Case;
@@ -25,7 +26,7 @@ use std::time::{Duration, Instant};
 use tally::Tally;
 
 const GATE_SEED: u64 = 20_040_613;
-const GATE_CASES: u64 = 260_000;
+const GATE_CASES: u64 = 270_000;
 
 struct Options {
     seed: u64,
@@ -104,8 +105,14 @@ fn print_call(call: &Call) {
     if !call.numbers.is_empty() {
         print_words("arguments", &call.numbers);
     }
-    if matches!(function, Function::Discharge | Function::Galvanostatic) {
+    if function.is_run() {
         println!("  a slice of {} places", call.rows);
+    }
+    if function == Function::Replay {
+        println!("  a text of {} bytes:", call.text.len());
+        for line in call.text.split_inclusive(|byte| *byte == b'\n').take(40) {
+            println!("    {}", line.escape_ascii());
+        }
     }
     if function == Function::Solve {
         println!("  order {}", call.system.n);

@@ -3,10 +3,12 @@ use crate::call::{ask_oracle, ask_port, Answer, Argument, Call, Function};
 use crate::cases::{Case, Turn};
 use crate::images::{bytes_from, image_of, words_of, Record};
 use crate::records::{READY_CONFIG, READY_REGIONS};
+use crate::texts::line;
 use calls::dfn;
 use calls::electrode::Sheet;
 use calls::electrolyte::{Electrolyte, Params, Regions};
 use calls::particle::Particle;
+use calls::replay::LINE;
 use calls::solver::{Cell, Config};
 use calls::words::word;
 use std::time::{Duration, Instant};
@@ -139,6 +141,9 @@ fn smaller(call: &Call) -> Vec<Call> {
     if function == Function::Solve {
         smaller_systems(call, &mut all);
     }
+    if function == Function::Replay {
+        smaller_texts(call, &mut all);
+    }
     if call.image.len() == record.bytes() && record != Record::Nothing {
         let words = words_of(&call.image);
         let mut push = |words: &[u64]| all.push(Call { image: bytes_from(words), ..call.clone() });
@@ -191,6 +196,27 @@ fn smaller(call: &Call) -> Vec<Call> {
     all
 }
 
+/// A line of 1 s with no current.
+fn ready_line() -> Vec<u8> {
+    line([1f64.to_bits(), 0])
+}
+
+/// The text's halves; the text without one line (of a long text, a few), or with ready ones in their place; without its last byte.
+fn smaller_texts(call: &Call, all: &mut Vec<Call>) {
+    let text = &call.text;
+    let lines: Vec<&[u8]> = text.chunks(LINE).collect();
+    let (first, second) = lines.split_at(lines.len() / 2);
+    let mut texts = vec![first.concat(), second.concat()];
+    let few = 1 + lines.len() / 64;
+    for at in (0..lines.len()).step_by(few) {
+        let end = lines.len().min(at + few);
+        texts.push([&lines[..at], &lines[end..]].concat().concat());
+        texts.push([lines[..at].concat(), ready_line().repeat(end - at), lines[end..].concat()].concat());
+    }
+    texts.push(text[..text.len().saturating_sub(1)].to_vec());
+    all.extend(texts.into_iter().map(|text| Call { text, ..call.clone() }));
+}
+
 fn smaller_systems(call: &Call, all: &mut Vec<Call>) {
     let system = &call.system;
     let n = system.n as usize;
@@ -218,7 +244,7 @@ fn smaller_systems(call: &Call, all: &mut Vec<Call>) {
     }
 }
 
-/// How large a call is: nodes and rows, then words that are not as in the ready record, then words that are not 0.
+/// How large a call is: nodes, rows and text, then words that are not as in the ready record, then words that are not 0.
 fn size(call: &Call) -> (usize, usize, usize) {
     let words = words_of(&call.image);
     let record = call.function.record();
@@ -235,9 +261,12 @@ fn size(call: &Call) -> (usize, usize, usize) {
         + call.numbers.iter().filter(|n| ![0, 1f64.to_bits()].contains(n)).count();
     let system = &call.system;
     let entries = system.a.iter().chain(&system.b).map(|n| if *n == 0 { 0 } else { 1 + usize::from(*n != 1f64.to_bits()) }).sum::<usize>();
+    let ready = ready_line();
+    let loads = call.text.chunks(LINE).filter(|line| *line != &ready[..]).count();
     let lengths = usize::from(call.answer_bytes != call.function.answer_bytes());
     let changing = words.windows(2).filter(|pair| pair[0] != pair[1]).count();
-    (nodes as usize + call.rows + system.a.len() + system.b.len(), 2 * unlike + strange + lengths, changing + entries)
+    let long = nodes as usize + call.rows + call.text.len() + system.a.len() + system.b.len();
+    (long, 2 * unlike + strange + loads + lengths, changing + entries)
 }
 
 /// The smallest call that was found in half a minute and fails with the same two numbers.

@@ -1,13 +1,14 @@
 //! What was compared: by call, accepted and refused, and by refusal number; endings, counts of nodes, orders.
 use crate::call::{listed, Answer, Call, Function};
 use crate::images::words_of;
+use calls::replay::MOST_LINES;
 use calls::runs::Ending;
 use std::collections::{BTreeMap, BTreeSet};
 
 #[derive(Default)]
 struct Row {
     accepted: u64,
-    by_number: [u64; 11],
+    by_number: [u64; 13],
 }
 
 #[derive(Default)]
@@ -19,6 +20,8 @@ pub struct Tally {
     pub nonzero: u64,
     pub kept_bytes: u64,
     run_rows: u64,
+    /// rows of the longest replay
+    longest_replay: u64,
     sub_steps: u64,
     endings: BTreeMap<(String, &'static str), u64>,
     particle_nodes: BTreeSet<u64>,
@@ -27,7 +30,7 @@ pub struct Tally {
     unexpected: BTreeSet<String>,
 }
 
-const ENDINGS: [(Function, &str); 8] = [
+const ENDINGS: [(Function, &str); 13] = [
     (Function::Discharge, "voltage"),
     (Function::Discharge, "time"),
     (Function::Discharge, "time, no row"),
@@ -36,6 +39,11 @@ const ENDINGS: [(Function, &str); 8] = [
     (Function::Galvanostatic, "time"),
     (Function::Galvanostatic, "full"),
     (Function::Galvanostatic, "refused after a row"),
+    (Function::Replay, "voltage"),
+    (Function::Replay, "done"),
+    (Function::Replay, "done, no row"),
+    (Function::Replay, "full"),
+    (Function::Replay, "refused after a row"),
 ];
 
 impl Tally {
@@ -56,12 +64,17 @@ impl Tally {
         self.words += (1 + words.len() + oracle.rows.len()) as u64;
         self.nonzero += words.iter().chain(&oracle.rows).filter(|word| **word != 0).count() as u64;
         self.run_rows += oracle.rows.len() as u64 / 8;
+        if call.function == Function::Replay {
+            self.longest_replay = self.longest_replay.max(oracle.rows.len() as u64 / 8);
+        }
         if let Some(ending) = oracle.ending {
             let said = match (ending, oracle.rows.is_empty()) {
                 (Ending::Voltage, _) => "voltage",
                 (Ending::Time, false) => "time",
                 (Ending::Time, true) => "time, no row",
                 (Ending::Full, _) => "full",
+                (Ending::Done, false) => "done",
+                (Ending::Done, true) => "done, no row",
                 (Ending::Refused, false) => "refused after a row",
                 (Ending::Refused, true) => "refused",
             };
@@ -97,6 +110,7 @@ impl Tally {
         self.nonzero += other.nonzero;
         self.kept_bytes += other.kept_bytes;
         self.run_rows += other.run_rows;
+        self.longest_replay = self.longest_replay.max(other.longest_replay);
         self.sub_steps += other.sub_steps;
         self.particle_nodes.extend(other.particle_nodes);
         self.cell_nodes.extend(other.cell_nodes);
@@ -106,7 +120,7 @@ impl Tally {
 
     /// The table, and what is missing for a comparison that has seen everything.
     pub fn print(&self) -> Vec<String> {
-        println!("{:<24}{:>9}{:>9} |{}", "call", "accepted", "refused", (1..=10).map(|n| format!("{n:>7}")).collect::<String>());
+        println!("{:<24}{:>9}{:>9} |{}", "call", "accepted", "refused", (1..=12).map(|n| format!("{n:>7}")).collect::<String>());
         let unlisted = [Function::Number(0), Function::Build(0)];
         let mut missing: Vec<String> = self.unexpected.iter().cloned().collect();
         for function in listed().into_iter().chain(unlisted) {
@@ -117,7 +131,7 @@ impl Tally {
                 0 if !function.refusals().contains(&n) => format!("{:>7}", "-"),
                 count => format!("{count:>7}"),
             };
-            println!("{name:<24}{:>9}{refused:>9} |{}", row.accepted, (1..=10).map(number).collect::<String>());
+            println!("{name:<24}{:>9}{refused:>9} |{}", row.accepted, (1..=12).map(number).collect::<String>());
             if row.accepted == 0 && function.is_listed() {
                 missing.push(format!("{name} was never accepted"));
             }
@@ -143,6 +157,10 @@ impl Tally {
             if seen.len() != all {
                 missing.push(format!("{what}: not all were seen"));
             }
+        }
+        println!("rows of the longest replay: {} of {MOST_LINES}", self.longest_replay);
+        if self.longest_replay != MOST_LINES as u64 {
+            missing.push("no replay of the longest text".to_string());
         }
         println!("rows of runs: {}; sub-steps of a cell's steps: {}", self.run_rows, self.sub_steps);
         println!(

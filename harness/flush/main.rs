@@ -17,6 +17,9 @@ mod images;
 #[allow(dead_code)]
 #[path = "../compare/records.rs"]
 mod records;
+#[allow(dead_code)]
+#[path = "../compare/texts.rs"]
+mod texts;
 
 use call::{ask_oracle, ask_port, Asked, Call};
 use std::arch::asm;

@@ -282,7 +282,7 @@ DFN = [
 
 # ---- harness/calls: orders, limits, endings
 
-ORDER = "[1, 10, 2, 3, 4, 5, 6, 7, 8, 9]"
+ORDER = "[12, 1, 10, 2, 3, 4, 5, 6, 7, 8, 9]"
 
 
 def swapped_orders():
@@ -293,7 +293,7 @@ def swapped_orders():
         (7, 8): because("8 is asked only where 7 is not met"),
         (8, 9): because("no solution is made where 9 is met"),
     }
-    for i in range(9):
+    for i in range(len(numbers) - 1):
         pair, changed = (numbers[i], numbers[i + 1]), list(numbers)
         changed[i], changed[i + 1] = pair[1], pair[0]
         yield (f"{pair[1]} before {pair[0]}", ORDER, str(changed), reasons.get(pair, {}))
@@ -354,6 +354,7 @@ RUNS = [
     ("a row that does not fit", "places / ROW", "places.div_ceil(ROW)"),
     ("voltage and time have each other's number", "Voltage = 1,\n    Time = 2,", "Voltage = 2,\n    Time = 1,"),
     ("full and refused have each other's number", "Full = 3,\n    Refused = 4,", "Full = 4,\n    Refused = 3,"),
+    ("refused and done have each other's number", "Refused = 4,\n    Done = 5,", "Refused = 5,\n    Done = 4,"),
     ("the clock is not asked before the first step", "if test_before_first && time_over", "if false && test_before_first && time_over"),
     ("the clock is asked a row late", TIME, "time_over(rows.len() - 1, &cell)"),
     ("the clock is asked a row early", TIME, "time_over(rows.len() + 1, &cell)"),
@@ -456,6 +457,98 @@ CALLS_SOLVER = [
     ("run: its clock is rows*dt", "(0..rows).fold(0.0, |t, _| t + dt)", "rows as f64 * dt"),
     ("run: time is over after its limit", "!(own_clock(rows) < max_time_s)", "own_clock(rows) > max_time_s"),
     ("run: a first step always", "max_time_s), true)", "max_time_s), false)"),
+]
+
+DIGITS, LETTERS = "b'0'..=b'9' => Ok(u64::from(byte - b'0')),", "b'A'..=b'F' => Ok(u64::from(byte - b'A') + 10),"
+TAB, FEED = "text[16] != b'\\t'", "text[33] != b'\\n'"
+REST = "let (mut cell, mut rows, mut left) = (self.clone(), Vec::new(), text);"
+NO_BYTE_LEFT = "            if left.is_empty() {\n                break (Ending::Done, 0);\n            }\n"
+NO_ROOM_LEFT = "            if rows.len() == places / ROW {\n                break (Ending::Full, 0);\n            }\n"
+STEP = "cell.step(current_a, dt, temp_k)"
+REFUSED = "Err(number) => break (Ending::Refused, number),"
+CUTOFF = "if report.state.cutoff {"
+
+
+def read_as(change):
+    """The text is changed before it is read: `whole` is a copy of it."""
+    return f"let mut whole = text.to_vec();\n        {change}\n        " + REST.replace("text)", "&whole[..])")
+
+
+CALLS_REPLAY = [
+    ("lower case is taken", LETTERS, LETTERS + " b'a'..=b'f' => Ok(u64::from(byte - b'a') + 10),"),
+    ("A is 11", "b'A') + 10", "b'A') + 11"),
+    ("A is 9", "b'A') + 10", "b'A') + 9"),
+    ("0 is 1", "Ok(u64::from(byte - b'0'))", "Ok(u64::from(byte - b'0') + 1)"),
+    ("/ is a digit", DIGITS, "b'/'..=b'9' => Ok(u64::from(byte.saturating_sub(b'0'))),"),
+    (": is a digit", DIGITS, DIGITS.replace("b'9'", "b':'")),
+    ("@ is a digit", LETTERS, "b'@'..=b'F' => Ok(u64::from(byte - b'@') + 9),"),
+    ("G is a digit", LETTERS, LETTERS.replace("b'F'", "b'G'")),
+    ("0 is no digit", DIGITS, DIGITS.replace("b'0'..", "b'1'..")),
+    ("9 is no digit", DIGITS, DIGITS.replace("b'9'", "b'8'")),
+    ("A is no digit", LETTERS, LETTERS.replace("b'A'..", "b'B'..")),
+    ("F is no digit", LETTERS, LETTERS.replace("b'F'", "b'E'")),
+    ("the lowest digit first", "16 * bits + digit(*byte)?", "bits / 16 + (digit(*byte)? << 60)"),
+    ("without the first digit", "for byte in digits", "for byte in &digits[1..]"),
+    ("without the last digit", "for byte in digits", "for byte in &digits[..15]"),
+    ("a NaN is no number", "    Ok(f64::from_bits(bits))", "    if f64::from_bits(bits).is_nan() {\n        return Err(11);\n    }\n    Ok(f64::from_bits(bits))"),
+    ("-0 becomes +0", "Ok(f64::from_bits(bits))", "Ok(f64::from_bits(bits) + 0.0)"),
+    ("2 for 11 of a digit", "_ => Err(11)", "_ => Err(2)"),
+    ("2 for 11 of a line", "        return Err(11);", "        return Err(2);"),
+    ("the tab is not looked at", TAB, "false"),
+    ("a space for the tab", TAB, TAB + " && text[16] != b' '"),
+    ("the line feed is not looked at", FEED, "false"),
+    ("CR for the line feed", FEED, FEED + " && text[33] != b'\\r'"),
+    ("3 before a wrong line feed", FEED, FEED + " && number(&text[17..33])?.is_finite()"),
+    ("the second field a byte early", "&text[17..33]", "&text[16..32]"),
+    ("the first field twice", "&text[17..33]", "&text[..16]"),
+    ("CR LF is taken", REST, read_as("whole.retain(|byte| *byte != b'\\r');")),
+    ("the last line feed may be missing", REST, read_as("if whole.len() % LINE == LINE - 1 {\n            whole.push(b'\\n');\n        }")),
+    ("what is left of a line is passed over", REST, read_as("whole.truncate(whole.len() / LINE * LINE);")),
+    ("blank lines are passed over", NO_BYTE_LEFT, "            while left.first() == Some(&b'\\n') {\n                left = &left[1..];\n            }\n" + NO_BYTE_LEFT),
+    ("from the second line on", REST, read_as("whole.drain(..LINE.min(text.len()));")),
+    ("without the last line", REST, read_as("whole.truncate(text.len().saturating_sub(LINE));")),
+    ("35 bytes a line", "LINE: usize = 34", "LINE: usize = 35"),
+    ("33 bytes a line", "left = &left[LINE..]", "left = &left[LINE - 1..]"),
+    ("every second line", "left = &left[LINE..]", "left = &left[left.len().min(2 * LINE)..]"),
+    ("interval and current exchanged", "|[dt, current_a]|", "|[current_a, dt]|"),
+    ("4 before 3, as they stand in a line", STEP, "if crate::table::interval(dt) { cell.step(current_a, dt, temp_k) } else { Err(4) }"),
+    ("each step from the first cell", STEP, "self.step(current_a, dt, temp_k)"),
+    ("the text's length is not asked", "        met.when(12, text.len() > MOST_TEXT);\n", ""),
+    ("65,536 bytes are too many", "text.len() > MOST_TEXT", "text.len() >= MOST_TEXT"),
+    ("65,537 bytes are not too many", "text.len() > MOST_TEXT", "text.len() > MOST_TEXT + 1"),
+    ("the cell is not asked before the first line", "let mut met = self.met();", "let mut met = crate::table::Met::default();"),
+    ("the rows are not asked", "        met.when(10, places < ROW);\n", ""),
+    ("nine places at least", "places < ROW", "places <= ROW"),
+    ("the temperature is not asked before the first line", "        met.when(5, !TEMPERATURE.holds(temp_k));\n", ""),
+    ("all lines are read before the first step", REST, "if text.chunks(LINE).any(|line| first_line(line).is_err()) {\n            return refused(self, 11);\n        }\n        " + REST),
+    ("an empty text is no text", "if left.is_empty() {", "if left.is_empty() && !rows.is_empty() {"),
+    ("an empty text is asked for 6", REST, REST + "\n        if let Err(6) = self.step(0.0, 1.0, temp_k) {\n            return refused(self, 6);\n        }"),
+    ("done is time", "Ending::Done", "Ending::Time"),
+    ("full before done", NO_BYTE_LEFT + NO_ROOM_LEFT, NO_ROOM_LEFT + NO_BYTE_LEFT),
+    ("done before voltage", CUTOFF, "if report.state.cutoff && !left.is_empty() {"),
+    ("full before voltage", CUTOFF, "if report.state.cutoff && rows.len() < places / ROW {"),
+    ("the voltage ends nothing", CUTOFF, "if report.state.cutoff && rows.is_empty() {"),
+    ("a row fewer", "rows.len() == places / ROW", "rows.len() + 1 == places / ROW"),
+    ("a row that does not fit", "rows.len() == places / ROW", "rows.len() == places.div_ceil(ROW)"),
+    (
+        "the line after the last row is read", NO_ROOM_LEFT,
+        NO_ROOM_LEFT.replace("{\n", "{\n                if let Err(number) = first_line(left) {\n                    break (Ending::Refused, number);\n                }\n", 1),
+    ),
+    (
+        "the line after the last row is stepped", NO_ROOM_LEFT,
+        NO_ROOM_LEFT.replace("{\n", "{\n                if let Err(number) = first_line(left).and_then(|[dt, i]| cell.step(i, dt, temp_k)) {\n"
+                             "                    break (Ending::Refused, number);\n                }\n", 1),
+    ),
+    ("full with a line left only", NO_ROOM_LEFT, NO_ROOM_LEFT.replace("Ending::Full", "if left.len() < LINE { Ending::Done } else { Ending::Full }")),
+    ("a refused line has a row", REFUSED, REFUSED.replace("break", "{ rows.push([0.0; ROW]); break").replace("),", ") }")),
+    ("a refused line takes the rows above", REFUSED, REFUSED.replace("break", "{ rows.clear(); break").replace("),", ") }")),
+    ("a refused line takes the cell", REFUSED, REFUSED.replace("break", "{ cell = self.clone(); break").replace("),", ") }")),
+    ("a refused line has no number", REFUSED, "Err(number) => break (Ending::Refused, 0 * number),"),
+    ("a refused line is done", REFUSED, "Err(number) => break (Ending::Done, number),"),
+    ("a line that is none is passed over", REFUSED, "Err(11) if left.len() >= LINE => {\n                    left = &left[LINE..];\n                    continue;\n                }\n                " + REFUSED),
+    ("the cutoff's row is left out", "rows.push(report.row());", "if !report.state.cutoff {\n                rows.push(report.row());\n            }"),
+    ("the cutoff's cell is left out", "cell = next;", "if !report.state.cutoff {\n                cell = next;\n            }"),
+    ("the cell stays as it was", "            cell = next;\n", "            let _ = next;\n"),
 ]
 
 CALLS_ELECTROLYTE = [
@@ -594,6 +687,7 @@ def all_faults(texts):
         ("calls/electrode.rs", CALLS_ELECTRODE),
         ("calls/particle.rs", CALLS_PARTICLE),
         ("calls/solver.rs", CALLS_SOLVER),
+        ("calls/replay.rs", CALLS_REPLAY),
         ("calls/electrolyte.rs", CALLS_ELECTROLYTE),
         ("calls/dfn.rs", CALLS_DFN),
         ("calls/dense.rs", CALLS_DENSE),

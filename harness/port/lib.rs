@@ -23,6 +23,10 @@ mod boundary {
             cell: *const u8, cell_len: usize, current_a: f64, dt_s: f64, max_time_s: f64, rows: *mut f64, rows_len: usize,
             answer: *mut u8, answer_len: usize,
         ) -> u64;
+        pub fn pj_replay(
+            cell: *const u8, cell_len: usize, text: *const u8, text_len: usize, temp_k: f64, rows: *mut f64, rows_len: usize,
+            answer: *mut u8, answer_len: usize,
+        ) -> u64;
         pub fn pj_solve_dense(
             a: *const f64, a_len: usize, b: *const f64, b_len: usize, n: usize, answer: *mut u8, answer_len: usize,
         ) -> u64;
@@ -69,6 +73,12 @@ pub fn run_galvanostatic(cell: &[u8], [current_a, dt_s, max_time_s]: [f64; 3], r
     let (rows_len, answer_len) = (rows.len(), answer.len());
     let (rows, answer) = (rows.as_mut_ptr(), answer.as_mut_ptr());
     unsafe { boundary::pj_run_galvanostatic(cell.as_ptr(), cell.len(), current_a, dt_s, max_time_s, rows, rows_len, answer, answer_len) }
+}
+
+pub fn replay(cell: &[u8], text: &[u8], temp_k: f64, rows: &mut [f64], answer: &mut [u8]) -> u64 {
+    let (rows_len, answer_len) = (rows.len(), answer.len());
+    let (rows, answer) = (rows.as_mut_ptr(), answer.as_mut_ptr());
+    unsafe { boundary::pj_replay(cell.as_ptr(), cell.len(), text.as_ptr(), text.len(), temp_k, rows, rows_len, answer, answer_len) }
 }
 
 pub fn solve_dense(a: &[f64], b: &[f64], n: usize, answer: &mut [u8]) -> u64 {

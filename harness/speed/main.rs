@@ -123,7 +123,26 @@ fn cell_steps(name: String, n: usize, load: Load, units: f64) -> Case<'static> {
     }
 }
 
-fn cases(systems: &[System; 2]) -> Vec<Case<'_>> {
+/// A recorded load of so many lines.
+fn text_of(load: Load, lines: usize) -> Vec<u8> {
+    (0..lines).flat_map(|k| format!("{:016X}\t{:016X}\n", load.dt.to_bits(), load.current(k).to_bits()).into_bytes()).collect()
+}
+
+fn replays(text: &[u8]) -> Case<'_> {
+    let lines = text.len() / 34;
+    Case {
+        name: format!("a cell step of 1 s in a replay of {lines} lines, n = 11"),
+        sides: [
+            Box::new(move |times| oracle_side::replays(11, text, REFERENCE, times)),
+            Box::new(move |times| port_side::replays(11, text, REFERENCE, times)),
+            Box::new(move |times| published_side::replays(11, text, REFERENCE, times)),
+        ],
+        units: lines as f64,
+        once: false,
+    }
+}
+
+fn cases<'a>(systems: &'a [System; 2], text: &'a [u8]) -> Vec<Case<'a>> {
     let mut all = Vec::new();
     for (n, dt) in [(11, 1000.0), (20, 400.0), (64, 40.0)] {
         let load = Load { current_a: 3.0, dt, temp_k: REFERENCE };
@@ -149,6 +168,7 @@ fn cases(systems: &[System; 2]) -> Vec<Case<'_>> {
         units: rows as f64,
         once: true,
     });
+    all.push(replays(text));
     let load = Load { current_a: 20.0, dt: 1.0, temp_k: REFERENCE };
     for counts in [[5, 5, 6], [16, 16, 32]] {
         let [a, b, c] = counts;
@@ -201,7 +221,8 @@ fn main() {
     println!("| what, in ns | oracle | port | oracle / port | quartiles of the ratio | published Rust | published / port |");
     println!("|---|---|---|---|---|---|---|");
     let systems = [System::of_order(8), System::of_order(32)];
-    for case in cases(&systems) {
+    let text = text_of(Load { current_a: 3.0, dt: 1.0, temp_k: REFERENCE }, 300);
+    for case in cases(&systems, &text) {
         println!("{}", row(&case, rounds));
     }
     println!();

@@ -79,6 +79,18 @@ pub fn cell_run(n_nodes: usize, load: Load, rows: usize) -> (Duration, Answer) {
     (taken, vec![written, last[0].to_bits(), last[5].to_bits()])
 }
 
+pub fn replays(n_nodes: usize, text: &[u8], temp_k: f64, times: usize) -> (Duration, Answer) {
+    let (cell, mut lent, mut answer) = (spm(n_nodes), vec![-1.0; 8 * (text.len() / 34)], vec![0; CELL + ENDING]);
+    let started = clock::now();
+    for _ in 0..times {
+        accepted(port::replay(black_box(&cell), black_box(text), temp_k, black_box(&mut lent), black_box(&mut answer)));
+    }
+    let taken = clock::now() - started;
+    let written = word(&answer, CELL / 8 + 1);
+    let last = &lent[8 * (written as usize - 1)..];
+    (taken, vec![written, last[0].to_bits(), last[5].to_bits()])
+}
+
 pub fn dfn_run(counts: [usize; 3], load: Load, rows: usize) -> (Duration, Answer) {
     let (cell, mut lent, mut answer) = (dfn(counts), vec![-1.0; 8 * rows], vec![0; DFN_CELL + ENDING]);
     let started = clock::now();

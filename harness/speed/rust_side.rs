@@ -30,6 +30,24 @@ pub fn cell_run(n_nodes: usize, load: Load, rows: usize) -> (Duration, Answer) {
     (taken, vec![states.len() as u64, last.voltage.to_bits(), last.theta_pos_avg.to_bits()])
 }
 
+/// A recorded load, line by line: both fields from their digits, a step, a row.
+pub fn replays(n_nodes: usize, text: &[u8], temp_k: f64, times: usize) -> (Duration, Answer) {
+    let mut states = Vec::new();
+    let field = |digits: &[u8]| f64::from_bits(u64::from_str_radix(std::str::from_utf8(digits).expect("ASCII"), 16).expect("digits"));
+    let started = clock::now();
+    for _ in 0..times {
+        let mut solver = spm(n_nodes);
+        states.clear();
+        for line in black_box(text).chunks(34) {
+            let (dt, current_a) = (field(&line[..16]), field(&line[17..33]));
+            states.push(black_box(solver.step(current_a, dt, black_box(temp_k))));
+        }
+    }
+    let taken = clock::now() - started;
+    let last = states.last().expect("rows");
+    (taken, vec![states.len() as u64, last.voltage.to_bits(), last.theta_pos_avg.to_bits()])
+}
+
 fn dfn([n_x_neg, n_x_pos, n_r]: [usize; 3]) -> DfnSolver {
     DfnSolver::new(DfnParams::nmc_graphite(), DfnConfig { n_x_neg, n_x_pos, n_r, v_min: -10.0, v_max: 10.0, ..DfnConfig::default() })
 }

@@ -23,6 +23,12 @@ pub enum Kind {
     Count(u64, u64),
     /// the length of a lent slice, which is at least so much
     Length(u64),
+    /// how many bytes a text has, at most so many, else 12; those that are not listed are 0
+    TextLength(u64),
+    /// the first eight bytes of a line's first field, else 11
+    Digits,
+    /// not changed
+    Fixed,
     /// an array of `total` places, the first `used` in a range, the others +0
     Places { total: usize, used: usize, each: Range },
 }
@@ -78,6 +84,9 @@ impl Argument {
             Kind::Clock => words(limits(0.0, f64::MAX)),
             Kind::Count(low, high) => words(counts(low, high)),
             Kind::Length(least) => words(vec![0, 1, least - 1, least, least + 1, 2 * least - 1, 2 * least, 3 * least + 5]),
+            Kind::TextLength(most) => words(vec![most, most + 1]),
+            Kind::Digits => self.faults(),
+            Kind::Fixed => Vec::new(),
             Kind::Places { total, used, each } => {
                 let mut all = Vec::new();
                 let mut inside = vec![0, used / 2, used.saturating_sub(1)];
@@ -106,9 +115,11 @@ impl Argument {
             Kind::Load(_) => one(f64::NAN),
             Kind::Finite => one(f64::INFINITY),
             Kind::Clock => one(-1.0),
-            Kind::Free => Vec::new(),
+            Kind::Free | Kind::Fixed => Vec::new(),
             Kind::Count(_, high) => vec![Slot::Word(high + 1)],
             Kind::Length(least) => vec![Slot::Word(least - 1)],
+            Kind::TextLength(most) => vec![Slot::Word(most + 1)],
+            Kind::Digits => vec![Slot::Word(u64::from_be_bytes(*b"0000000g"))],
             Kind::Places { used, total, each } => {
                 let mut all = Vec::new();
                 if used > 0 {

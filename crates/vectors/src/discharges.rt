@@ -13,7 +13,7 @@ use discharge_run::simulate_discharge;
 use solver::SpmSolver;
 
 // Whether the next answer is r: the ending, the refusal, the rows; then, where there is a row, both profiles and the clock.
-fn is_run(fd: i32, before: SpmSolver, r: CellRun, rows: &[f64]) -> bool {
+pub(crate) fn is_run(fd: i32, before: SpmSolver, r: CellRun, rows: &[f64]) -> bool {
     let kind = r.ending;
     let number = next_u64(fd);
     let ending = is_ending(kind, number, next_u64(fd));

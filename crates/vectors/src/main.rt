@@ -9,6 +9,7 @@ mod functions;
 mod list;
 mod particles;
 mod ranges;
+mod replays;
 mod rows;
 mod run_only;
 mod sheets;
@@ -80,6 +81,8 @@ const RUN_GALVANOSTATIC: u64 = 28;
 
 const EXP: u64 = 29;
 
+const REPLAY: u64 = 30;
+
 // Whether a line agrees, whose first word is read already: of the inner parts, the sheet and the particle.
 fn small_line(which: u64, fd: i32, first: u64) -> bool {
     match which {
@@ -101,7 +104,7 @@ fn small_line(which: u64, fd: i32, first: u64) -> bool {
     }
 }
 
-// The same of the cells, the electrolyte, the equations, and E where it is largest and least.
+// The same of the cells, the electrolyte, the equations, E where it is largest and least, and recorded loads.
 fn large_line(which: u64, fd: i32, first: u64) -> bool {
     match which {
         READY_CELLS => cells::ready_line(fd, first),
@@ -120,6 +123,7 @@ fn large_line(which: u64, fd: i32, first: u64) -> bool {
         DFN_STEP => dfn_cells::step_line(fd, first),
         RUN_GALVANOSTATIC => dfn_cells::run_line(fd, first),
         EXP => functions::exp_line(fd, first),
+        REPLAY => replays::run_line(fd, first),
         _ => false,
     }
 }
@@ -206,7 +210,7 @@ fn replay_argument(which: usize) -> u64 {
 
 fn replay_all() -> u64 {
     let mut answers: u64 = 0;
-    for which in 0..30 {
+    for which in 0..31 {
         answers = std::num::wrapping_add_u64(answers, replay_argument(which));
     }
     answers

@@ -8,6 +8,7 @@ mod electrode;
 mod electrolyte;
 mod elementary;
 mod particle;
+mod replay;
 mod solver;
 
 pub struct List {
@@ -21,7 +22,7 @@ const fn list(name: &'static str, cases: fn(&mut Draw) -> Vec<Vec<Slot>>, answer
 }
 
 /// A new list goes to the end: a list's place is its seed.
-pub const ALL: [List; 30] = [
+pub const ALL: [List; 31] = [
     list("ranges", elementary::range_cases, elementary::ranges),
     list("elementary", elementary::function_cases, elementary::functions),
     list("powf", elementary::powf_cases, elementary::power),
@@ -52,6 +53,7 @@ pub const ALL: [List; 30] = [
     list("run_galvanostatic", dfn::run_cases, dfn::run),
     list("solve_dense", dense::cases, dense::solve),
     list("exp", elementary::exp_cases, elementary::exp),
+    list("replay", replay::cases, replay::answer),
 ];
 
 /// The answer of a call that gives a number.

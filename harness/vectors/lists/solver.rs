@@ -13,11 +13,11 @@ fn config_kinds() -> Vec<Kind> {
     std::iter::once(Kind::Count(3, 64)).chain(RANGES.iter().map(|range| Kind::Number(*range))).collect()
 }
 
-fn cell_kinds(cell: &Cell) -> Vec<Kind> {
+pub(super) fn cell_kinds(cell: &Cell) -> Vec<Kind> {
     [config_kinds(), particle::kinds(&cell.anode), particle::kinds(&cell.cathode), vec![Kind::Clock]].concat()
 }
 
-fn config(n_nodes: u64) -> Config {
+pub(super) fn config(n_nodes: u64) -> Config {
     Config { n_nodes, numbers: [2.5, 4.2, 96_485.0, 8.314, 2e-4] }
 }
 
@@ -25,13 +25,13 @@ fn random_config(draw: &mut Draw, n_nodes: u64) -> Config {
     Config { n_nodes, numbers: draw.all_within(&RANGES) }
 }
 
-fn pairs_of_sheets() -> [(Sheet, Sheet); 2] {
+pub(super) fn pairs_of_sheets() -> [(Sheet, Sheet); 2] {
     let [graphite, lfp, nmc] = ready_sheets();
     [(graphite, lfp), (graphite, nmc)]
 }
 
 /// A cell with drawn profiles and a clock.
-fn random_cell(draw: &mut Draw, config: Config, (anode, cathode): (Sheet, Sheet)) -> Cell {
+pub(super) fn random_cell(draw: &mut Draw, config: Config, (anode, cathode): (Sheet, Sheet)) -> Cell {
     let n = config.n_nodes;
     Cell {
         config,
@@ -90,7 +90,7 @@ fn one_sub_step(cell: &Cell, temp_k: f64) -> f64 {
 }
 
 /// Cells whose three counts of nodes are alike, at the limits and outside: neither particle's count differs from the config's.
-fn alike_counts() -> Vec<Cell> {
+pub(super) fn alike_counts() -> Vec<Cell> {
     let made = Cell::new(config(3), pairs_of_sheets()[0].0, pairs_of_sheets()[0].1).expect("ready sheets");
     let cell = |n: u64| {
         let mut cell = made.clone();
@@ -103,7 +103,7 @@ fn alike_counts() -> Vec<Cell> {
 }
 
 /// A ready cell whose diffusivity leaves its range at one electrode, at the temperature beside it.
-fn diffusivity_out(draw: &mut Draw, at_anode: bool, high: bool) -> (Cell, f64) {
+pub(super) fn diffusivity_out(draw: &mut Draw, at_anode: bool, high: bool) -> (Cell, f64) {
     let (mut anode, mut cathode) = pairs_of_sheets()[0];
     let sheet = if at_anode { &mut anode } else { &mut cathode };
     sheet.numbers[1] = if high { 1e-8 } else { 1e-20 };

@@ -1,0 +1,43 @@
+-- `vectors::replays::run_line` is safe and ends. Assumes nothing.
+use mathlib.Core.Path.{sym}
+use lib.Seq.{length-take-le}
+use borrow.Author.Needs.{needs}
+use Rattle.vectors.proofs.replays.run_line.Statement.{statement}
+use Rattle.vectors.proofs.replays.run_line.Tie as tie
+
+next-solver-requires : tie.Need-next-solver-requires
+next-solver-requires c κs = search needs
+
+next-u64-requires : tie.Need-next-u64-requires
+next-u64-requires c κs = search needs
+
+array-borrow-prefix-text : tie.Need-array-borrow-prefix-text
+array-borrow-prefix-text c = search needs
+
+slice-aggregate-lent : tie.Need-slice-aggregate-lent
+slice-aggregate-lent c = sym (length-take-le _ _ (c .before .if1 .taken))
+
+read-text-requires : tie.Need-read-text-requires
+read-text-requires c κs = search needs
+
+replay-agrees-requires : tie.Need-replay-agrees-requires
+replay-agrees-requires c κs = search needs
+
+returns : tie.Need-returns
+returns c = search needs
+
+returns-2 : tie.Need-returns-2
+returns-2 c = search needs
+
+pub run-line-spec : {M : Type 1} → statement M
+run-line-spec =
+    tie.close
+    (tie.spec
+    next-solver-requires
+    next-u64-requires
+    array-borrow-prefix-text
+    slice-aggregate-lent
+    read-text-requires
+    replay-agrees-requires
+    returns
+    returns-2)
