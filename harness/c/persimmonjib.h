@@ -7,11 +7,12 @@
  * Every pattern of a NaN is read as the NaN; an answer that is written holds no NaN and no infinity. Images may lie at any
  * address. Places of an array that are not used must be +0 by their bits.
  *
- * SLICES are a pointer and then a length: in bytes for images, answers and texts, in doubles for rows and matrices. A pointer must not
- * be null, not even that of an empty slice; what one call is lent must not overlap; doubles are aligned to 8.
+ * SLICES are a pointer and then a length: in bytes for images, answers and texts, in doubles for rows and matrices. A pointer
+ * must not be null, not even that of an empty slice; what one call is lent must not overlap; doubles are aligned to 8.
  *
  * EACH CALL RETURNS 0 or a PJ_REFUSAL_... Every length of an image and of an answer must be exact, else the call is refused with
- * PJ_REFUSAL_LENGTH before all else is looked at (but a replay's text that is too long). A refusal changes nothing that was lent; runs, below, are the exception.
+ * PJ_REFUSAL_LENGTH before all else is looked at, but for a replay's text that is too long. A refusal changes nothing that was
+ * lent; runs, below, are the exception.
  *
  * RANGES are closed, and no NaN and no infinity lies in one. A whole record is checked by every call.
  *

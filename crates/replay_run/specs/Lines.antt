@@ -1,6 +1,6 @@
 -- A recorded load as text: line k is bytes 34 k to 34 k + 33, the interval and then the current, each as the sixteen upper-case hexadecimal digits of its binary64 bits, with
 -- a tab between them and a line feed at the end. Definitions, and that sixteen digits are a word. Assumes nothing.
-use Prim.Native.Nat.{ℕ, zero, suc, _+_, _*_, _-_, _^_, _<_, _≤_}
+use Prim.Native.Nat.{ℕ, zero, suc, _+_, _*_, _-_, _^_, _<_}
 use mathlib.Core.Path.{_≡_, refl, sym, subst}
 use mathlib.Core.Bool.{Bool, true, false, cond, _&&_, _||_}
 use mathlib.Core.List.{List}

@@ -1,6 +1,5 @@
 -- `replay_run::lines::line_at` meets its contract: where 34 bytes are left, both words, the tab and the line feed are read. Assumes nothing.
 use Prim.Native.Nat.{_+_, _*_, _≤_, _<_}
-use mathlib.Core.Path.{_≡_}
 use native.Mathlib.Omega.{arith}
 use lib.ListN.{length}
 use borrow.Author.Tests.{le-leb, lt-leb}
