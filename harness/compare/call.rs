@@ -210,6 +210,7 @@ pub struct Call {
 }
 
 /// What a call answers: the number, the answer where it is written, the rows.
+#[derive(PartialEq)]
 pub struct Answer {
     pub number: u64,
     pub image: Option<Vec<u8>>,

@@ -653,6 +653,42 @@ fn dfn_overpotentials(draw: &mut Draw, _: u64) -> Case {
     Case { start: image_of(Record::DfnCell.parts(), &cell.slots()), turns: vec![Turn::new(draw, Function::DfnStep, &numbers)] }
 }
 
+/// Currents so small that H has arguments below 2^-10, on cells in which its last digits show: a step, a run or a replay of either model.
+fn low_rates(draw: &mut Draw, turn: u64) -> Case {
+    if turn % 2 == 0 {
+        let cell = records::bare_overpotentials(draw);
+        let (current, dt) = (records::low_current(draw, cell.params.numbers[3]), records::power(draw, -16.0, 10.0));
+        let last = if draw.below(3) == 0 {
+            let rows = slice_length(draw);
+            Turn::new(draw, Function::Galvanostatic, &[current, dt, 1e300]).with_rows(rows)
+        } else {
+            Turn::new(draw, Function::DfnStep, &[-current, dt])
+        };
+        let turns = vec![Turn::new(draw, Function::DfnStep, &[current, dt]), last];
+        return Case { start: image_of(Record::DfnCell.parts(), &cell.slots()), turns };
+    }
+    let n = draw.count(3, 12);
+    let cell = records::equal_electrodes(draw, n);
+    let (area, temp_k) = (cell.anode.sheet.numbers[6], cell_temperature(draw, &cell));
+    let dt = (least_interval(&cell, temp_k) * records::power(draw, -2.0, 2.0)).clamp(f64::from_bits(1), 86_400.0);
+    let current = records::low_current(draw, area);
+    let last = match draw.below(3) {
+        0 => {
+            let rows = slice_length(draw);
+            Turn::new(draw, Function::Discharge, &[current, dt, temp_k, 1e300]).with_rows(rows)
+        }
+        1 => {
+            let loads: Vec<[f64; 2]> = (0..draw.count(1, 12)).map(|_| [dt, records::low_current(draw, area)]).collect();
+            let mut turn = Turn::new(draw, Function::Replay, &[temp_k]).with_rows(8 * loads.len());
+            turn.call.text = texts::text_of(&loads);
+            turn
+        }
+        _ => Turn::new(draw, Function::CellStep, &[-current, dt, temp_k]),
+    };
+    let turns = vec![Turn::new(draw, Function::CellStep, &[current, dt, temp_k]), last];
+    Case { start: image_of(Record::Cell.parts(), &cell.slots()), turns }
+}
+
 fn galvanostatic(draw: &mut Draw, _: u64) -> Case {
     let (mut cell, mut build) = some_dfn(draw);
     let (current, dt) = (dfn_current(draw, &cell), dfn_interval(draw, &cell));
@@ -779,10 +815,11 @@ fn random_byte(draw: &mut Draw, turn: u64) -> Case {
 }
 
 /// The plans in turn, some more often than others.
-pub const PLANS: [Plan; 27] = [
+pub const PLANS: [Plan; 28] = [
     sheet_numbers, particle_steps, cell_steps, electrolyte_steps, dfn_steps, solve, discharges, galvanostatic, ready, salt_numbers,
     particle_steps, cell_steps, random_byte, dfn_steps, solve, sphere, electrolyte_steps, random_images, particle_steps, cell_steps,
     sheet_numbers, dfn_steps, discharges, galvanostatic, dfn_exponents, dfn_overpotentials, replays,
+    low_rates,
 ];
 
 /// A case by its number; it depends on the seed and the number alone.

@@ -9,6 +9,7 @@ mod cases;
 #[allow(dead_code)]
 #[path = "../vectors/draw.rs"]
 mod draw;
+mod earlier;
 mod images;
 mod records;
 mod shrink;

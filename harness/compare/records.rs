@@ -126,6 +126,26 @@ pub fn current(draw: &mut Draw, area: f64) -> f64 {
     }
 }
 
+/// A current at which the overpotentials' arguments are small, mostly below 2^-10.
+pub fn low_current(draw: &mut Draw, area: f64) -> f64 {
+    area * power(draw, -70.0, 0.0) * sign(draw)
+}
+
+/// A cell of two equal electrodes, whose open-circuit voltages cancel: the last digits of the overpotentials show.
+pub fn equal_electrodes(draw: &mut Draw, n: u64) -> Cell {
+    let sheet = if draw.below(2) == 0 { Sheet::graphite_anode() } else { Sheet { chemistry: 1, ..sheet(draw) } };
+    let particle = particle(draw, sheet, n);
+    Cell { config: config(draw, n), anode: particle.clone(), cathode: particle, time_s: clock(draw) }
+}
+
+/// A DFN cell whose voltage is the overpotentials of its electrodes alone.
+pub fn bare_overpotentials(draw: &mut Draw) -> dfn::Cell {
+    let none = Coefficients::of(&[]);
+    let params = dfn::Params { ocv_neg: none, ocv_pos: none, ..dfn_params(draw) };
+    let config = dfn::Config { counts: [1, draw.count(1, 3), draw.count(2, 4)], voltages: [-10.0, 10.0] };
+    dfn::Cell::new(params, config).expect("parameters in range")
+}
+
 pub fn salt(draw: &mut Draw) -> Params {
     let ready = Params::lipf6_ec_dmc();
     match draw.below(4) {

@@ -1,5 +1,6 @@
 //! What was compared: by call, accepted and refused, and by refusal number; endings, counts of nodes, orders.
 use crate::call::{listed, Answer, Call, Function};
+use crate::earlier::Earlier;
 use crate::images::words_of;
 use calls::replay::MOST_LINES;
 use calls::runs::Ending;
@@ -28,6 +29,7 @@ pub struct Tally {
     cell_nodes: BTreeSet<u64>,
     orders: BTreeSet<u64>,
     unexpected: BTreeSet<String>,
+    earlier: Earlier,
 }
 
 const ENDINGS: [(Function, &str); 13] = [
@@ -58,6 +60,7 @@ impl Tally {
                 self.unexpected.insert(format!("{name} was refused with {}, which its row of the table does not have", oracle.number));
             }
         }
+        self.earlier.add(call, oracle);
         self.calls += 1;
         self.kept_bytes += kept_bytes;
         let words = oracle.image.as_deref().map(words_of).unwrap_or_default();
@@ -116,6 +119,7 @@ impl Tally {
         self.cell_nodes.extend(other.cell_nodes);
         self.orders.extend(other.orders);
         self.unexpected.extend(other.unexpected);
+        self.earlier.join(other.earlier);
     }
 
     /// The table, and what is missing for a comparison that has seen everything.
@@ -158,6 +162,9 @@ impl Tally {
                 missing.push(format!("{what}: not all were seen"));
             }
         }
+        println!();
+        missing.extend(self.earlier.print());
+        println!();
         println!("rows of the longest replay: {} of {MOST_LINES}", self.longest_replay);
         if self.longest_replay != MOST_LINES as u64 {
             missing.push("no replay of the longest text".to_string());

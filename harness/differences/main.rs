@@ -1,5 +1,7 @@
 //! Prints, for each entry of docs/DIFFERENCES.md, what the oracle gives for the input that shows it, beside what the source
-//! of the model or the plain formula would give.
+//! of the model or the plain formula would give; with the argument `low_rates` the curve of the overpotential at tiny currents.
+mod low_rates;
+
 use calls::dfn;
 use calls::electrode::Sheet;
 use calls::electrolyte::{Electrolyte, Params, Regions};
@@ -163,6 +165,17 @@ fn stand_ins() {
 }
 
 fn main() {
+    match std::env::args().nth(1).as_deref() {
+        None => print_differences(),
+        Some("low_rates") => low_rates::print_curve(),
+        Some(_) => {
+            eprintln!("differences: no argument, or low_rates");
+            std::process::exit(2);
+        }
+    }
+}
+
+fn print_differences() {
     anode_curve();
     lfp_curve();
     clamped_run();
@@ -175,4 +188,6 @@ fn main() {
     dfn_discharge();
     electrolyte();
     stand_ins();
+    low_rates::print_grain();
+    low_rates::print_rows();
 }

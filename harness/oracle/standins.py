@@ -4,7 +4,7 @@
     standins.py PROGRAM
 
 PROGRAM is print_standins.rs, compiled. Both get the same arguments: specials, subnormals, all powers of two, the thresholds
-and their neighbours, where E has its largest and least values, and random bit patterns from a fixed seed. One line says how
+and their neighbours, where E has its largest and least values, where H is by its series, and random bit patterns from a fixed seed. One line says how
 many agreed; any difference is status 1.
 Python's floats are binary64 and each operation below rounds once; the square root is worked out in whole numbers.
 """
@@ -90,6 +90,8 @@ def H(x):
     if x != x:
         return x
     a = abs(x)
+    if a < 2.0**-10:
+        return x * (1.0 - x * x / 6.0)
     return math.copysign(L(a + S(a * a + 1.0)), x)
 
 
@@ -109,8 +111,9 @@ def arguments():
     moderate = [to_bits(rng.uniform(-1, 1) * 10.0 ** rng.uniform(-6, 3)) for _ in range(50000)]
     patterns = [rng.getrandbits(64) for _ in range(100000)]
     largest = [to_bits(rng.choice((1, -1)) * rng.uniform(650, 709)) for _ in range(20000)]
+    small = [to_bits(rng.uniform(-1, 1) * 2.0 ** rng.uniform(-60, -10)) for _ in range(20000)]
     powers = [0.5, 1.5, 0.0, 1.0, 2.0, 4.0]
-    for n in sorted(bits) + subnormals + moderate + patterns + list(TERMS) + largest:
+    for n in sorted(bits) + subnormals + moderate + patterns + list(TERMS) + largest + small:
         b = rng.choice(powers) if rng.getrandbits(1) else rng.uniform(-40, 40)
         yield n, to_bits(b)
 

@@ -1,5 +1,6 @@
 //! The stand-ins (docs/REFERENCE.md) for exp, ln, powf, asinh and powi: each operation rounds once, in the order written there.
 //! The square root is the machine's, which is correctly rounded; standins.py has it by whole numbers.
+use std::cell::Cell;
 
 /// c of L: the binary64 nearest to the natural logarithm of 2.
 const LN_2: f64 = f64::from_bits(0x3FE6_2E42_FEFA_39EF);
@@ -66,8 +67,41 @@ pub fn ln(x: f64) -> f64 {
     f64::from(k) * LN_2 + (2.0 * s) * a
 }
 
-/// H(x).
+thread_local! {
+    /// How many arguments of H were below 2^-10 in size, in this thread.
+    static SMALL_ARGUMENTS: Cell<u64> = const { Cell::new(0) };
+    /// Whether H is by L there too, as it was before change request (ii).
+    static ALL_BY_LN: Cell<bool> = const { Cell::new(false) };
+}
+
+/// What `ask` gives, and how many arguments of H below 2^-10 in size it met.
+pub fn with_small_arguments<R>(ask: impl FnOnce() -> R) -> (R, u64) {
+    let before = SMALL_ARGUMENTS.get();
+    let given = ask();
+    (given, SMALL_ARGUMENTS.get() - before)
+}
+
+/// What `ask` gives with H as it was before change request (ii).
+pub fn with_earlier_asinh<R>(ask: impl FnOnce() -> R) -> R {
+    ALL_BY_LN.set(true);
+    let given = ask();
+    ALL_BY_LN.set(false);
+    given
+}
+
+/// H(x): below 2^-10 in size by two terms of its series, else by L.
 pub fn asinh(x: f64) -> f64 {
+    if x.abs() < 0.0009765625 {
+        SMALL_ARGUMENTS.set(SMALL_ARGUMENTS.get() + 1);
+        if !ALL_BY_LN.get() {
+            return x * (1.0 - (x * x) / 6.0);
+        }
+    }
+    asinh_by_ln(x)
+}
+
+/// L(a + S(a * a + 1)), a = |x|, with the sign of x.
+fn asinh_by_ln(x: f64) -> f64 {
     if x.is_nan() {
         return x;
     }

@@ -101,6 +101,9 @@ abbrev pub «0·0002» : Float
 abbrev pub «0·0004» : Float
 «0·0004» = f64 0x3f3a_36e2_eb1c_432d
 
+abbrev pub «0·0009765625» : Float
+«0·0009765625» = f64 0x3f50_0000_0000_0000
+
 abbrev pub «0·001» : Float
 «0·001» = f64 0x3f50_624d_d2f1_a9fc
 
@@ -433,6 +436,7 @@ pub literals : T (areDecimals
     literal «0·0001» 1 4 ∷
     literal «0·0002» 2 4 ∷
     literal «0·0004» 4 4 ∷
+    literal «0·0009765625» 9765625 10 ∷
     literal «0·001» 1 3 ∷
     literal «0·0019» 19 4 ∷
     literal «0·00390625» 390625 8 ∷

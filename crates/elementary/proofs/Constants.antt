@@ -3,6 +3,7 @@ use mathlib.Core.Bool.{false}
 use lib.Ieee.{ofBits}
 use Rattle.binary64.specs.Range.{Most, Within}
 use Rattle.binary64.specs.RangeTests.{literal}
+use Rattle.binary64.specs.Literals.{«6·0»}
 use Rattle.elementary.specs.Exp.{one, scale}
 use Rattle.elementary.specs.Ln.{two, ln2, twentyThree}
 
@@ -13,6 +14,10 @@ at-1 = literal one 1 1 1 1 tt tt tt tt tt
 pub at-2 : Within two 2 1 2 1
 unfolding ofBits
 at-2 = literal two 2 1 2 1 tt tt tt tt tt
+
+pub at-6 : Within «6·0» 6 1 6 1
+unfolding ofBits
+at-6 = literal «6·0» 6 1 6 1 tt tt tt tt tt
 
 pub at-23 : Within twentyThree 23 1 23 1
 unfolding ofBits

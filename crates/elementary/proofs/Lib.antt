@@ -7,6 +7,7 @@ pub mod Constants
 pub mod ExpRange
 pub mod LnRange
 pub mod PowRange
+pub mod AsinhForms
 pub mod AsinhRange
 pub mod ArrheniusRange
 pub mod Specials

@@ -9,7 +9,7 @@ use Rattle.square_root.specs.Root.{sqrtOf, rounded, wholeRoot, rootBelow}
 use Rattle.elementary.specs.Exp.{one, series, squarings, powered, expOf}
 use Rattle.elementary.specs.Ln.{terms, lnParts, lnSplit, lnOf}
 use Rattle.min_max.specs.MinMax.{absOf, signumOf, clampOf, maxOf, minOf}
-use Rattle.elementary.specs.Asinh.{asinhOf}
+use Rattle.elementary.specs.Asinh.{asinhLog, asinhTaylor, asinhOf}
 use Rattle.elementary.specs.Power.{powfOf}
 use Rattle.min_max.specs.Count.{ceilOf}
 
@@ -55,12 +55,12 @@ unfolding mul
 nan-mul b = refl
 
 asinh-at-zero : (s : Bool) → asinhOf (fin s 0 (pos 0)) ≡ fin s 0 (pos 0)
-unfolding asinhOf lnOf lnSplit lnParts terms sqrtOf rounded wholeRoot rootBelow add sub mul div neg le round size ofInt ofBits
+unfolding asinhOf asinhTaylor sub mul div lt round size ofBits
 asinh-at-zero true = refl
 asinh-at-zero false = refl
 
 asinh-at-infinity : (s : Bool) → asinhOf (inf s) ≡ inf s
-unfolding asinhOf lnOf sqrtOf add mul neg ofBits
+unfolding asinhOf asinhLog lnOf sqrtOf add mul neg lt ofBits
 asinh-at-infinity true = refl
 asinh-at-infinity false = refl
 
@@ -76,7 +76,7 @@ not-below-nan (inf s) = refl
 not-below-nan (fin s m e) = refl
 
 pub specials : Specials
-unfolding expOf lnOf asinhOf powfOf ceilOf sqrtOf lt isNan neg add mul ofBits
+unfolding expOf lnOf asinhOf asinhLog powfOf ceilOf sqrtOf lt isNan neg add mul ofBits
 specials = record {
   exp-nan = exp-at-nan;
   exp-infinity = refl;

@@ -168,11 +168,14 @@ pub fn ln(x: f64) -> f64
     ln_parts(m, exponent(w))
 }
 
-// H, the inverse hyperbolic sine of x.
+// H, the inverse hyperbolic sine of x. Below 2 ^ -10 in size by two terms of the Taylor series: the logarithm's form would lose the last places of x.
 pub fn asinh(x: f64) -> f64
     ensures { λ r. ⌜ r ≡ asinhOf x ⌝ }
 {
     let a = min_max::abs(x);
+    if a < 0.0009765625 {
+        return x * (1.0 - (x * x) / 6.0);
+    }
     let r = ln(a + square_root::sqrt(a * a + 1.0));
     if min_max::is_negative(x) {
         return -r;

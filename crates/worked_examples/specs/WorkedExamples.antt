@@ -12,7 +12,7 @@ use Rattle.binary64.specs.Operators.{f64}
 use Rattle.square_root.specs.Root.{sqrtOf, rounded, wholeRoot, rootBelow}
 use Rattle.elementary.specs.Exp.{series, squarings, powered, expOf}
 use Rattle.elementary.specs.Ln.{terms, lnParts, lnSplit, lnOf}
-use Rattle.elementary.specs.Asinh.{asinhOf}
+use Rattle.elementary.specs.Asinh.{asinhTaylor, asinhOf}
 use Rattle.min_max.specs.Count.{ceilOf}
 use Rattle.refusal.specs.Numbers.{refusalUnless, firstRefusal}
 use Rattle.iterate.specs.Iterate.{firstBy, allBelow}
@@ -99,7 +99,7 @@ pub record WorkedExamples : Type 0 where
   pub two-nodes : solidAfter twoNodes (num 10 ∷ num 20 ∷ replicate 510 (num 0)) 1 .c ≡ num 20 ∷ num 20 ∷ replicate 510 (num 0)
 
 pub worked-examples : WorkedExamples
-unfolding expOf powered series squarings lnOf lnSplit lnParts terms sqrtOf rounded wholeRoot rootBelow asinhOf ceilOf planRefusal finished firstBy allBelow turnsFrom forRange unlessRefused tryRange candidate larger pivotOf swapped rowsSwapped rowReduced rowLess rowCleared columnCleared pivotTaken columnWith columnDone eliminated takenOut columnSolved substituted placeLoaded rowLoaded matrixLoaded loaded reduced solution inputRefusal solutionRefusal answer solved refusalUnless firstRefusal innerWeight weight placesBy dSolids innerWith surfaceWith centreWith nodeWith particleWith particlesWith surfacesWith solidAfter isNan lt le add sub mul div neg round ofInt size ofBits toBits
+unfolding expOf powered series squarings lnOf lnSplit lnParts terms sqrtOf rounded wholeRoot rootBelow asinhTaylor asinhOf ceilOf planRefusal finished firstBy allBelow turnsFrom forRange unlessRefused tryRange candidate larger pivotOf swapped rowsSwapped rowReduced rowLess rowCleared columnCleared pivotTaken columnWith columnDone eliminated takenOut columnSolved substituted placeLoaded rowLoaded matrixLoaded loaded reduced solution inputRefusal solutionRefusal answer solved refusalUnless firstRefusal innerWeight weight placesBy dSolids innerWith surfaceWith centreWith nodeWith particleWith particlesWith surfacesWith solidAfter isNan lt le add sub mul div neg round ofInt size ofBits toBits
 worked-examples = record {
   exp-0 = refl;
   ln-1 = refl;

@@ -1,4 +1,5 @@
 //! The DFN cell's calls and its run, and the ready parameters of both electrolyte models.
+use super::{about_small_limit, low_current};
 use crate::cover::{arguments, one_fault, pairs, singles, Argument, Kind};
 use crate::draw::Draw;
 use calls::dfn::{
@@ -133,6 +134,28 @@ fn overpotentials(draw: &mut Draw) -> Cell {
     cell
 }
 
+/// A cell without open-circuit voltage and with an even electrolyte: its voltage is the overpotentials of both electrodes and the ohmic drop.
+fn bare_overpotentials(draw: &mut Draw) -> Cell {
+    let none = Coefficients::of(&[]);
+    let params = Params { ocv_neg: none, ocv_pos: none, ..draw.pick(&[Params::nmc_graphite(), Params::lfp_graphite()]) };
+    let config = Config { counts: [1, draw.count(1, 3), draw.count(2, 4)], voltages: [-10.0, 10.0] };
+    Cell::new(params, config).expect("parameters in range")
+}
+
+/// Small currents on such cells, and those next to which H changes its form.
+fn low_rate_steps(draw: &mut Draw) -> Vec<Vec<Slot>> {
+    let mut all = Vec::new();
+    for turn in 0..60 {
+        let cell = bare_overpotentials(draw);
+        let (current, dt) = (low_current(draw, cell.params.numbers[3]), draw.within(range(1e-6, 1.0)));
+        all.push(stepping(&cell, current, dt));
+        if turn < 10 {
+            all.extend(about_small_limit(|current| drop(cell.step(current, dt))).map(|current| stepping(&cell, current, dt)));
+        }
+    }
+    all
+}
+
 pub fn step_cases(draw: &mut Draw) -> Vec<Vec<Slot>> {
     let mut all = Vec::new();
     let cell = random_cell(draw, Params::nmc_graphite(), config([2, 1, 3]));
@@ -170,6 +193,7 @@ pub fn step_cases(draw: &mut Draw) -> Vec<Vec<Slot>> {
         let current = if turn % 6 == 0 { 0.0 } else { draw.within(range(1e-6, 1e3)) };
         all.push(stepping(&overpotentials(draw), current, draw.within(range(1e-6, 1.0))));
     }
+    all.extend(low_rate_steps(draw));
     all
 }
 
@@ -226,6 +250,10 @@ pub fn run_cases(draw: &mut Draw) -> Vec<Vec<Slot>> {
         let params = draw.pick(&[Params::nmc_graphite(), Params::lfp_graphite()]);
         let cell = random_cell(draw, params, config(counts));
         all.push(running(&cell, [draw.uniform(-50.0, 50.0), draw.uniform(0.5, 5.0), cell.time_s + draw.uniform(-5.0, 60.0)], draw.count(8, 120)));
+    }
+    for _ in 0..8 {
+        let cell = bare_overpotentials(draw);
+        all.push(running(&cell, [low_current(draw, cell.params.numbers[3]), 0.1, 1e9], 160));
     }
     all
 }

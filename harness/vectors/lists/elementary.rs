@@ -46,6 +46,8 @@ pub fn function_cases(draw: &mut Draw) -> Vec<Vec<Slot>> {
     all.extend((0..2000).map(|_| f64::from_bits(draw.bits() >> (12 + draw.below(40)))));
     // where L's last terms matter most
     all.extend((0..3000).map(|_| draw.uniform(1.48, 1.5)));
+    // where H is by its series
+    all.extend((0..2000).map(|_| draw.pick(&[1.0, -1.0]) * draw.within(range(8.7e-19, 0.0009765625))));
     all.iter().map(|x| vec![float(*x)]).collect()
 }
 

@@ -1,6 +1,8 @@
 //! The lists, a file for each source file of the Rust.
 use crate::draw::Draw;
+use calls::table::range;
 use calls::words::Slot;
+use oracle::standins::with_small_arguments;
 
 mod dense;
 mod dfn;
@@ -55,6 +57,28 @@ pub const ALL: [List; 31] = [
     list("exp", elementary::exp_cases, elementary::exp),
     list("replay", replay::cases, replay::answer),
 ];
+
+/// The currents next to which the overpotentials' argument passes 2^-10: of the discharges that `step` makes, the largest that still meets one
+/// below, and the next two binary64.
+fn about_small_limit(step: impl Fn(f64)) -> [f64; 3] {
+    let met = |bits: u64| with_small_arguments(|| step(f64::from_bits(bits))).1 > 0;
+    let (mut low, mut high) = (1e-12f64.to_bits(), 1e6f64.to_bits());
+    assert!(met(low) && !met(high), "no such current");
+    while high - low > 1 {
+        let middle = low + (high - low) / 2;
+        if met(middle) {
+            low = middle;
+        } else {
+            high = middle;
+        }
+    }
+    [low, high, high + 1].map(f64::from_bits)
+}
+
+/// A current by which, per area, the overpotentials' arguments are mostly small.
+fn low_current(draw: &mut Draw, area: f64) -> f64 {
+    area * draw.pick(&[1.0, -1.0]) * draw.within(range(1e-18, 1.0))
+}
 
 /// The answer of a call that gives a number.
 pub fn number(result: Result<f64, u64>) -> Vec<Slot> {

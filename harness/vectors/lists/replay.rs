@@ -1,5 +1,6 @@
 //! A recorded load on the single-particle cell.
-use super::solver::{alike_counts, cell_kinds, config, diffusivity_out, pairs_of_sheets, random_cell};
+use super::low_current;
+use super::solver::{alike_counts, cell_kinds, config, diffusivity_out, equal_electrodes, pairs_of_sheets, random_cell};
 use crate::cover::{arguments, one_fault, pairs, singles, Argument, Kind};
 use crate::draw::Draw;
 use calls::replay::{LINE, MOST_TEXT};
@@ -281,6 +282,11 @@ pub fn cases(draw: &mut Draw) -> Vec<Vec<Slot>> {
     all.extend(refused_steps(draw, &lfp));
     all.extend(drawn(draw));
     all.extend(alike_counts().iter().map(|cell| replaying(cell, &text(&LINES), T, 24)));
+    for _ in 0..8 {
+        let cell = equal_electrodes(draw);
+        let loads: Vec<[f64; 2]> = (0..12).map(|_| [0.1, low_current(draw, cell.anode.sheet.numbers[6])]).collect();
+        all.push(replaying(&cell, &text(&loads), T, 96));
+    }
     all
 }
 

@@ -1,6 +1,6 @@
 //! The single-particle cell's calls and its run.
 use super::electrode::{self, random_sheet, ready_sheets};
-use super::{number, particle};
+use super::{about_small_limit, low_current, number, particle};
 use crate::cover::{arguments, one_fault, pairs, singles, Argument, Kind};
 use crate::draw::Draw;
 use calls::electrode::Sheet;
@@ -135,6 +135,30 @@ fn diffusivity_at_limits() -> Vec<(Cell, f64)> {
     all
 }
 
+/// Graphite against graphite, both alike: the open-circuit voltages cancel, and at a small current the last digits of the overpotentials show.
+pub(super) fn equal_electrodes(draw: &mut Draw) -> Cell {
+    let (n, graphite) = (draw.count(3, 8), ready_sheets()[0]);
+    let mut cell = random_cell(draw, config(n), (graphite, graphite));
+    cell.cathode = cell.anode.clone();
+    cell.config.numbers[..2].copy_from_slice(&[-10.0, 10.0]);
+    cell
+}
+
+/// Small currents of both signs on such cells, and those next to which H changes its form.
+fn low_rate_steps(draw: &mut Draw) -> Vec<Vec<Slot>> {
+    let mut all = Vec::new();
+    for turn in 0..60 {
+        let cell = equal_electrodes(draw);
+        let temp_k = draw.uniform(270.0, 330.0);
+        all.push(stepping(&cell, low_current(draw, cell.anode.sheet.numbers[6]), 0.1, temp_k));
+        if turn < 10 {
+            let limit = about_small_limit(|current| drop(cell.step(current, 0.1, temp_k)));
+            all.extend(limit.into_iter().flat_map(|current| [current, -current]).map(|current| stepping(&cell, current, 0.1, temp_k)));
+        }
+    }
+    all
+}
+
 pub fn step_cases(draw: &mut Draw) -> Vec<Vec<Slot>> {
     let mut all = Vec::new();
     for (sheets, n) in pairs_of_sheets().into_iter().zip([3, 4]) {
@@ -190,6 +214,7 @@ pub fn step_cases(draw: &mut Draw) -> Vec<Vec<Slot>> {
     }
     all.extend(alike_counts().iter().map(|cell| stepping(cell, 3.0, 1.0, 298.15)));
     all.extend(diffusivity_at_limits().iter().map(|(cell, temp_k)| stepping(cell, 3.0, 0.01, *temp_k)));
+    all.extend(low_rate_steps(draw));
     all
 }
 
@@ -280,6 +305,10 @@ pub fn run_cases(draw: &mut Draw) -> Vec<Vec<Slot>> {
     all.extend(alike_counts().iter().map(|cell| running(cell, [3.0, 1.0, 298.15, 2.0], 24)));
     // no step is due, and each fault is refused all the same
     all.extend(one_fault(&run_base(&lfp, [3.0, 1.0, 298.15, 0.0], 16)));
+    for _ in 0..8 {
+        let cell = equal_electrodes(draw);
+        all.push(running(&cell, [low_current(draw, cell.anode.sheet.numbers[6]), 0.1, 298.15, 1e9], 160));
+    }
     all
 }
 
