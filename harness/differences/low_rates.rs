@@ -63,12 +63,13 @@ pub fn print_rows() {
     }
 }
 
-/// A DFN cell of slow kinetics without open-circuit voltage: its voltage is the overpotentials of both electrodes, less a far smaller ohmic drop.
+/// A DFN cell of slow kinetics without open-circuit voltage and with hardly a resistance: its voltage is the overpotentials of both electrodes.
 fn bare_cell() -> dfn::Cell {
     let none = dfn::Coefficients::of(&[]);
     let mut params = dfn::Params { ocv_neg: none, ocv_pos: none, ..dfn::Params::nmc_graphite() };
-    params.numbers[9] = 1e-11;
-    params.numbers[15] = 1e-11;
+    for (at, to) in [(9, 1e-11), (15, 1e-11), (20, 100.0)] {
+        params.numbers[at] = to;
+    }
     dfn::Cell::new(params, dfn::Config { counts: [1, 1, 2], voltages: [-10.0, 10.0] }).expect("parameters in range")
 }
 

@@ -50,6 +50,8 @@ FIRST_STEP = because("a first step is always made, and answers the same number w
 TERM = "a = 1.0 + (a * y) / f64::from(k);"
 RESULT = "f64::from(k) * LN_2 + (2.0 * s) * a"
 ROOT = "ln(a + (a * a + 1.0).sqrt()).copysign(x)"
+SMALL = "x.abs() < 0.0009765625"
+SERIES = "x * (1.0 - (x * x) / 6.0)"
 
 STANDINS = [
     ("E: a NaN is not looked for", "    if t.is_nan() {\n        return t;\n    }\n", "", NAN),
@@ -113,11 +115,29 @@ STANDINS = [
     ("H: x for its size", "let a = x.abs();", "let a = x;"),
     ("H: without the sign", ROOT, "ln(a + (a * a + 1.0).sqrt())"),
     ("H: the other sign", ROOT, "-ln(a + (a * a + 1.0).sqrt()).copysign(x)"),
-    ("H: +0 at -0", ROOT, "if x == 0.0 { 0.0 } else { ln(a + (a * a + 1.0).sqrt()).copysign(x) }"),
     ("H: a*a - 1", ROOT, "ln(a + (a * a - 1.0).sqrt()).copysign(x)"),
     ("H: a*a + 1 rounded once", ROOT, "ln(a + a.mul_add(a, 1.0).sqrt()).copysign(x)"),
     ("H: the root minus a", ROOT, "ln((a * a + 1.0).sqrt() - a).copysign(x)"),
     ("H: powf(0.5) for the root", ROOT, "ln(a + powf(a * a + 1.0, 0.5)).copysign(x)"),
+    ("H: 2^-10 by the series", SMALL, "x.abs() <= 0.0009765625"),
+    ("H: the number before 2^-10 by L", SMALL, "x.abs() < " + as_rust(below(2.0**-10))),
+    ("H: the series up to 0.001", SMALL, "x.abs() < 0.001"),
+    ("H: the series up to 2^-9", SMALL, "x.abs() < 0.001953125"),
+    ("H: the series up to 2^-11", SMALL, "x.abs() < 0.00048828125"),
+    ("H: the series for all x below 2^-10", SMALL, "x < 0.0009765625"),
+    ("H: the series for x above 0 alone", SMALL, "x > 0.0 && x < 0.0009765625"),
+    ("H: without the series", SMALL, "x.abs() < 0.0"),
+    ("H: x - x^3/6", SERIES, "x - x * (x * x) / 6.0"),
+    ("H: x*(1 - x*(x/6))", SERIES, "x * (1.0 - x * (x / 6.0))"),
+    ("H: (x*x)*(1/6)", SERIES, "x * (1.0 - (x * x) * (1.0 / 6.0))"),
+    ("H: 1 - (x*x)/6 rounded once", SERIES, "x * (-x).mul_add(x / 6.0, 1.0)"),
+    ("H: x*(1 + (x*x)/6)", SERIES, "x * (1.0 + (x * x) / 6.0)"),
+    ("H: x*(1 - (x*x)/3)", SERIES, "x * (1.0 - (x * x) / 3.0)"),
+    ("H: a third term", SERIES, "x * (1.0 - (x * x) / 6.0 * (1.0 - 0.45 * (x * x)))"),
+    ("H: x alone", SERIES, "x"),
+    ("H: the series without the sign", SERIES, "x.abs() * (1.0 - (x * x) / 6.0)"),
+    ("H: the series with the other sign", SERIES, "-x * (1.0 - (x * x) / 6.0)"),
+    ("H: +0 at -0", SERIES, "x * (1.0 - (x * x) / 6.0) + 0.0"),
     ("powf: the root for 0.5", "exp(b * ln(x))", "if b == 0.5 { x.sqrt() } else { exp(b * ln(x)) }"),
     ("powf: 1 for the power 0", "exp(b * ln(x))", "if b == 0.0 { 1.0 } else { exp(b * ln(x)) }"),
     ("powf: E(-b*L(x))", "exp(b * ln(x))", "exp(-b * ln(x))"),

@@ -24,6 +24,8 @@ TERMS = {
     0x4085A4E950557529: 0x7E62C62B37F85577,
     0xC084E6459E554398: 0x03A1BC8B24E18597,
 }
+# where H has other bits with x*(x/6) or (x*x)*(1/6) for (x*x)/6, or with 1 - (x*x)/6 rounded once
+SIXTHS = [0x3F4B48A41E82F2E3, 0x3F4A9074535F40E0, 0x3F4AEF3998F375E3, 0x3F4E621C8A8BB511, 0x3F4686D8EC55F657]
 
 
 def to_bits(x):
@@ -113,7 +115,7 @@ def arguments():
     largest = [to_bits(rng.choice((1, -1)) * rng.uniform(650, 709)) for _ in range(20000)]
     small = [to_bits(rng.uniform(-1, 1) * 2.0 ** rng.uniform(-60, -10)) for _ in range(20000)]
     powers = [0.5, 1.5, 0.0, 1.0, 2.0, 4.0]
-    for n in sorted(bits) + subnormals + moderate + patterns + list(TERMS) + largest + small:
+    for n in sorted(bits) + subnormals + moderate + patterns + list(TERMS) + SIXTHS + largest + small:
         b = rng.choice(powers) if rng.getrandbits(1) else rng.uniform(-40, 40)
         yield n, to_bits(b)
 

@@ -39,6 +39,10 @@ fn any(draw: &mut Draw) -> f64 {
     f64::from_bits(draw.bits())
 }
 
+/// Arguments at which H has other bits with x*(x/6) or (x*x)*(1/6) for (x*x)/6, or with 1 - (x*x)/6 rounded once.
+const SIXTHS: [u64; 5] =
+    [0x3F4B_48A4_1E82_F2E3, 0x3F4A_9074_535F_40E0, 0x3F4A_EF39_98F3_75E3, 0x3F4E_621C_8A8B_B511, 0x3F46_86D8_EC55_F657];
+
 pub fn function_cases(draw: &mut Draw) -> Vec<Vec<Slot>> {
     let mut all = specials();
     all.extend((0..6000).map(|_| any(draw)));
@@ -48,6 +52,7 @@ pub fn function_cases(draw: &mut Draw) -> Vec<Vec<Slot>> {
     all.extend((0..3000).map(|_| draw.uniform(1.48, 1.5)));
     // where H is by its series
     all.extend((0..2000).map(|_| draw.pick(&[1.0, -1.0]) * draw.within(range(8.7e-19, 0.0009765625))));
+    all.extend(SIXTHS.iter().map(|n| f64::from_bits(*n)));
     all.iter().map(|x| vec![float(*x)]).collect()
 }
 
