@@ -12,6 +12,14 @@ struct Counts {
     moved: u64,
 }
 
+impl Counts {
+    fn add(&mut self, other: Self) {
+        self.none_met += other.none_met;
+        self.same += other.same;
+        self.moved += other.moved;
+    }
+}
+
 #[derive(Default)]
 pub struct Earlier {
     by_function: BTreeMap<Function, Counts>,
@@ -39,10 +47,7 @@ impl Earlier {
 
     pub fn join(&mut self, other: Self) {
         for (function, counts) in other.by_function {
-            let own = self.by_function.entry(function).or_default();
-            own.none_met += counts.none_met;
-            own.same += counts.same;
-            own.moved += counts.moved;
+            self.by_function.entry(function).or_default().add(counts);
         }
         self.unkept.extend(other.unkept);
     }
@@ -51,15 +56,18 @@ impl Earlier {
     pub fn print(&self) -> Vec<String> {
         let mut missing: Vec<String> = self.unkept.iter().cloned().collect();
         println!("{:<24}{:>12}{:>12}{:>12}", "H below 2^-10", "none met", "same bits", "other bits");
+        let mut all = Counts::default();
         for function in FUNCTIONS {
             let Counts { none_met, same, moved } = self.by_function.get(&function).copied().unwrap_or_default();
             println!("{:<24}{none_met:>12}{same:>12}{moved:>12}", function.name());
+            all.add(Counts { none_met, same, moved });
             for (count, what) in [(none_met, "never met none"), (same, "never met one and kept its bits"), (moved, "never met one that moved its bits")] {
                 if count == 0 {
                     missing.push(format!("arguments of H below 2^-10: {} {what}", function.name()));
                 }
             }
         }
+        println!("{:<24}{:>12}{:>12}{:>12}", "all", all.none_met, all.same, all.moved);
         missing
     }
 }

@@ -9,7 +9,7 @@ use lib.Ieee.Positive.{own-value}
 use lib.Ieee.Bits.{ofBits-fits}
 use lib.Ieee.Fits.{add-fits}
 use Rattle.binary64.specs.Operators.{_⊕_, _⊖_, _⊗_, _⊘_, f64, negative}
-use Rattle.binary64.specs.Literals.{«0·0009765625», «1·0», «6·0»}
+use Rattle.binary64.specs.Literals.{«0·0009765625», «6·0»}
 use Rattle.binary64.specs.Range.{Most, Within, Sized, sized, neg-most, most-of-le}
 use Rattle.binary64.specs.RangeOps.{mul-most, div-most, add-alike, sub-most, least-zero}
 use Rattle.binary64.specs.RangeTests.{within-positive, within-ge, most-le}
@@ -71,7 +71,7 @@ taylor-sized : (x : Float) → Sized x 1 1024 → Sized (asinhTaylor x) 11939 16
 unfolding asinhTaylor
 taylor-sized x h =
     let sixth = div-most (mul-most h h 1 (2 ^ 20) tt tt) at-6 1 (2 ^ 22) tt tt tt in
-    let factor : Sized («1·0» ⊖ ((x ⊗ x) ⊘ «6·0»)) 2 1 = sub-most (at-1 .0) sixth 2 1 tt tt in
+    let factor : Sized (one ⊖ ((x ⊗ x) ⊘ «6·0»)) 2 1 = sub-most (at-1 .0) sixth 2 1 tt tt in
     sized (mul-most h factor 11939 16 tt tt)
 
 pub asinh-finite : {x : Float} → Sized x (2 ^ 499) 1 → Sized (asinhOf x) 11939 16

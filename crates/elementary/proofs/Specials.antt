@@ -2,12 +2,12 @@
 use mathlib.Core.Path.{_≡_, refl, ap, _∙_}
 use mathlib.Core.Bool.{Bool, true, false, _||_, cond}
 use lib.IntN.{pos}
-use lib.Ieee.{Float, nan, inf, fin, lt, le, div, add, sub, mul, neg, round, ofInt, size, isNan, ofBits}
+use lib.Ieee.{Float, nan, inf, fin, lt, div, add, sub, mul, neg, round, size, isNan, ofBits}
 use Rattle.binary64.specs.Operators.{_⊗_}
 use Rattle.binary64.specs.Literals.{«0·0»}
-use Rattle.square_root.specs.Root.{sqrtOf, rounded, wholeRoot, rootBelow}
+use Rattle.square_root.specs.Root.{sqrtOf}
 use Rattle.elementary.specs.Exp.{one, series, squarings, powered, expOf}
-use Rattle.elementary.specs.Ln.{terms, lnParts, lnSplit, lnOf}
+use Rattle.elementary.specs.Ln.{lnOf}
 use Rattle.min_max.specs.MinMax.{absOf, signumOf, clampOf, maxOf, minOf}
 use Rattle.elementary.specs.Asinh.{asinhLog, asinhTaylor, asinhOf}
 use Rattle.elementary.specs.Power.{powfOf}

@@ -1,5 +1,5 @@
 -- `asinh` meets its contract. Assumes nothing.
-use mathlib.Core.Path.{_≡_, refl, sym, ap, _∙_}
+use mathlib.Core.Path.{_≡_, sym, ap, _∙_}
 use mathlib.Core.Bool.{Bool, true, false, cond}
 use lib.Ieee.{Float, neg, lt}
 use Rattle.binary64.specs.Operators.{_⊕_, negative}
