@@ -22,7 +22,7 @@
  *
  * FLOATING POINT. A call must find the processor as the System V convention has it at a program's start: round to nearest, all
  * floating-point exceptions masked, and neither flush-to-zero nor denormals-are-zero (MXCSR = 0x1F80). With both of the last on,
- * 2.0 in 100 drawn calls give other bits or another refusal (in 7.0 of 100 drawn lists of calls; harness/flush/run counts them), and
+ * 2.0 in 100 drawn calls give other bits or another refusal (in 6.9 of 100 drawn lists of calls; harness/flush/run counts them), and
  * no proof covers that. A program that gcc links with -ffast-math starts with both on: turn them off around the calls.
  *
  * STACK. A call needs at most PJ_STACK_..._BYTES of it, whatever it is handed, and what memcpy and memset need besides.

@@ -156,6 +156,8 @@ fn cases<'a>(systems: &'a [System; 2], text: &'a [u8]) -> Vec<Case<'a>> {
     }
     let warm = Load { current_a: 3.0, dt: 1.0, temp_k: 310.0 };
     all.push(cell_steps("a cell step of 1 s, n = 11, at 310 K".into(), 11, warm, 1.0));
+    let low = Load { current_a: 1e-3, dt: 1.0, temp_k: REFERENCE };
+    all.push(cell_steps("a cell step of 1 s, n = 11, at 1 mA".into(), 11, low, 1.0));
     let rows = 10_000;
     let run = Load { current_a: 0.3, dt: 1.0, temp_k: REFERENCE };
     all.push(Case {

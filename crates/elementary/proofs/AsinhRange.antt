@@ -22,7 +22,7 @@ use Rattle.elementary.proofs.AsinhForms.{asinh-taylor, asinh-log}
 use Rattle.elementary.proofs.Constants.{at-1, at-6}
 use Rattle.elementary.proofs.LnRange.{ln-finite}
 
-abs-most : (x : Float) (A C : ℕ) → Sized x A C → Most (absOf x) false A C
+pub abs-most : (x : Float) (A C : ℕ) → Sized x A C → Most (absOf x) false A C
 abs-most nan A C h = absurd (h .fine)
 abs-most (inf s) A C h = absurd (h .fine)
 abs-most (fin s m e) A C h = record { over = h .over; fine = tt; sign = refl; most = h .most }

@@ -31,7 +31,7 @@ use Rattle.elementary.specs.declared.Bracket.{Bracket}
 use Rattle.elementary.proofs.Constants.{at-1}
 
 -- between 3/4 and 5/4, and a binary64
-abbrev Near : Float → Type 0
+abbrev pub Near : Float → Type 0
 Near a = Within a 5 4 3 4 × T (fits binary64 a)
 
 abbrev term : Float → ℕ → Float → Float
@@ -47,7 +47,7 @@ nonneg y p s = rw (val-is y p, s) (ratio-nn (num y) (den y) (den-pos y))
 nonpos : (y : Float) → T (finite y) → negative y ≡ true → val y ≤F nat 0
 nonpos y p s = rw (val-is y p, s) (le-by (ratio (num y) (den y) (den-pos y) ∷ []) 0 (ratio-nn (num y) (den y) (den-pos y)) (search quote depth 24) tt)
 
-one-le : T (le one one)
+pub one-le : T (le one one)
 unfolding le ofBits
 one-le = tt
 
@@ -131,7 +131,7 @@ equal-values (fin s m e) (fin t n d) h =
     let b = n * up d * down e in
     eqb→eq a b (and-l (eqb a b) (Bool·beq s t || eqb a 0) h)
 
-antisym : {x y : Float} → Near x → Near y → T (le x y) → T (le y x) → x ≡ y
+pub antisym : {x y : Float} → Near x → Near y → T (le x y) → T (le y x) → x ≡ y
 antisym {x} {y} X Y h k = one-value X Y (omega (arith, a, b))
   where
     a : num x * den y ≤ num y * den x
@@ -149,7 +149,7 @@ high-near : Near startHigh
 unfolding fits ofBits
 high-near = (literal startHigh 5 4 3 4 tt tt tt tt tt, tt)
 
-one-near : Near one
+pub one-near : Near one
 unfolding fits ofBits
 one-near = (literal one 5 4 3 4 tt tt tt tt tt, tt)
 

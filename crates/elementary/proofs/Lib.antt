@@ -9,6 +9,7 @@ pub mod LnRange
 pub mod PowRange
 pub mod AsinhForms
 pub mod AsinhRange
+pub mod AsinhLinear
 pub mod ArrheniusRange
 pub mod Specials
 pub mod ExpTotal
