@@ -49,7 +49,7 @@ movedBy d current dt = record {
   cathode = solidAfter (particleParams (d .params) (cathodeOf (d .params)) (d .config .«n_r») current dt) (d .«c_s_pos») (d .config .«n_x_pos»);
 }
 
-abbrev reportAt : DfnConfig → List Float → List Float → Float → Float → Float → Float → Float → DfnStep
+abbrev pub reportAt : DfnConfig → List Float → List Float → Float → Float → Float → Float → Float → DfnStep
 reportAt g old new thetaNeg thetaPos t current v = record {
   voltage = v;
   current = current;

@@ -54,16 +54,18 @@ openOf p tneg tpos =
 abbrev concentrationOf : DfnParams → Float → Float → Float
 concentrationOf p rtf mid = «2·0» ⊗ rtf ⊗ (one ⊖ p .«t_plus») ⊗ lnOf (maxOf (mid ⊘ p .«c_e0») «1e-9»)
 
+-- rt_f = R_GAS * T / FARADAY
+abbrev pub thermalVoltage : DfnParams → Float
+thermalVoltage p = «8·314» ⊗ p .«temperature_k» ⊘ faraday
+
 -- ocv - I * r_ion - eta_neg + eta_pos + eta_conc, held to 0 to 5
-abbrev voltageAt : DfnParams → Float → Float → Float → Float → Float → Float
-voltageAt p rtf tneg tpos mid current =
+abbrev pub voltageWith : DfnParams → Float → Float → Float → Float → Float → Float → Float
+voltageWith p tneg tpos mid current etaNeg etaPos =
     clampOf
-    (openOf p tneg tpos ⊖ current ⊗ resistanceOf p mid
-    ⊖ sideOf rtf (anodeOf p) tneg mid (p .area) (neg current)
-    ⊕ sideOf rtf (cathodeOf p) tpos mid (p .area) current
-    ⊕ concentrationOf p rtf mid)
+    (openOf p tneg tpos ⊖ current ⊗ resistanceOf p mid ⊖ etaNeg ⊕ etaPos ⊕ concentrationOf p (thermalVoltage p) mid)
     «0·0» «5·0»
 
--- rt_f = R_GAS * T / FARADAY
 unfoldable pub voltageOf : DfnParams → Float → Float → Float → Float → Float
-voltageOf p tneg tpos mid current = voltageAt p («8·314» ⊗ p .«temperature_k» ⊘ faraday) tneg tpos mid current
+voltageOf p tneg tpos mid current =
+    voltageWith p tneg tpos mid current (sideOf (thermalVoltage p) (anodeOf p) tneg mid (p .area) (neg current))
+    (sideOf (thermalVoltage p) (cathodeOf p) tpos mid (p .area) current)

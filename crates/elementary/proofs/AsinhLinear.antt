@@ -22,7 +22,7 @@ use Rattle.binary64.specs.Representable.{own-round}
 use Rattle.min_max.specs.MinMax.{absOf}
 use Rattle.elementary.specs.Exp.{one}
 use Rattle.elementary.specs.Asinh.{asinhTaylor, isSmall, asinhOf}
-use Rattle.elementary.proofs.AsinhForms.{asinh-taylor}
+use Rattle.elementary.specs.AsinhForms.{asinh-taylor}
 use Rattle.elementary.proofs.AsinhRange.{abs-most}
 use Rattle.elementary.proofs.Constants.{at-1, at-6}
 use Rattle.elementary.proofs.LastTermsLaws.{Near, one-near, one-le, antisym}

@@ -18,7 +18,7 @@ use Rattle.square_root.proofs.Range.{sqrt-within}
 use Rattle.elementary.specs.Exp.{one}
 use Rattle.min_max.specs.MinMax.{absOf}
 use Rattle.elementary.specs.Asinh.{asinhAt, asinhLog, asinhTaylor, isSmall, asinhOf}
-use Rattle.elementary.proofs.AsinhForms.{asinh-taylor, asinh-log}
+use Rattle.elementary.specs.AsinhForms.{asinh-taylor, asinh-log}
 use Rattle.elementary.proofs.Constants.{at-1, at-6}
 use Rattle.elementary.proofs.LnRange.{ln-finite}
 

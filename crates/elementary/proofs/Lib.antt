@@ -7,7 +7,6 @@ pub mod Constants
 pub mod ExpRange
 pub mod LnRange
 pub mod PowRange
-pub mod AsinhForms
 pub mod AsinhRange
 pub mod AsinhLinear
 pub mod ArrheniusRange

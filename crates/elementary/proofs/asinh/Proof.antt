@@ -7,7 +7,7 @@ use Rattle.binary64.specs.Literals.{«0·0009765625»}
 use Rattle.elementary.specs.Ln.{lnOf}
 use Rattle.min_max.specs.MinMax.{absOf}
 use Rattle.elementary.specs.Asinh.{asinhAt, asinhLog, asinhTaylor, isSmall, asinhOf}
-use Rattle.elementary.proofs.AsinhForms.{asinh-taylor, asinh-log}
+use Rattle.elementary.specs.AsinhForms.{asinh-taylor, asinh-log}
 use borrow.Author.Needs.{needs}
 use Rattle.elementary.proofs.asinh.Statement.{statement}
 use Rattle.elementary.proofs.asinh.Tie as tie
