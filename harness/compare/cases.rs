@@ -653,7 +653,7 @@ fn dfn_overpotentials(draw: &mut Draw, _: u64) -> Case {
     Case { start: image_of(Record::DfnCell.parts(), &cell.slots()), turns: vec![Turn::new(draw, Function::DfnStep, &numbers)] }
 }
 
-/// Currents so small that H has arguments below 2^-10, on cells in which its last digits show: a step, a run or a replay of either model.
+/// Currents so small that H has arguments below 2^-10, on cells in which its last digits show: steps and runs of either model, replays.
 fn low_rates(draw: &mut Draw, turn: u64) -> Case {
     if turn % 2 == 0 {
         let cell = records::bare_overpotentials(draw);

@@ -138,7 +138,7 @@ pub fn equal_electrodes(draw: &mut Draw, n: u64) -> Cell {
     Cell { config: config(draw, n), anode: particle.clone(), cathode: particle, time_s: clock(draw) }
 }
 
-/// A DFN cell whose voltage is the overpotentials of its electrodes alone.
+/// A DFN cell without open-circuit voltage and with an even electrolyte: its voltage is the overpotentials of both electrodes and the ohmic drop.
 pub fn bare_overpotentials(draw: &mut Draw) -> dfn::Cell {
     let none = Coefficients::of(&[]);
     let params = dfn::Params { ocv_neg: none, ocv_pos: none, ..dfn_params(draw) };

@@ -1,29 +1,26 @@
 -- The voltage with H by the logarithm at every argument, and where it is the voltage: wherever neither electrode's argument is below 2 ^ -10 in size. Assumes nothing.
 use mathlib.Core.Path.{_≡_, ap, ap₂}
-use mathlib.Core.Bool.{false, cond}
-use lib.Ieee.{Float, lt, neg}
+use mathlib.Core.Bool.{false}
+use lib.Ieee.{Float, neg}
 use Rattle.binary64.specs.Operators.{_⊗_, _⊘_}
-use Rattle.binary64.specs.Literals.{«0·0», «1e-30», «2·0»}
+use Rattle.binary64.specs.Literals.{«2·0»}
 use Rattle.elementary.specs.Asinh.{asinhLog, isSmall}
 use Rattle.elementary.specs.AsinhForms.{asinh-log}
-use Rattle.dfn_parameters.specs.Sides.{anodeOf, cathodeOf, areaOf}
+use Rattle.dfn_parameters.specs.Sides.{anodeOf, cathodeOf}
 use Rattle.dfn_parameters.specs.declared.DfnParams.{DfnParams}
 use Rattle.dfn_parameters.specs.declared.Side.{Side}
-use Rattle.dfn_voltage.specs.Voltage.{exchangeOf, overOf, sideOf, thermalVoltage, voltageWith, voltageOf}
+use Rattle.dfn_voltage.specs.Voltage.{overWith, overOf, sideExchange, sideFlux, sideOf, thermalVoltage, voltageWith, voltageOf}
 
 -- what H is taken of at an electrode: stoichiometry of its surface, electrolyte in the middle of the anode, area, current
 abbrev pub sideArgument : Side → Float → Float → Float → Float → Float
-sideArgument s theta mid area current =
-    current ⊘ (areaOf s ⊗ s .l ⊗ area) ⊘ («2·0» ⊗ exchangeOf (s .k) mid (theta ⊗ s .«c_s_max») (s .«c_s_max»))
+sideArgument s theta mid area current = sideFlux s area current ⊘ («2·0» ⊗ sideExchange s theta mid)
 
 abbrev pub sideByLog : Float → Side → Float → Float → Float → Float → Float
-sideByLog rtf s theta mid area current =
-    cond (lt «1e-30» (exchangeOf (s .k) mid (theta ⊗ s .«c_s_max») (s .«c_s_max»))) («2·0» ⊗ rtf ⊗ asinhLog (sideArgument s theta mid area current)) «0·0»
+sideByLog rtf s theta mid area current = overWith rtf (sideExchange s theta mid) (asinhLog (sideArgument s theta mid area current))
 
 side-kept : (rtf : Float) (s : Side) (theta mid area current : Float) → isSmall (sideArgument s theta mid area current) ≡ false → sideOf rtf s theta mid area current ≡ sideByLog rtf s theta mid area current
 unfolding sideOf overOf
-side-kept rtf s theta mid area current h =
-    ap (λ (z : Float). cond (lt «1e-30» (exchangeOf (s .k) mid (theta ⊗ s .«c_s_max») (s .«c_s_max»))) («2·0» ⊗ rtf ⊗ z) «0·0») (asinh-log (sideArgument s theta mid area current) h)
+side-kept rtf s theta mid area current h = ap (overWith rtf (sideExchange s theta mid)) (asinh-log (sideArgument s theta mid area current) h)
 
 abbrev pub voltageByLog : DfnParams → Float → Float → Float → Float → Float
 voltageByLog p tneg tpos mid current =

@@ -32,14 +32,24 @@ resistanceOf p mid = resistanceAt p (maxOf (mid ⊘ p .«c_e0») «0·001»)
 abbrev pub exchangeOf : Float → Float → Float → Float → Float
 exchangeOf k mid c cmax = k ⊗ faraday ⊗ sqrtOf mid ⊗ sqrtOf c ⊗ maxOf (sqrtOf (cmax ⊖ c)) «0·0»
 
--- 2 * rt_f * asinh(j / (2 * i0)), +0 where i0 is not above 1e-30
-unfoldable pub overOf : Float → Float → Float → Float
-overOf rtf i0 j = cond (lt «1e-30» i0) («2·0» ⊗ rtf ⊗ asinhOf (j ⊘ («2·0» ⊗ i0))) «0·0»
+-- 2 * rt_f * h, +0 where i0 is not above 1e-30
+abbrev pub overWith : Float → Float → Float → Float
+overWith rtf i0 h = cond (lt «1e-30» i0) («2·0» ⊗ rtf ⊗ h) «0·0»
 
--- with c = theta * c_max and the flux current / (a * l * area), which has no factor of Faraday
+-- with h = asinh(j / (2 * i0))
+unfoldable pub overOf : Float → Float → Float → Float
+overOf rtf i0 j = overWith rtf i0 (asinhOf (j ⊘ («2·0» ⊗ i0)))
+
+-- i0 at c = theta * c_max
+abbrev pub sideExchange : Side → Float → Float → Float
+sideExchange s theta mid = exchangeOf (s .k) mid (theta ⊗ s .«c_s_max») (s .«c_s_max»)
+
+-- current / (a * l * area), which has no factor of Faraday
+abbrev pub sideFlux : Side → Float → Float → Float
+sideFlux s area current = current ⊘ (areaOf s ⊗ s .l ⊗ area)
+
 unfoldable pub sideOf : Float → Side → Float → Float → Float → Float → Float
-sideOf rtf s theta mid area current =
-    overOf rtf (exchangeOf (s .k) mid (theta ⊗ s .«c_s_max») (s .«c_s_max»)) (current ⊘ (areaOf s ⊗ s .l ⊗ area))
+sideOf rtf s theta mid area current = overOf rtf (sideExchange s theta mid) (sideFlux s area current)
 
 -- ---- open circuit
 abbrev clamped : Float → Float

@@ -38,11 +38,17 @@ exchange p =
     let c_ss = clampOf (surfaceTheta p) «0·01» «0·99» ⊗ p .params .«c_s_max» in
     p .params .«k_bv» ⊗ sqrtOf (c_ss ⊗ (p .params .«c_s_max» ⊖ c_ss) ⊗ «1000·0»)
 
--- (2 R T / F) asinh(j / (2 i0)); 0 where i0 is below 1e-30
+-- j / (2 i0)
+abbrev pub overpotentialArgument : Float → ParticleDiffusion → Float
+overpotentialArgument j p = j ⊘ («2·0» ⊗ exchange p)
+
+-- (2 R T / F) h; 0 where i0 is below 1e-30
+abbrev pub overpotentialWith : SpmConfig → ParticleDiffusion → Float → Float → Float
+overpotentialWith s p t h = cond (lt (exchange p) «1e-30») «0·0» («2·0» ⊗ s .«r_gas» ⊗ t ⊘ s .faraday ⊗ h)
+
+-- with h = asinh(j / (2 i0))
 unfoldable pub overpotential : SpmConfig → Float → ParticleDiffusion → Float → Float
-overpotential s j p t =
-    cond (lt (exchange p) «1e-30») «0·0»
-    («2·0» ⊗ s .«r_gas» ⊗ t ⊘ s .faraday ⊗ asinhOf (j ⊘ («2·0» ⊗ exchange p)))
+overpotential s j p t = overpotentialWith s p t (asinhOf (overpotentialArgument j p))
 
 -- (u_pos + eta_pos) - (u_neg + eta_neg) - v_ohm * signum(I)
 abbrev pub terminalVoltage : Float → Float → Float → Float → Float → Float → Float

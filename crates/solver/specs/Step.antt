@@ -67,9 +67,12 @@ unfoldable pub finished : SpmSolver → Plan → SpmSolver → SpmState → SpmS
 finished s p after r =
     cond (finiteStep after r) (record { refusal = 0; state = r; «sub_steps» = subStepsOf p; solver = after }) (refusedStep notFinite s)
 
+-- by a plan that is not refused, with this report
+abbrev pub plannedWith : SpmSolver → Plan → Float → SpmState → SpmStepAnswer
+plannedWith s p dt r = cond (eqb (planRefusal p) 0) (finished s p (advanced s p dt) r) (refusedStep (planRefusal p) s)
+
 unfoldable pub planned : SpmSolver → Plan → Float → Float → Float → SpmStepAnswer
-planned s p i dt t =
-    cond (eqb (planRefusal p) 0) (finished s p (advanced s p dt) (reported (advanced s p dt) p i t)) (refusedStep (planRefusal p) s)
+planned s p i dt t = plannedWith s p dt (reported (advanced s p dt) p i t)
 
 unfoldable pub stepped : SpmSolver → Float → Float → Float → SpmStepAnswer
 stepped s i dt t =

@@ -5,38 +5,23 @@ use mathlib.Core.Bool.{false, cond}
 use lib.Dec.{eqb}
 use lib.Ieee.{Float}
 use Rattle.elementary.specs.Asinh.{isSmall}
-use Rattle.particle.specs.declared.ParticleDiffusion.{ParticleDiffusion}
-use Rattle.particle.specs.Particle.{surfaceTheta, averageTheta, surfacePotential}
-use Rattle.kinetics.specs.LowRates.{overpotentialArgument, overpotentialByLog, overpotential-kept}
-use Rattle.solver_step.specs.declared.plan.Plan.{Plan}
-use Rattle.solver_step.specs.Plans.{planRefusal}
+use Rattle.kinetics.specs.Kinetics.{overpotentialArgument}
+use Rattle.kinetics.specs.LowRates.{overpotentialByLog, overpotential-kept}
 use Rattle.solver_step.specs.declared.report.SpmState.{SpmState}
-use Rattle.solver_step.specs.declared.report.SurfaceState.{SurfaceState}
-use Rattle.solver_step.specs.Report.{reportWith}
+use Rattle.solver_step.specs.Report.{surfaceWith, reportWith}
 use Rattle.solver.specs.declared.SpmSolver.{SpmSolver}
 use Rattle.solver.specs.declared.SpmStepAnswer.{SpmStepAnswer}
-use Rattle.solver.specs.Step.{inputRefusal, currentDensity, planOf, advanced, voltageOf, reported, refusedStep, finished, planned, stepped}
-
-abbrev surfaceWith : ParticleDiffusion → Float → SurfaceState
-surfaceWith p eta = record {
-  theta = surfaceTheta p;
-  «theta_avg» = averageTheta p;
-  potential = surfacePotential p;
-  overpotential = eta;
-}
+use Rattle.solver.specs.Step.{inputRefusal, currentDensity, planOf, advanced, voltageOf, reported, refusedStep, plannedWith, planned, stepped}
 
 abbrev reportedWith : SpmSolver → Float → Float → Float → SpmState
 reportedWith s i etaNeg etaPos =
     reportWith (s .config) (currentDensity s i) (surfaceWith (s .anode) etaNeg) (surfaceWith (s .cathode) etaPos) i (s .«time_s»)
 
-abbrev plannedWith : SpmSolver → Plan → Float → Float → Float → Float → SpmStepAnswer
-plannedWith s p i dt etaNeg etaPos =
-    cond (eqb (planRefusal p) 0) (finished s p (advanced s p dt) (reportedWith (advanced s p dt) i etaNeg etaPos)) (refusedStep (planRefusal p) s)
-
 -- a step with these overpotentials at its end
 abbrev pub steppedWith : SpmSolver → Float → Float → Float → Float → Float → SpmStepAnswer
 steppedWith s i dt t etaNeg etaPos =
-    cond (eqb (inputRefusal s i dt t) 0) (plannedWith s (planOf s i dt t) i dt etaNeg etaPos) (refusedStep (inputRefusal s i dt t) s)
+    let p = planOf s i dt t in
+    cond (eqb (inputRefusal s i dt t) 0) (plannedWith s p dt (reportedWith (advanced s p dt) i etaNeg etaPos)) (refusedStep (inputRefusal s i dt t) s)
 
 -- both particles after the sub-steps
 abbrev pub afterSubSteps : SpmSolver → Float → Float → Float → SpmSolver

@@ -12,13 +12,16 @@ use Rattle.solver_step.specs.declared.report.SpmState.{SpmState}
 use Rattle.solver_step.specs.declared.report.SurfaceState.{SurfaceState}
 
 -- what a particle shows at its surface: stoichiometries, open-circuit potential, overpotential
-abbrev pub surfaceState : SpmConfig → ParticleDiffusion → Float → Float → SurfaceState
-surfaceState g p j t = record {
+abbrev pub surfaceWith : ParticleDiffusion → Float → SurfaceState
+surfaceWith p eta = record {
   theta = surfaceTheta p;
   «theta_avg» = averageTheta p;
   potential = surfacePotential p;
-  overpotential = overpotential g j p t;
+  overpotential = eta;
 }
+
+abbrev pub surfaceState : SpmConfig → ParticleDiffusion → Float → Float → SurfaceState
+surfaceState g p j t = surfaceWith p (overpotential g j p t)
 
 -- outside the voltage limits
 abbrev cutOff : SpmConfig → Float → Bool
