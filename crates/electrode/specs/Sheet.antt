@@ -4,7 +4,7 @@ use mathlib.Core.Bool.{Bool}
 use mathlib.Core.List.{List, [], _∷_}
 use lib.Ieee.{Float}
 use Rattle.binary64.specs.Operators.{_⊗_, _⊘_}
-use Rattle.binary64.specs.Literals.{«0·0», «1e-20», «1e-16», «1e-14», «1·5e-14», «3·9e-14», «2e-11», «1e-8», «1e-7», «1e-6», «2·5e-6», «5e-6», «1·25e-5», «8e-5», «9e-5», «0·0001», «0·001», «0·01», «0·0626», «0·15», «0·2», «0·5», «0·55», «0·6», «0·8», «1·0», «3·0», «298·15», «10000·0», «20000·0», «22806·0», «25000·0», «31833·0», «35000·0», «49000·0», «100000·0», «131072·0»}
+use Rattle.binary64.specs.Literals.{«0·0», «1e-20», «1e-16», «1e-14», «1·5e-14», «3·9e-14», «2e-11», «1e-8», «1e-7», «1e-6», «2·5e-6», «5e-6», «1·25e-5», «8e-5», «9e-5», «0·0001», «0·001», «0·01», «0·0626», «0·15», «0·2», «0·5», «0·55», «0·6», «0·8», «1·0», «3·0», «200·0», «298·15», «400·0», «10000·0», «20000·0», «22806·0», «25000·0», «31833·0», «35000·0», «49000·0», «100000·0», «131072·0»}
 use Rattle.elementary.specs.Arrhenius.{arrheniusOf}
 use Rattle.refusal.specs.Ranges.{Row, row, inRanges, countInRange}
 use Rattle.electrode.specs.declared.ElectrodeParams.{ElectrodeParams}
@@ -25,6 +25,7 @@ sheetRows p =
     ∷ row (p .area) «1e-6» «10000·0»
     ∷ row (p .«e_a_ds») «0·0» «100000·0»
     ∷ row (p .«k_bv») «1e-16» «1·0»
+    ∷ row (p .«t_ref») «200·0» «400·0»
     ∷ []
 
 abbrev pub sheetFits : ElectrodeParams → Bool
@@ -43,6 +44,7 @@ graphiteAnode = record {
   area = «0·0626»;
   «e_a_ds» = «35000·0»;
   «k_bv» = «2e-11»;
+  «t_ref» = «298·15»;
 }
 
 unfoldable pub lfpCathode : ElectrodeParams
@@ -57,6 +59,7 @@ lfpCathode = record {
   area = «0·0626»;
   «e_a_ds» = «20000·0»;
   «k_bv» = «2e-11»;
+  «t_ref» = «298·15»;
 }
 
 unfoldable pub nmcCathode : ElectrodeParams
@@ -71,11 +74,12 @@ nmcCathode = record {
   area = «0·0626»;
   «e_a_ds» = «25000·0»;
   «k_bv» = «2e-11»;
+  «t_ref» = «298·15»;
 }
 
--- d_s_ref times the Arrhenius factor from 298.15 K
+-- d_s_ref times the Arrhenius factor from t_ref
 unfoldable pub diffusivityAt : ElectrodeParams → Float → Float
-diffusivityAt p t = p .«d_s_ref» ⊗ arrheniusOf (p .«e_a_ds») «298·15» t
+diffusivityAt p t = p .«d_s_ref» ⊗ arrheniusOf (p .«e_a_ds») (p .«t_ref») t
 
 -- 3 * epsilon_s / r_particle
 unfoldable pub specificArea : ElectrodeParams → Float

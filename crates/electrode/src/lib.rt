@@ -1,10 +1,11 @@
-// The electrode sheet: nine numbers and a chemistry, and what is worked out from them.
+// The electrode sheet: a chemistry and ten numbers, and what is worked out from them.
 // A changed translation of src/battery/p2d/electrode.rs (without its particle).
 
 use refusal::within;
 ghost use mathlib.Core.Path.{_≡_};
 ghost use Rattle.refusal.specs.Numbers.{refusalUnless, sheet};
 ghost use Rattle.refusal.specs.Answers.{outcomeOf};
+ghost use Rattle.electrode.specs.Numbers.{sheetOf, sheetNumbers};
 ghost use Rattle.electrode.specs.Sheet.{chemistryFits, sheetFits, graphiteAnode, lfpCathode, nmcCathode, diffusivityAt, specificArea};
 ghost use Rattle.electrode.specs.Curves.{openCircuit, openCircuitSlope};
 ghost use Rattle.electrode.specs.Calls.{dS, specificAreaCall, ocpCall, slopeCall, volumeCall};
@@ -14,7 +15,7 @@ pub struct ElectrodeParams {
     pub electrode_type: u64,
     // Particle radius, m.
     pub r_particle: f64,
-    // Diffusivity in the solid at the reference temperature, m^2/s.
+    // Diffusivity in the solid at t_ref, m^2/s.
     pub d_s_ref: f64,
     // Largest concentration of lithium in the solid, mol/m^3.
     pub c_s_max: f64,
@@ -30,6 +31,8 @@ pub struct ElectrodeParams {
     pub e_a_ds: f64,
     // Factor of the exchange current density.
     pub k_bv: f64,
+    // Reference temperature: d_s_ref was measured at it, K.
+    pub t_ref: f64,
 }
 
 // The chemistry by its number: 0 where it is known, and every other number falls to refusal 2.
@@ -60,6 +63,7 @@ impl ElectrodeParams {
             area: 0.0626,
             e_a_ds: 35000.0,
             k_bv: 2.0e-11,
+            t_ref: 298.15,
         }
     }
 
@@ -78,6 +82,7 @@ impl ElectrodeParams {
             area: 0.0626,
             e_a_ds: 20000.0,
             k_bv: 2.0e-11,
+            t_ref: 298.15,
         }
     }
 
@@ -96,7 +101,45 @@ impl ElectrodeParams {
             area: 0.0626,
             e_a_ds: 25000.0,
             k_bv: 2.0e-11,
+            t_ref: 298.15,
         }
+    }
+
+    // The sheet of a chemistry and ten numbers, in the order of the record.
+    pub fn of_numbers(electrode_type: u64, x: &[f64; 10]) -> ElectrodeParams
+        ensures { λ r. ⌜ r ≡ sheetOf «electrode_type» (now (x .entry)) ⌝ }
+    {
+        ElectrodeParams {
+            electrode_type,
+            r_particle: x[0],
+            d_s_ref: x[1],
+            c_s_max: x[2],
+            theta_init: x[3],
+            thickness: x[4],
+            epsilon_s: x[5],
+            area: x[6],
+            e_a_ds: x[7],
+            k_bv: x[8],
+            t_ref: x[9],
+        }
+    }
+
+    // Its ten numbers.
+    pub fn numbers(self) -> [f64; 10]
+        ensures { λ r. ⌜ r ≡ sheetNumbers self ⌝ }
+    {
+        [
+            self.r_particle,
+            self.d_s_ref,
+            self.c_s_max,
+            self.theta_init,
+            self.thickness,
+            self.epsilon_s,
+            self.area,
+            self.e_a_ds,
+            self.k_bv,
+            self.t_ref,
+        ]
     }
 
     // Whether every field is in its range.
@@ -113,13 +156,14 @@ impl ElectrodeParams {
             & within(self.area, 1e-6, 1e4)
             & within(self.e_a_ds, 0.0, 1e5)
             & within(self.k_bv, 1e-16, 1.0)
+            & within(self.t_ref, 200.0, 400.0)
     }
 
     // The diffusivity at a temperature, by Arrhenius.
     pub fn diffusivity_at(self, temp_k: f64) -> f64
         ensures { λ r. ⌜ r ≡ diffusivityAt self «temp_k» ⌝ }
     {
-        self.d_s_ref * elementary::arrhenius(self.e_a_ds, 298.15, temp_k)
+        self.d_s_ref * elementary::arrhenius(self.e_a_ds, self.t_ref, temp_k)
     }
 
     // The interfacial area of a volume.

@@ -54,7 +54,7 @@ unfilled p lNeg lSep lPos epsNeg epsSep epsPos nNeg nSep nPos = record {
 -- what a refused build gives: every number +0, every count 0
 abbrev pub noState : ElectrolyteState
 noState =
-    unfilled (record { «d_e_ref» = «0·0»; «kappa_ref» = «0·0»; «t_plus» = «0·0»; bruggeman = «0·0»; «c_e_init» = «0·0»; «e_a_de» = «0·0»; «e_a_kappa» = «0·0» })
+    unfilled (record { «d_e_ref» = «0·0»; «kappa_ref» = «0·0»; «t_plus» = «0·0»; bruggeman = «0·0»; «c_e_init» = «0·0»; «e_a_de» = «0·0»; «e_a_kappa» = «0·0»; «t_ref» = «0·0» })
     «0·0» «0·0» «0·0» «0·0» «0·0» «0·0» 0 0 0
 
 abbrev pub withProfile : ElectrolyteState → List Float → ElectrolyteState

@@ -87,6 +87,7 @@ fn no_state() -> ElectrolyteState
         c_e_init: 0.0,
         e_a_de: 0.0,
         e_a_kappa: 0.0,
+        t_ref: 0.0,
     };
     ElectrolyteState {
         params,

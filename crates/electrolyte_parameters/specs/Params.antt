@@ -1,9 +1,9 @@
--- The electrolyte's seven numbers: their ranges, the ready ones, and the rates at a temperature. Definitions only.
+-- The electrolyte's eight numbers: their ranges, the ready ones, and the rates at a temperature. Definitions only.
 use mathlib.Core.Bool.{Bool, true}
 use mathlib.Core.List.{List, [], _∷_}
 use lib.Ieee.{Float}
 use Rattle.binary64.specs.Operators.{_⊗_}
-use Rattle.binary64.specs.Literals.{«0·0», «1e-16», «7·5e-11», «1e-6», «0·364», «1·0», «1·1», «1·5», «4·0», «100·0», «298·15», «1000·0», «12000·0», «17000·0», «100000·0»}
+use Rattle.binary64.specs.Literals.{«0·0», «1e-16», «7·5e-11», «1e-6», «0·364», «1·0», «1·1», «1·5», «4·0», «100·0», «200·0», «298·15», «400·0», «1000·0», «12000·0», «17000·0», «100000·0»}
 use Rattle.elementary.specs.Arrhenius.{arrheniusOf}
 use Rattle.elementary.specs.Power.{powfOf}
 use Rattle.refusal.specs.Ranges.{Row, row, inRanges}
@@ -20,6 +20,7 @@ paramRows p =
     ∷ row (p .«c_e_init») «1·0» «100000·0»
     ∷ row (p .«e_a_de») «0·0» «100000·0»
     ∷ row (p .«e_a_kappa») «0·0» «100000·0»
+    ∷ row (p .«t_ref») «200·0» «400·0»
     ∷ []
 
 abbrev pub paramsFit : ElectrolyteParams → Bool
@@ -36,18 +37,19 @@ lipf6EcDmc = record {
   «c_e_init» = «1000·0»;
   «e_a_de» = «17000·0»;
   «e_a_kappa» = «12000·0»;
+  «t_ref» = «298·15»;
 }
 
 -- ---- rates
--- at_ref times the Arrhenius factor from 298.15 K
-unfoldable pub atTemperature : Float → Float → Float → Float
-atTemperature atRef ea t = atRef ⊗ arrheniusOf ea «298·15» t
+-- at_ref times the Arrhenius factor from t_ref
+unfoldable pub atTemperature : Float → Float → Float → Float → Float
+atTemperature atRef ea tRef t = atRef ⊗ arrheniusOf ea tRef t
 
 abbrev pub diffusivity : ElectrolyteParams → Float → Float
-diffusivity p t = atTemperature (p .«d_e_ref») (p .«e_a_de») t
+diffusivity p t = atTemperature (p .«d_e_ref») (p .«e_a_de») (p .«t_ref») t
 
 abbrev pub conductivity : ElectrolyteParams → Float → Float
-conductivity p t = atTemperature (p .«kappa_ref») (p .«e_a_kappa») t
+conductivity p t = atTemperature (p .«kappa_ref») (p .«e_a_kappa») (p .«t_ref») t
 
 -- in a medium of the porosity eps: times eps ^ bruggeman
 unfoldable pub diffusivityEff : ElectrolyteParams → Float → Float → Float

@@ -1,4 +1,4 @@
-// The electrolyte's seven numbers and the rates that are worked out from them. A changed translation of src/battery/p2d/electrolyte.rs
+// The electrolyte's eight numbers and the rates that are worked out from them. A changed translation of src/battery/p2d/electrolyte.rs
 // (`ElectrolyteParams`).
 
 use refusal::within;
@@ -8,9 +8,9 @@ ghost use Rattle.electrolyte_parameters.specs.Params.{paramsFit, lipf6Ec
 ghost use Rattle.electrolyte_parameters.specs.Calls.{rateRefusal, dE, kappaCall, dEEff, kappaEff};
 
 pub struct ElectrolyteParams {
-    // Diffusivity of the salt at the reference temperature, m^2/s.
+    // Diffusivity of the salt at t_ref, m^2/s.
     pub d_e_ref: f64,
-    // Conductivity at the reference temperature, S/m.
+    // Conductivity at t_ref, S/m.
     pub kappa_ref: f64,
     // Transference number of the lithium ion.
     pub t_plus: f64,
@@ -22,13 +22,15 @@ pub struct ElectrolyteParams {
     pub e_a_de: f64,
     // Activation energy of the conductivity, J/mol.
     pub e_a_kappa: f64,
+    // Reference temperature: d_e_ref and kappa_ref were measured at it, K.
+    pub t_ref: f64,
 }
 
 // The diffusivity or the conductivity at a temperature, by Arrhenius.
-fn at_temperature(at_ref: f64, e_a: f64, temp_k: f64) -> f64
-    ensures { λ r. ⌜ r ≡ atTemperature «at_ref» «e_a» «temp_k» ⌝ }
+fn at_temperature(at_ref: f64, e_a: f64, t_ref: f64, temp_k: f64) -> f64
+    ensures { λ r. ⌜ r ≡ atTemperature «at_ref» «e_a» «t_ref» «temp_k» ⌝ }
 {
-    at_ref * elementary::arrhenius(e_a, 298.15, temp_k)
+    at_ref * elementary::arrhenius(e_a, t_ref, temp_k)
 }
 
 // The number that a rate meets: 2 where the numbers that it is worked out from do not fit, then 5.
@@ -53,6 +55,7 @@ impl ElectrolyteParams {
             c_e_init: 1000.0,
             e_a_de: 17000.0,
             e_a_kappa: 12000.0,
+            t_ref: 298.15,
         }
     }
 
@@ -67,13 +70,14 @@ impl ElectrolyteParams {
             & within(self.c_e_init, 1.0, 1e5)
             & within(self.e_a_de, 0.0, 1e5)
             & within(self.e_a_kappa, 0.0, 1e5)
+            & within(self.t_ref, 200.0, 400.0)
     }
 
     // The diffusivity in a medium of that porosity.
     pub fn diffusivity_eff(self, porosity: f64, temp_k: f64) -> f64
         ensures { λ r. ⌜ r ≡ diffusivityEff self porosity «temp_k» ⌝ }
     {
-        at_temperature(self.d_e_ref, self.e_a_de, temp_k)
+        at_temperature(self.d_e_ref, self.e_a_de, self.t_ref, temp_k)
             * elementary::powf(porosity, self.bruggeman)
     }
 
@@ -81,7 +85,7 @@ impl ElectrolyteParams {
     fn conductivity_eff(self, porosity: f64, temp_k: f64) -> f64
         ensures { λ r. ⌜ r ≡ conductivityEff self porosity «temp_k» ⌝ }
     {
-        at_temperature(self.kappa_ref, self.e_a_kappa, temp_k)
+        at_temperature(self.kappa_ref, self.e_a_kappa, self.t_ref, temp_k)
             * elementary::powf(porosity, self.bruggeman)
     }
 
@@ -91,7 +95,7 @@ impl ElectrolyteParams {
     {
         refusal::answered(
             rate_refusal(self.fits(), temp_k),
-            at_temperature(self.d_e_ref, self.e_a_de, temp_k),
+            at_temperature(self.d_e_ref, self.e_a_de, self.t_ref, temp_k),
         )
     }
 
@@ -101,7 +105,7 @@ impl ElectrolyteParams {
     {
         refusal::answered(
             rate_refusal(self.fits(), temp_k),
-            at_temperature(self.kappa_ref, self.e_a_kappa, temp_k),
+            at_temperature(self.kappa_ref, self.e_a_kappa, self.t_ref, temp_k),
         )
     }
 

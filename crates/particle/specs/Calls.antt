@@ -46,6 +46,7 @@ noSheet = record {
   area = «0·0»;
   «e_a_ds» = «0·0»;
   «k_bv» = «0·0»;
+  «t_ref» = «0·0»;
 }
 
 unfoldable pub noParticle : ParticleDiffusion

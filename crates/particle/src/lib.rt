@@ -300,6 +300,7 @@ pub fn no_particle() -> ParticleDiffusion
         area: 0.0,
         e_a_ds: 0.0,
         k_bv: 0.0,
+        t_ref: 0.0,
     };
     ParticleDiffusion {
         params,

@@ -20,20 +20,21 @@ chemistry-refusal-requires c κs = search needs
 
 returns : tie.Need-returns
 returns c =
-    (ap (λ (r : ℕ). eqb r 0) (c .before .before .before .before .before .before .before .before .before .chemistry-refusal .ensures)
-    ∙ none-where (chemistryFits (c .before .before .before .before .before .before .before .before .before .before .args .self .«electrode_type»)))
-    both c .before .before .before .before .before .before .before .before .within .ensures
-    both c .before .before .before .before .before .before .before .within2 .ensures
-    both c .before .before .before .before .before .before .within3 .ensures
-    both c .before .before .before .before .before .within4 .ensures
-    both c .before .before .before .before .within5 .ensures
-    both c .before .before .before .within6 .ensures
-    both c .before .before .within7 .ensures
-    both c .before .within8 .ensures
-    both c .within9 .ensures
+    (ap (λ (r : ℕ). eqb r 0) (c .before .before .before .before .before .before .before .before .before .before .chemistry-refusal .ensures)
+    ∙ none-where (chemistryFits (c .before .before .before .before .before .before .before .before .before .before .before .args .self .«electrode_type»)))
+    both c .before .before .before .before .before .before .before .before .before .within .ensures
+    both c .before .before .before .before .before .before .before .before .within2 .ensures
+    both c .before .before .before .before .before .before .before .within3 .ensures
+    both c .before .before .before .before .before .before .within4 .ensures
+    both c .before .before .before .before .before .within5 .ensures
+    both c .before .before .before .before .within6 .ensures
+    both c .before .before .before .within7 .ensures
+    both c .before .before .within8 .ensures
+    both c .before .within9 .ensures
+    both c .within10 .ensures
 
 pub fits-spec : {M : Type 1} → statement M
 fits-spec =
     tie.close
     (tie.spec chemistry-refusal-requires (λ c κs. search needs) (λ c κs. search needs) (λ c κs. search needs) (λ c κs. search needs) (λ c κs. search needs)
-    (λ c κs. search needs) (λ c κs. search needs) (λ c κs. search needs) (λ c κs. search needs) returns)
+    (λ c κs. search needs) (λ c κs. search needs) (λ c κs. search needs) (λ c κs. search needs) (λ c κs. search needs) returns)

@@ -6,16 +6,17 @@ use Rattle.electrolyte_parameters.proofs.ElectrolyteParams.fits.Tie as 
 
 returns : tie.Need-returns
 returns c =
-    c .before .before .before .before .before .before .within .ensures
-    both c .before .before .before .before .before .within2 .ensures
-    both c .before .before .before .before .within3 .ensures
-    both c .before .before .before .within4 .ensures
-    both c .before .before .within5 .ensures
-    both c .before .within6 .ensures
-    both c .within7 .ensures
+    c .before .before .before .before .before .before .before .within .ensures
+    both c .before .before .before .before .before .before .within2 .ensures
+    both c .before .before .before .before .before .within3 .ensures
+    both c .before .before .before .before .within4 .ensures
+    both c .before .before .before .within5 .ensures
+    both c .before .before .within6 .ensures
+    both c .before .within7 .ensures
+    both c .within8 .ensures
 
 pub fits-spec : {M : Type 1} → statement M
 fits-spec =
     tie.close
     (tie.spec (λ c κs. search needs) (λ c κs. search needs) (λ c κs. search needs) (λ c κs. search needs) (λ c κs. search needs)
-    (λ c κs. search needs) (λ c κs. search needs) returns)
+    (λ c κs. search needs) (λ c κs. search needs) (λ c κs. search needs) returns)
