@@ -18,7 +18,7 @@ use Rattle.image_laws.specs.AnswerLengths.{particle-build-length, cell-build-le
 use Rattle.image_laws.specs.ReadBack.{particle-build-read-back, cell-build-read-back, electrolyte-build-read-back, dfn-build-read-back}
 use Rattle.boundary_laws.specs.CallLists.{Calls, Implements, plain-implements}
 use Rattle.boundary_laws.specs.StepLists.{whole}
-use Rattle.image_layout.specs.Layout.{particleBytes, electrolyteBytes, cellBytes, dfnBytes}
+use Rattle.image_layout.specs.Layout.{particleBytes, electrolyteBytes, cellBytes, dfnBytes, newParticleBytes, regionsBytes, newDfnBytes}
 
 -- ---- builds
 -- 7, 11 and 12 of `pj_build`: the image that is handed in
@@ -38,7 +38,7 @@ replaced n new old = cond (eqb n 0) new old
 
 abbrev pub particleBuilds : Calls particleBytes particleIn Build
 particleBuilds = record {
-  formed = λ q a. B.lengths (length (q .image)) 88 (length a) particleBytes;
+  formed = λ q a. B.lengths (length (q .image)) newParticleBytes (length a) particleBytes;
   returned = λ s q a. B.buildReturn 7 (q .image) (length a);
   left = λ s q a. B.buildAfter 7 (q .image) a;
   handed = λ s q a. eqb (B.buildReturn 7 (q .image) (length a)) 0;
@@ -58,7 +58,7 @@ cellBuilds = record {
 
 abbrev pub electrolyteBuilds : Calls electrolyteBytes electrolyteAt Build
 electrolyteBuilds = record {
-  formed = λ q a. B.lengths (length (q .image)) 128 (length a) electrolyteBytes;
+  formed = λ q a. B.lengths (length (q .image)) regionsBytes (length a) electrolyteBytes;
   returned = λ s q a. B.buildReturn 11 (q .image) (length a);
   left = λ s q a. B.buildAfter 11 (q .image) a;
   handed = λ s q a. eqb (B.buildReturn 11 (q .image) (length a)) 0;
@@ -68,7 +68,7 @@ electrolyteBuilds = record {
 
 abbrev pub dfnBuilds : Calls dfnBytes I.cellAt Build
 dfnBuilds = record {
-  formed = λ q a. B.lengths (length (q .image)) 512 (length a) dfnBytes;
+  formed = λ q a. B.lengths (length (q .image)) newDfnBytes (length a) dfnBytes;
   returned = λ s q a. B.buildReturn 12 (q .image) (length a);
   left = λ s q a. B.buildAfter 12 (q .image) a;
   handed = λ s q a. eqb (B.buildReturn 12 (q .image) (length a)) 0;

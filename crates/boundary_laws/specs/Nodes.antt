@@ -21,16 +21,16 @@ use Rattle.solver_laws.specs.Electrodes.{Electrode, electrode-passes, nodes-are
 use Rattle.codec.specs.Words.{floatAt, placesAt}
 use Rattle.sheet_images.specs.Images.{particleAt}
 use Rattle.cell_images.specs.Images.{cellAt}
-use Rattle.image_layout.specs.Layout.{cellAnodeProfile, cellCathodeProfile}
+use Rattle.image_layout.specs.Layout.{particleProfile, cellAnodeProfile, cellCathodeProfile}
 
--- the word of an electrode's first node; a particle's is 11
+-- the word of an electrode's first node
 abbrev pub firstNode : Electrode → ℕ
 firstNode Electrode.anode = cellAnodeProfile
 firstNode Electrode.cathode = cellCathodeProfile
 
 -- node i of a particle's image, and of an electrode in a cell's
 abbrev pub nodeOf : List ℕ → ℕ → Fraction
-nodeOf s i = val (floatAt s (11 + i))
+nodeOf s i = val (floatAt s (particleProfile + i))
 
 abbrev pub nodeAt : Electrode → List ℕ → ℕ → Fraction
 nodeAt e s i = val (floatAt s (firstNode e + i))
@@ -42,13 +42,13 @@ mostAt e c = val (L.particleAt e c .params .«c_s_max»)
 row-place : (s : List ℕ) (at i : ℕ) → i < 64 → getD (placesAt 64 s at) i nan ≡ floatAt s (at + i)
 row-place s at i l = first-below (λ k. floatAt s (at + k)) (replicate 64 «0·0») 64 i nan l (le-refl 64)
 
-particle-node : (s : List ℕ) (i : ℕ) → i < 64 → placeOf (particleIn s) i ≡ floatAt s (11 + i)
+particle-node : (s : List ℕ) (i : ℕ) → i < 64 → placeOf (particleIn s) i ≡ floatAt s (particleProfile + i)
 unfolding particleAt
-particle-node s i l = row-place s 11 i l
+particle-node s i l = row-place s particleProfile i l
 
 electrode-node : (e : Electrode) (s : List ℕ) (i : ℕ) → i < 64 → placeOf (L.particleAt e (cellAt s)) i ≡ floatAt s (firstNode e + i)
 unfolding cellAt particleAt
-electrode-node Electrode.anode s i l = row-place s 17 i l
+electrode-node Electrode.anode s i l = row-place s cellAnodeProfile i l
 electrode-node Electrode.cathode s i l = row-place s cellCathodeProfile i l
 
 -- the nodes of the particle p that the image t holds

@@ -32,21 +32,21 @@ use Rattle.boundary_laws.specs.StepLists.{particleSteps, particle-simula
 use Rattle.boundary_laws.specs.Nodes.{nodeOf}
 use Rattle.boundary_laws.specs.Demand.{ParticleStepConditions, particle-images-near}
 use Rattle.boundary_laws.specs.Instance.{zeros, zeros-length, calls}
-use Rattle.image_layout.specs.Layout.{particleBytes}
+use Rattle.image_layout.specs.Layout.{particleBytes, particleNodes, newParticleBytes}
 
 -- ---- the image
--- the sheet's and 11, 88 bytes
+-- the sheet's, and 11 nodes
 unfoldable pub sheetImage : List ℕ
-sheetImage = putWord (putSheet (zeros 88) 0 graphiteAnode) 10 11
+sheetImage = putWord (putSheet (zeros newParticleBytes) 0 graphiteAnode) particleNodes 11
 
--- what `pj_build` 7 leaves in an answer of 600 zeros
+-- what `pj_build` 7 leaves in an answer of zeros
 unfoldable pub particleImage : List ℕ
 particleImage = B.buildAfter 7 sheetImage (zeros particleBytes)
 
 -- the calls: accepted, refused with 3, refused with 10, accepted, refused with 4, accepted
 abbrev pub particleCallList : List (CCall PD.Call)
 particleCallList =
-    record { call = draw; answer = zeros particleBytes } ∷ record { call = no-flux; answer = zeros particleBytes } ∷ record { call = draw; answer = zeros 599 }
+    record { call = draw; answer = zeros particleBytes } ∷ record { call = no-flux; answer = zeros particleBytes } ∷ record { call = draw; answer = zeros 607 }
     ∷ record { call = draw; answer = zeros particleBytes } ∷ record { call = no-time; answer = zeros particleBytes } ∷ record { call = draw; answer = zeros particleBytes } ∷ []
 
 -- ---- the build is accepted, and its particle is the one that `new` gives
@@ -56,23 +56,23 @@ graphite-sheet = record { chemistry = unfold graphiteAnode in lit≤ tt; numbers
 sheet-read : sheetAt sheetImage 0 ≡ graphiteAnode
 unfolding sheetImage
 sheet-read =
-    let t = putSheet (zeros 88) 0 graphiteAnode in
-    sheet-same t (putWord t 10 11) 0 (same-below (le-refl 10) (writes-word t 10 11)) ∙ sheet-read-back (zeros 88) 0 graphiteAnode (rw (zeros-length 88) (lit≤ tt)) graphite-sheet
+    let t = putSheet (zeros newParticleBytes) 0 graphiteAnode in
+    sheet-same t (putWord t particleNodes 11) 0 (same-below (le-refl particleNodes) (writes-word t particleNodes 11)) ∙ sheet-read-back (zeros newParticleBytes) 0 graphiteAnode (rw (zeros-length newParticleBytes) (lit≤ tt)) graphite-sheet
 
-sheet-length : length (putSheet (zeros 88) 0 graphiteAnode) ≡ 88
-sheet-length = writes-sheet (zeros 88) 0 graphiteAnode .size ∙ zeros-length 88
+sheet-length : length (putSheet (zeros newParticleBytes) 0 graphiteAnode) ≡ newParticleBytes
+sheet-length = writes-sheet (zeros newParticleBytes) 0 graphiteAnode .size ∙ zeros-length newParticleBytes
 
-nodes-read : wordAt sheetImage 10 ≡ 11
+nodes-read : wordAt sheetImage particleNodes ≡ 11
 unfolding sheetImage
-nodes-read = word-read-back (putSheet (zeros 88) 0 graphiteAnode) 10 11 (rw sheet-length (le-refl 88)) (lit≤ tt)
+nodes-read = word-read-back (putSheet (zeros newParticleBytes) 0 graphiteAnode) particleNodes 11 (rw sheet-length (le-refl newParticleBytes)) (lit≤ tt)
 
-image-bytes : length sheetImage ≡ 88
+image-bytes : length sheetImage ≡ newParticleBytes
 unfolding sheetImage
-image-bytes = writes-word (putSheet (zeros 88) 0 graphiteAnode) 10 11 .size ∙ sheet-length
+image-bytes = writes-word (putSheet (zeros newParticleBytes) 0 graphiteAnode) particleNodes 11 .size ∙ sheet-length
 
 made-is : particleMade sheetImage ≡ P.made graphiteAnode 11
 unfolding particleMade
-made-is = ap (λ (p : ElectrodeParams). P.made p (wordAt sheetImage 10)) sheet-read ∙ ap (P.made graphiteAnode) nodes-read
+made-is = ap (λ (p : ElectrodeParams). P.made p (wordAt sheetImage particleNodes)) sheet-read ∙ ap (P.made graphiteAnode) nodes-read
 
 made-accepted : P.made graphiteAnode 11 .refusal ≡ 0
 unfolding P.made P.newRefusal firstRefusal refusalUnless graphiteAnode le ofBits

@@ -211,7 +211,7 @@ unfolding total SD.K
 cell-total [] c = refl
 cell-total (q ∷ qs) c = rw (cell-total qs (SD.answer c q .solver))
 
--- the sub-steps that the answers report, in word 165
+-- the sub-steps that the answers report
 abbrev pub reportedSubSteps : List ℕ → List (CCall SD.Call) → ℕ
 reportedSubSteps s qs = reported cellSteps (λ a. wordAt a cellSubSteps) s qs
 

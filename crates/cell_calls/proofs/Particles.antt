@@ -12,6 +12,7 @@ use Rattle.solver.specs.Step.{stepped}
 use Rattle.solver.specs.Parts.{partsOf, Agrees, StepOf, cellWith, stepBy, answer-kept, answer-made}
 use Rattle.cell_images.specs.Images.{cellAt, putCell, putReport}
 use Rattle.sheet_images.specs.Images.{particleAt}
+use Rattle.image_layout.specs.Layout.{cellAnodeProfile, cellCathodeProfile}
 use Rattle.image_rows.specs.Written.{accepted, refused}
 use Rattle.cell_calls.specs.Steps.{putStepped, cellReturn, cellAfter}
 
@@ -21,7 +22,7 @@ stepPut a t = putReport (putCell a (t .solver)) (t .state) (t .«sub_steps»)
 
 -- the parts of the cell that the image s holds, and what a step of them answers
 module _ (s a : List ℕ) (i dt t : Float) (q : SpmParts) (neg pos : List Float)
-    (eq : q ≡ partsOf (cellAt s)) (en : neg ≡ placesAt 64 s 17) (eo : pos ≡ placesAt 64 s 92)
+    (eq : q ≡ partsOf (cellAt s)) (en : neg ≡ placesAt 64 s cellAnodeProfile) (eo : pos ≡ placesAt 64 s cellCathodeProfile)
     (r : SpmReported) (neg' pos' : List Float) (h : StepOf q neg pos i dt t r neg' pos') where
   agrees : Agrees (stepped (cellAt s) i dt t) r neg' pos'
   unfolding cellAt particleAt

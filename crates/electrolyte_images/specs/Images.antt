@@ -1,5 +1,5 @@
--- The images of an electrolyte's parameters (7 words) and of an electrolyte (112).
-use Prim.Native.Nat.{ℕ}
+-- The images of an electrolyte's parameters (8 words) and of an electrolyte (113).
+use Prim.Native.Nat.{ℕ, _+_}
 use mathlib.Core.List.{List, [], _∷_}
 use lib.Ieee.{Float}
 use Rattle.codec.specs.Words.{wordAt, putWord, floatAt, placesAt, putRow}
@@ -7,7 +7,7 @@ use Rattle.electrolyte_parameters.specs.declared.ElectrolyteParams.{Electrolyte
 use Rattle.electrolyte.specs.declared.ElectrolyteState.{ElectrolyteState}
 use Rattle.image_layout.specs.Layout.{electrolyteRegions, electrolyteNodesNeg, electrolyteNodesSep, electrolyteNodesPos, electrolyteProfile}
 
--- ---- the electrolyte's seven parameters
+-- ---- the electrolyte's eight parameters
 
 unfoldable pub electrolyteParamsAt : List ℕ → ElectrolyteParams
 electrolyteParamsAt s = record {
@@ -18,11 +18,14 @@ electrolyteParamsAt s = record {
   «c_e_init» = floatAt s 4;
   «e_a_de» = floatAt s 5;
   «e_a_kappa» = floatAt s 6;
+  «t_ref» = floatAt s 7;
 }
 
+abbrev pub electrolyteParamsNumbers : ElectrolyteParams → List Float
+electrolyteParamsNumbers p = p .«d_e_ref» ∷ p .«kappa_ref» ∷ p .«t_plus» ∷ p .bruggeman ∷ p .«c_e_init» ∷ p .«e_a_de» ∷ p .«e_a_kappa» ∷ p .«t_ref» ∷ []
+
 unfoldable pub putElectrolyteParams : List ℕ → ElectrolyteParams → List ℕ
-putElectrolyteParams s p =
-    putRow s 0 (p .«d_e_ref» ∷ p .«kappa_ref» ∷ p .«t_plus» ∷ p .bruggeman ∷ p .«c_e_init» ∷ p .«e_a_de» ∷ p .«e_a_kappa» ∷ [])
+putElectrolyteParams s p = putRow s 0 (electrolyteParamsNumbers p)
 
 -- ---- an electrolyte: parameters, lengths, porosities, counts of nodes, 96 places
 
@@ -30,11 +33,11 @@ unfoldable pub electrolyteAt : List ℕ → ElectrolyteState
 electrolyteAt s = record {
   params = electrolyteParamsAt s;
   «l_neg» = floatAt s electrolyteRegions;
-  «l_sep» = floatAt s 8;
-  «l_pos» = floatAt s 9;
-  «eps_neg» = floatAt s 10;
-  «eps_sep» = floatAt s 11;
-  «eps_pos» = floatAt s 12;
+  «l_sep» = floatAt s (electrolyteRegions + 1);
+  «l_pos» = floatAt s (electrolyteRegions + 2);
+  «eps_neg» = floatAt s (electrolyteRegions + 3);
+  «eps_sep» = floatAt s (electrolyteRegions + 4);
+  «eps_pos» = floatAt s (electrolyteRegions + 5);
   «n_neg» = wordAt s electrolyteNodesNeg;
   «n_sep» = wordAt s electrolyteNodesSep;
   «n_pos» = wordAt s electrolyteNodesPos;

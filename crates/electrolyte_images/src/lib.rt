@@ -13,11 +13,11 @@ use image_rows::write_places;
 ghost use mathlib.Core.Path.{_≡_};
 ghost use Rattle.electrolyte_images.specs.Images.{electrolyteParamsAt, putElectrolyteParams, electrolyteAt, putRegions, putElectrolyte};
 
-// The electrolyte's parameters in the first seven words.
+// The electrolyte's parameters in the first eight words.
 pub fn electrolyte_params_at(s: &[u8]) -> ElectrolyteParams
     ensures { λ r. ⌜ r ≡ electrolyteParamsAt (now (s .entry)) ⌝ }
 {
-    let mut x = [0.0; 7];
+    let mut x = [0.0; 8];
     read_places(s, 0, &mut x);
     ElectrolyteParams {
         d_e_ref: x[0],
@@ -27,6 +27,7 @@ pub fn electrolyte_params_at(s: &[u8]) -> ElectrolyteParams
         c_e_init: x[4],
         e_a_de: x[5],
         e_a_kappa: x[6],
+        t_ref: x[7],
     }
 }
 
@@ -41,11 +42,12 @@ pub fn put_electrolyte_params(s: &mut [u8], p: ElectrolyteParams)
         p.c_e_init,
         p.e_a_de,
         p.e_a_kappa,
+        p.t_ref,
     ];
     write_places(s, 0, &x);
 }
 
-// The electrolyte in the first 112 words.
+// The electrolyte in the first 113 words.
 pub fn electrolyte_at(s: &[u8]) -> ElectrolyteState
     ensures { λ r. ⌜ r ≡ electrolyteAt (now (s .entry)) ⌝ }
 {

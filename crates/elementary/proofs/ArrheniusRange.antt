@@ -5,30 +5,19 @@ use Rattle.binary64.specs.Operators.{_⊘_}
 use Rattle.binary64.specs.Range.{Within, Sized}
 use Rattle.binary64.specs.RangeOps.{mul-most, div-most, div-between, sub-alike}
 use Rattle.binary64.specs.RangeTests.{literal}
-use Rattle.binary64.specs.Literals.{«298·15»}
 use Rattle.elementary.specs.Exp.{one}
 use Rattle.elementary.specs.Arrhenius.{arrheniusOf, gasConstant}
 use Rattle.elementary.proofs.Constants.{at-1}
-use Rattle.elementary.proofs.ExpRange.{exp-20, exp-30}
+use Rattle.elementary.proofs.ExpRange.{exp-30}
 
 gas-constant : Within gasConstant 8315 1000 8314 1000
 unfolding ofBits
 gas-constant = literal gasConstant 8315 1000 8314 1000 tt tt tt tt tt
 
--- 298.15 K
-room : Within «298·15» 29816 100 29814 100
-unfolding ofBits
-room = literal «298·15» 29816 100 29814 100 tt tt tt tt tt
-
 -- 1 / t, for t from 200 to 400
 inverse : {t : Float} → Within t 400 1 200 1 → Within (one ⊘ t) 83887 16777216 41943 16777216
 inverse h = div-between at-1 h 83887 16777216 41943 16777216 tt tt tt tt tt
 
+-- an exponent of at most 30.125 in size
 pub arrhenius-within : {e r t : Float} → Sized e 100000 1 → Within r 400 1 200 1 → Within t 400 1 200 1 → Within (arrheniusOf e r t) (2 ^ 45) 1 1 (2 ^ 46)
 arrhenius-within e r t = exp-30 (mul-most (div-most e gas-constant 12028 1 tt tt tt) (sub-alike (inverse r) (inverse t) 41944 16777216 tt tt tt) 241 8 tt tt)
-
-pub arrhenius-298 : {e t : Float} → Sized e 100000 1 → Within t 400 1 200 1 → Within (arrheniusOf e «298·15» t) (2 ^ 30) 1 1 (2 ^ 30)
-arrhenius-298 e t =
-    exp-20
-    (mul-most (div-most e gas-constant 12028 1 tt tt tt)
-    (sub-alike (div-between at-1 room 56274 16777216 56268 16777216 tt tt tt tt tt) (inverse t) 27624 16777216 tt tt tt) 161 8 tt tt)

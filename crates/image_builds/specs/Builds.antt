@@ -1,5 +1,5 @@
 -- What each call that gives a record writes, by its number. Definitions only.
-use Prim.Native.Nat.{ℕ}
+use Prim.Native.Nat.{ℕ, _+_}
 use mathlib.Core.Bool.{cond}
 use mathlib.Core.List.{List}
 use lib.Dec.{eqb, leb}
@@ -55,7 +55,8 @@ cellBuilt call s =
 unfoldable pub electrolyteBuilt : List ℕ → ElectrolyteAnswer
 electrolyteBuilt s =
     E.built
-    (unfilled (electrolyteParamsAt s) (floatAt s electrolyteRegions) (floatAt s 8) (floatAt s 9) (floatAt s 10) (floatAt s 11) (floatAt s 12) (wordAt s electrolyteNodesNeg) (wordAt s electrolyteNodesSep) (wordAt s electrolyteNodesPos))
+    (unfilled (electrolyteParamsAt s) (floatAt s electrolyteRegions) (floatAt s (electrolyteRegions + 1)) (floatAt s (electrolyteRegions + 2))
+    (floatAt s (electrolyteRegions + 3)) (floatAt s (electrolyteRegions + 4)) (floatAt s (electrolyteRegions + 5)) (wordAt s electrolyteNodesNeg) (wordAt s electrolyteNodesSep) (wordAt s electrolyteNodesPos))
 
 -- 12: parameters and grid
 unfoldable pub dfnMade : List ℕ → DfnBuildAnswer

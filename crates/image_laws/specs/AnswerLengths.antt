@@ -28,7 +28,7 @@ use Rattle.image_laws.specs.ElectrolyteSteps.{electrolyte-answer}
 use Rattle.image_laws.specs.DfnSteps.{dfn-answer}
 use Rattle.image_laws.specs.DfnRuns.{dfn-run-answer}
 use Rattle.image_laws.specs.DfnBuilds.{electrolyte-built, dfn-built}
-use Rattle.image_layout.specs.Layout.{particleBytes, electrolyteBytes, cellBytes, cellRunBytes, cellStepBytes, dfnBytes, dfnRunBytes, dfnStepBytes}
+use Rattle.image_layout.specs.Layout.{particleBytes, electrolyteBytes, cellBytes, cellRunBytes, cellStepBytes, dfnBytes, dfnRunBytes, dfnStepBytes, newParticleBytes, regionsBytes, newDfnBytes}
 
 -- ---- steps
 pub particle-step-length : (s : List ℕ) (j dt t : Float) (a : List ℕ) → B.particleReturn s j dt t (length a) ≡ 0 → length (B.particleAfter s j dt t a) ≡ particleBytes
@@ -77,7 +77,7 @@ galvanostatic-length s bits dt limit places a m n h =
 pub particle-build-length : (s a : List ℕ) → B.buildReturn 7 s (length a) ≡ 0 → length (B.buildAfter 7 s a) ≡ particleBytes
 unfolding B.buildReturn B.buildAfter buildLength builtLength
 particle-build-length s a h =
-    let c = accepted s a 88 particleBytes (newReturn 7 s) (newAfter 7 s a) h in
+    let c = accepted s a newParticleBytes particleBytes (newReturn 7 s) (newAfter 7 s a) h in
     ap length (c .writes) ∙ particle-built s a (c .refusal) (rw (c .answer) (le-refl particleBytes)) .size ∙ c .answer
 
 pub cell-build-length : (call : ℕ) (s a : List ℕ) → 8 ≤ call → call ≤ 10 → B.buildReturn call s (length a) ≡ 0 → length (B.buildAfter call s a) ≡ cellBytes
@@ -88,11 +88,11 @@ cell-build-length call s a m n h =
 pub electrolyte-build-length : (s a : List ℕ) → B.buildReturn 11 s (length a) ≡ 0 → length (B.buildAfter 11 s a) ≡ electrolyteBytes
 unfolding B.buildReturn B.buildAfter buildLength builtLength
 electrolyte-build-length s a h =
-    let c = accepted s a 128 electrolyteBytes (newReturn 11 s) (newAfter 11 s a) h in
+    let c = accepted s a regionsBytes electrolyteBytes (newReturn 11 s) (newAfter 11 s a) h in
     ap length (c .writes) ∙ electrolyte-built s a (c .refusal) (rw (c .answer) (le-refl electrolyteBytes)) .size ∙ c .answer
 
 pub dfn-build-length : (s a : List ℕ) → B.buildReturn 12 s (length a) ≡ 0 → length (B.buildAfter 12 s a) ≡ dfnBytes
 unfolding B.buildReturn B.buildAfter buildLength builtLength
 dfn-build-length s a h =
-    let c = accepted s a 512 dfnBytes (newReturn 12 s) (newAfter 12 s a) h in
+    let c = accepted s a newDfnBytes dfnBytes (newReturn 12 s) (newAfter 12 s a) h in
     ap length (c .writes) ∙ dfn-built s a (c .refusal) (rw (c .answer) (le-refl dfnBytes)) .size ∙ c .answer

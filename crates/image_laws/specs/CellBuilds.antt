@@ -25,7 +25,7 @@ use Rattle.solver.specs.declared.SpmBuildAnswer.{SpmBuildAnswer}
 use Rattle.solver.specs.Cell as S
 use Rattle.codec.specs.Words.{wordAt}
 use Rattle.image_rows.specs.Written.{written}
-use Rattle.sheet_images.specs.Images.{sheetAt, sheetNumbers, configAt}
+use Rattle.sheet_images.specs.Images.{sheetAt, configAt}
 use Rattle.cell_images.specs.Images.{cellAt, putCell}
 use Rattle.boundary.specs.Calls as B
 use Rattle.boundary.specs.Calls.{lengths, afterLengths}
@@ -33,9 +33,10 @@ use Rattle.image_builds.specs.Builds.{buildLength, builtLength, particleMade, c
 use Rattle.image_laws.specs.Accepted.{inputs-pass, accepted-is}
 use Rattle.image_laws.specs.Encodable.{EncodableRow, allFit, closed-row, filled-encodable, filled-length}
 use Rattle.image_laws.specs.Layout.{Holds, holds-alone}
-use Rattle.image_laws.specs.CellImages.{EncodableSheet, EncodableParticle, configNumbers, EncodableCell, particleIn, particle-layout, cell-layout}
+use Rattle.image_laws.specs.CellImages.{EncodableSheet, EncodableParticle, configNumbers, EncodableCell, particleIn, particle-layout, cell-layout, particleWords}
 use Rattle.image_laws.specs.CellEncodable.{sheetAt-row, sheet-encodable, configAt-row}
-use Rattle.image_layout.specs.Layout.{particleBytes, cellBytes}
+use Rattle.image_layout.specs.Layout.{particleBytes, cellBytes, particleNodes, cellReport, newCellAnode, newCellCathode}
+use Rattle.electrode.specs.Numbers.{sheetNumbers}
 
 -- ---- a particle
 pub fresh-encodable : (p : ElectrodeParams) (n : ℕ) → EncodableSheet p → n ≤ 64 → EncodableParticle (P.fresh p n)
@@ -62,9 +63,9 @@ made-encodable p n h z =
 module _ (s a : List ℕ) (h : newReturn 7 s ≡ 0) where
   new-particle : EncodableParticle (particleMade s .particle)
   unfolding newReturn particleMade
-  new-particle = made-encodable (sheetAt s 0) (wordAt s 10) (sheetAt-row s 0) h
+  new-particle = made-encodable (sheetAt s 0) (wordAt s particleNodes) (sheetAt-row s 0) h
 
-  pub particle-built : particleBytes ≤ length a → Holds 75 particleIn a (newAfter 7 s a) (particleMade s .particle)
+  pub particle-built : particleBytes ≤ length a → Holds particleWords particleIn a (newAfter 7 s a) (particleMade s .particle)
   unfolding newReturn newAfter written
   particle-built l = rw (eq-eqb (particleMade s .refusal) 0 h) (holds-alone particle-layout a (particleMade s .particle) new-particle l)
 
@@ -111,9 +112,9 @@ unfolding cellBuilt
 built-cell call s =
     let P : SpmBuildAnswer → Type 0 = λ x. x .refusal ≡ 0 → EncodableCell (x .solver) in
     either P (eqb call 8) (S.ready (configAt s) lfpCathode) _ (built-encodable (configAt s) graphiteAnode lfpCathode (configAt-row s) graphite-encodable lfp-encodable)
-    (either P (eqb call 9) (S.ready (configAt s) nmcCathode) (S.built (configAt s) (sheetAt s 6) (sheetAt s 16))
+    (either P (eqb call 9) (S.ready (configAt s) nmcCathode) (S.built (configAt s) (sheetAt s newCellAnode) (sheetAt s newCellCathode))
     (built-encodable (configAt s) graphiteAnode nmcCathode (configAt-row s) graphite-encodable nmc-encodable)
-    (built-encodable (configAt s) (sheetAt s 6) (sheetAt s 16) (configAt-row s) (sheetAt-row s 6) (sheetAt-row s 16)))
+    (built-encodable (configAt s) (sheetAt s newCellAnode) (sheetAt s newCellCathode) (configAt-row s) (sheetAt-row s newCellAnode) (sheetAt-row s newCellCathode)))
 
 -- calls 8, 9 and 10
 module _ (call : ℕ) (s a : List ℕ) (m : 8 ≤ call) (n : call ≤ 10) where
@@ -159,5 +160,5 @@ module _ (call : ℕ) (s a : List ℕ) (m : 8 ≤ call) (n : call ≤ 10) where
     unfolding newAfter written
     answer-is = rw (not-particle, le-leb call 10 n, eq-eqb (cellBuilt call s .refusal) 0 (sym cell-return ∙ h))
 
-    pub cell-built : cellBytes ≤ length a → Holds 157 cellAt a (newAfter call s a) (cellBuilt call s .solver)
+    pub cell-built : cellBytes ≤ length a → Holds cellReport cellAt a (newAfter call s a) (cellBuilt call s .solver)
     cell-built l = rw answer-is (holds-alone cell-layout a (cellBuilt call s .solver) new-cell l)

@@ -13,7 +13,7 @@ use Rattle.matrix_rows.specs.Loops.{either}
 use Rattle.binary64.specs.Operators.{_⊕_, _⊗_, _⊘_, count}
 use Rattle.binary64.specs.Literals.{«0·0»}
 use Rattle.refusal.specs.Numbers.{notFinite}
-use Rattle.iterate.specs.Iterate.{times, first-length}
+use Rattle.iterate.specs.Iterate.{times, first-length, firstBy}
 use Rattle.electrode.specs.Sheet.{sheetFits, diffusivityAt}
 use Rattle.electrode.specs.declared.ElectrodeParams.{ElectrodeParams}
 use Rattle.diffusion.specs.SubStep.{SubStepParams, rate, node, subStep}
@@ -31,12 +31,13 @@ use Rattle.solver.specs.Step as S
 use Rattle.solver_step.specs.Moves.{profileAfter}
 use Rattle.solver_laws.specs.Electrodes.{Electrode, electrode-passes, nodes-are}
 use Rattle.solver_laws.specs.Closure.{Leads, leads, next}
-use Rattle.sheet_images.specs.Images.{sheetAt, sheetNumbers, particleAt, configAt}
+use Rattle.electrode.specs.Numbers.{sheetOf, sheetNumbers}
+use Rattle.sheet_images.specs.Images.{sheetAt, particleAt, configAt}
 use Rattle.cell_images.specs.Images.{cellAt}
 use Rattle.image_laws.specs.Accepted.{accepted}
 use Rattle.image_laws.specs.Encodable.{EncodableRow, []ᵉ, _∷ᵉ_, first-encodable, float-encodable, places-encodable, places-count}
 use Rattle.image_laws.specs.CellImages.{EncodableSheet, EncodableParticle, configNumbers, EncodableCell}
-use Rattle.image_layout.specs.Layout.{cellCathode, cellClock}
+use Rattle.image_layout.specs.Layout.{particleProfile, cellAnode, cellCathode, cellClock}
 
 -- ---- what is read
 -- the chemistry of a sheet that fits
@@ -49,10 +50,8 @@ chemistry-most p t = go (leb 1 (p .«electrode_type»)) (leb (p .«electrode_typ
     go false false d e = absurd (rw d at t)
 
 pub sheetAt-row : (s : List ℕ) (at : ℕ) → EncodableRow (sheetNumbers (sheetAt s at))
-unfolding sheetAt
-sheetAt-row s at =
-    float-encodable s (at + 1) ∷ᵉ float-encodable s (at + 2) ∷ᵉ float-encodable s (at + 3) ∷ᵉ float-encodable s (at + 4) ∷ᵉ float-encodable s (at + 5)
-    ∷ᵉ float-encodable s (at + 6) ∷ᵉ float-encodable s (at + 7) ∷ᵉ float-encodable s (at + 8) ∷ᵉ float-encodable s (at + 9) ∷ᵉ []ᵉ
+unfolding sheetAt sheetOf firstBy
+sheetAt-row s at = places-encodable 10 s (at + 1)
 
 pub sheet-encodable : (p : ElectrodeParams) → T (sheetFits p) → EncodableRow (sheetNumbers p) → EncodableSheet p
 sheet-encodable p t h = let m = chemistry-most p t in record { chemistry = omega (arith, m); numbers = h }
@@ -65,8 +64,8 @@ particleAt-encodable s at h =
     record {
       sheet = sheet-encodable (sheetAt s at) (sheet-passed (particleAt s at) h) (sheetAt-row s at);
       nodes = omega (arith, n .1);
-      long = places-count 64 s (at + 11);
-      places = places-encodable 64 s (at + 11);
+      long = places-count 64 s (at + particleProfile);
+      places = places-encodable 64 s (at + particleProfile);
     }
 
 pub configAt-row : (s : List ℕ) → EncodableRow (configNumbers (configAt s))
@@ -79,8 +78,8 @@ unfolding cellAt
 cellAt-encodable s h =
     let a = electrode-passes (cellAt s) h Electrode.anode in
     let c = electrode-passes (cellAt s) h Electrode.cathode in
-    let n : configAt s .«n_nodes» ≤ 64 = subst (λ (k : ℕ). k ≤ 64) (nodes-are (cellAt s) h Electrode.anode) (nodes-of (particleAt s 6) a .1) in
-    record { config = record { nodes = omega (arith, n); numbers = configAt-row s }; anode = particleAt-encodable s 6 a; cathode = particleAt-encodable s cellCathode c; clock = float-encodable s cellClock }
+    let n : configAt s .«n_nodes» ≤ 64 = subst (λ (k : ℕ). k ≤ 64) (nodes-are (cellAt s) h Electrode.anode) (nodes-of (particleAt s cellAnode) a .1) in
+    record { config = record { nodes = omega (arith, n); numbers = configAt-row s }; anode = particleAt-encodable s cellAnode a; cathode = particleAt-encodable s cellCathode c; clock = float-encodable s cellClock }
 
 -- ---- what a step makes: each new place is a sum or one of the two bounds
 node-encodable : (v : SubStepParams) → T (fits binary64 (v .c_max)) → (c : ℕ → Float) (i : ℕ) → T (fits binary64 (node v c i))

@@ -36,7 +36,7 @@ use Rattle.image_laws.specs.CellImages.{EncodableCell, writes-cell, cell
 use Rattle.image_laws.specs.Reports.{writes-ending, ending-read-back, rows-read-back}
 use Rattle.image_laws.specs.CellEncodable.{cellAt-encodable, step-encodable}
 use Rattle.image_laws.specs.Turns.{run-rows, ending-most}
-use Rattle.image_layout.specs.Layout.{cellBytes, cellRunBytes}
+use Rattle.image_layout.specs.Layout.{cellBytes, cellRunBytes, cellEnding}
 
 -- ---- what a run makes of its cell: it is a list of calls
 after-encodable : (qs : List Call) (s : SpmSolver) → EncodableCell s → EncodableCell (cellAfter s qs)
@@ -122,15 +122,15 @@ module _ (text : List ℕ) (t : Float) where
 -- ---- the answer
 -- what bytes after the answer a hold of a run
 pub record RunHeld (b a : List ℕ) (r : RunOutcome) (places : ℕ) : Type 0 where
-  pub cell : Holds 157 cellAt a b (r .solver)
-  pub ending : wordAt b 157 ≡ r .ended .ending
-  pub rows : places < 2 ^ 64 → wordAt b 158 ≡ r .rows
+  pub cell : Holds cellEnding cellAt a b (r .solver)
+  pub ending : wordAt b cellEnding ≡ r .ended .ending
+  pub rows : places < 2 ^ 64 → wordAt b (cellEnding + 1) ≡ r .rows
 
 module _ (r : RunOutcome) (places : ℕ) (a : List ℕ) (l : length a ≡ cellRunBytes) (h : T (writesAnswer (r .ended .refusal) (r .rows))) (w : Writable r places) where
   abbrev new : List ℕ
   new = putCell a (r .solver)
 
-  answer-is : runWritten r a ≡ putEnding new 157 (r .ended .ending) (r .rows)
+  answer-is : runWritten r a ≡ putEnding new cellEnding (r .ended .ending) (r .rows)
   unfolding runWritten
   answer-is = rw (is-true (writesAnswer (r .ended .refusal) (r .rows)) h)
 
@@ -139,9 +139,9 @@ module _ (r : RunOutcome) (places : ℕ) (a : List ℕ) (l : length a ≡ cellRu
 
   run-held : RunHeld (runWritten r a) a r places
   run-held = rw answer-is (record {
-    cell = holds cell-layout a (r .solver) (w .cell) (rw l (lit≤ tt)) (putEnding new 157 (r .ended .ending) (r .rows)) 159 (writes-ending new 157 (r .ended .ending) (r .rows));
-    ending = let m = w .ending in ending-read-back new 157 (r .ended .ending) (r .rows) room (omega (arith, m));
-    rows = λ n. let m = w .rows in rows-read-back new 157 (r .ended .ending) (r .rows) room (omega (arith, m, n));
+    cell = holds cell-layout a (r .solver) (w .cell) (rw l (lit≤ tt)) (putEnding new cellEnding (r .ended .ending) (r .rows)) (cellEnding + 2) (writes-ending new cellEnding (r .ended .ending) (r .rows));
+    ending = let m = w .ending in ending-read-back new cellEnding (r .ended .ending) (r .rows) room (omega (arith, m));
+    rows = λ n. let m = w .rows in rows-read-back new cellEnding (r .ended .ending) (r .rows) room (omega (arith, m, n));
   })
 
 -- of `pj_simulate_discharge`

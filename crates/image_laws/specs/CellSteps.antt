@@ -1,5 +1,5 @@
 -- The answer of an accepted step of a particle or a single-particle cell is read back as what `stepped` gives. Assumes nothing.
-use Prim.Native.Nat.{ℕ, _≤_}
+use Prim.Native.Nat.{ℕ, _≤_, _+_}
 use mathlib.Core.Path.{_≡_, refl, ap, _∙_}
 use mathlib.Core.List.{List}
 use native.Mathlib.Omega.{arith}
@@ -26,10 +26,10 @@ use Rattle.cell_calls.specs.Steps.{particleReturn, particleAfter, cellReturn, c
 use Rattle.image_laws.specs.Accepted.{inputs-pass}
 use Rattle.image_laws.specs.Encodable.{EncodableRow, []ᵉ, _∷ᵉ_}
 use Rattle.image_laws.specs.Layout.{Holds, holds, holds-alone}
-use Rattle.image_laws.specs.CellImages.{EncodableParticle, EncodableCell, writes-cell, particleIn, particle-layout, cell-layout}
+use Rattle.image_laws.specs.CellImages.{EncodableParticle, EncodableCell, writes-cell, particleIn, particle-layout, cell-layout, particleWords}
 use Rattle.image_laws.specs.Reports.{cellReportAt, writes-cell-report, report-row-read-back, sub-steps-word-read-back}
 use Rattle.image_laws.specs.CellEncodable.{particleAt-encodable, cellAt-encodable, step-encodable, particle-step-encodable}
-use Rattle.image_layout.specs.Layout.{cellSubSteps, particleBytes, cellStepBytes}
+use Rattle.image_layout.specs.Layout.{cellSubSteps, particleBytes, cellStepBytes, cellReport}
 
 -- ---- a particle
 module _ (s : List ℕ) (j dt t : Float) (a : List ℕ) (h : particleReturn s j dt t ≡ 0) where
@@ -41,7 +41,7 @@ module _ (s : List ℕ) (j dt t : Float) (a : List ℕ) (h : particleReturn s j 
   stepped-particle : EncodableParticle (P.stepped (particleAt s 0) j dt t .particle)
   stepped-particle = particle-step-encodable (particleAt s 0) j dt t (particleAt-encodable s 0 particle-passes)
 
-  pub particle-answer : particleBytes ≤ length a → Holds 75 particleIn a (particleAfter s j dt t a) (P.stepped (particleAt s 0) j dt t .particle)
+  pub particle-answer : particleBytes ≤ length a → Holds particleWords particleIn a (particleAfter s j dt t a) (P.stepped (particleAt s 0) j dt t .particle)
   unfolding particleAfter written
   particle-answer l = rw (eq-eqb (particleReturn s j dt t) 0 h) (holds-alone particle-layout a (P.stepped (particleAt s 0) j dt t .particle) stepped-particle l)
 
@@ -89,10 +89,10 @@ module _ (s : List ℕ) (i dt t : Float) (a : List ℕ) (h : cellReturn s i dt t
   room : cellStepBytes ≤ length new
   room = rw (writes-cell a (after .solver) stepped-cell .size ∙ l) (lit≤ tt)
 
-  pub cell-answer : Holds 157 cellAt a (cellAfter s i dt t a) (S.stepped (cellAt s) i dt t .solver)
+  pub cell-answer : Holds cellReport cellAt a (cellAfter s i dt t a) (S.stepped (cellAt s) i dt t .solver)
   cell-answer =
       rw answer-is
-      (holds cell-layout a (after .solver) stepped-cell (rw l (lit≤ tt)) (putReport new (after .state) (after .«sub_steps»)) 166 (writes-cell-report new (after .state) (after .«sub_steps»)))
+      (holds cell-layout a (after .solver) stepped-cell (rw l (lit≤ tt)) (putReport new (after .state) (after .«sub_steps»)) (cellSubSteps + 1) (writes-cell-report new (after .state) (after .«sub_steps»)))
 
   pub sub-steps-answer : wordAt (cellAfter s i dt t a) cellSubSteps ≡ S.stepped (cellAt s) i dt t .«sub_steps»
   sub-steps-answer =

@@ -25,19 +25,20 @@ use Rattle.dfn.specs.Checks as DC
 use Rattle.dfn.specs.declared.DfnBuildAnswer.{DfnBuildAnswer}
 use Rattle.dfn.specs.Build as D
 use Rattle.image_rows.specs.Written.{written}
-use Rattle.electrolyte_images.specs.Images.{electrolyteAt, regionNumbers}
+use Rattle.electrolyte_images.specs.Images.{electrolyteAt, regionNumbers, electrolyteParamsNumbers}
 use Rattle.parameter_images.specs.Images.{paramsAt, paramsNumbers}
 use Rattle.parameter_images.specs.Images as G
 use Rattle.dfn_images.specs.Images.{cellAt}
 use Rattle.image_builds.specs.Builds.{electrolyteBuilt, dfnMade, newReturn, newAfter}
 use Rattle.image_laws.specs.Accepted.{inputs-pass, accepted-is}
-use Rattle.image_laws.specs.Encodable.{EncodableRow, []ᵉ, _∷ᵉ_, filled-encodable, filled-length, literal, float-encodable}
+use Rattle.image_laws.specs.Encodable.{EncodableRow, []ᵉ, _∷ᵉ_, filled-encodable, filled-length, literal, float-encodable, places-encodable}
 use Rattle.image_laws.specs.Layout.{Holds, holds-alone}
-use Rattle.image_laws.specs.ElectrolyteImages.{electrolyteParamsNumbers, EncodableElectrolyte, electrolyte-layout}
+use Rattle.image_laws.specs.ElectrolyteImages.{electrolyteWords, EncodableElectrolyte, electrolyte-layout}
 use Rattle.image_laws.specs.DfnImages.{EncodableParams, EncodableGrid, EncodableDfn, dfn-layout}
 use Rattle.image_laws.specs.ElectrolyteSteps.{electrolyteParamsAt-encodable}
 use Rattle.image_laws.specs.DfnEncodable.{paramsAt-encodable, gridAt-encodable}
-use Rattle.image_layout.specs.Layout.{electrolyteBytes, dfnBytes}
+use Rattle.image_layout.specs.Layout.{electrolyteBytes, dfnBytes, electrolyteRegions, dfnReport}
+use Rattle.iterate.specs.Iterate.{firstBy}
 
 -- ---- an electrolyte
 module _ (e : ElectrolyteState) (hs : EncodableRow (electrolyteParamsNumbers (e .params))) (hr : EncodableRow (regionNumbers e)) where
@@ -64,12 +65,11 @@ module _ (e : ElectrolyteState) (hs : EncodableRow (electrolyteParamsNumbers (e 
 -- call 11
 module _ (s a : List ℕ) (h : newReturn 11 s ≡ 0) where
   new-electrolyte : EncodableElectrolyte (electrolyteBuilt s .state)
-  unfolding newReturn electrolyteBuilt
+  unfolding newReturn electrolyteBuilt firstBy
   new-electrolyte =
-      electrolyte-encodable _ (electrolyteParamsAt-encodable s)
-      (float-encodable s 7 ∷ᵉ float-encodable s 8 ∷ᵉ float-encodable s 9 ∷ᵉ float-encodable s 10 ∷ᵉ float-encodable s 11 ∷ᵉ float-encodable s 12 ∷ᵉ []ᵉ) h
+      electrolyte-encodable _ (electrolyteParamsAt-encodable s) (places-encodable 6 s electrolyteRegions) h
 
-  pub electrolyte-built : electrolyteBytes ≤ length a → Holds 112 electrolyteAt a (newAfter 11 s a) (electrolyteBuilt s .state)
+  pub electrolyte-built : electrolyteBytes ≤ length a → Holds electrolyteWords electrolyteAt a (newAfter 11 s a) (electrolyteBuilt s .state)
   unfolding newReturn newAfter written
   electrolyte-built l = rw (eq-eqb (electrolyteBuilt s .refusal) 0 h) (holds-alone electrolyte-layout a (electrolyteBuilt s .state) new-electrolyte l)
 
@@ -111,6 +111,6 @@ module _ (s a : List ℕ) (h : newReturn 12 s ≡ 0) where
   unfolding newReturn dfnMade
   new-dfn = dfn-encodable s h
 
-  pub dfn-built : dfnBytes ≤ length a → Holds 1126 cellAt a (newAfter 12 s a) (dfnMade s .cell)
+  pub dfn-built : dfnBytes ≤ length a → Holds dfnReport cellAt a (newAfter 12 s a) (dfnMade s .cell)
   unfolding newReturn newAfter written
   dfn-built l = rw (eq-eqb (dfnMade s .refusal) 0 h) (holds-alone dfn-layout a (dfnMade s .cell) new-dfn l)

@@ -11,7 +11,7 @@ use lib.Ieee.Fits.{add-fits}
 use borrow.Author.Tests.{eq-eqb}
 use Rattle.matrix_rows.specs.Loops.{either}
 use Rattle.refusal.specs.Numbers.{notFinite}
-use Rattle.iterate.specs.Iterate.{first-length}
+use Rattle.iterate.specs.Iterate.{first-length, firstBy}
 use Rattle.electrolyte_profile.specs.declared.ElectrolyteStepParams.{ElectrolyteStepParams}
 use Rattle.arrays.specs.Places.{allFinite}
 use Rattle.electrolyte_profile.specs.Places as EP
@@ -22,31 +22,31 @@ use Rattle.electrolyte.specs.State.{withProfile, stepParams}
 use Rattle.electrolyte.specs.Calls as E
 use Rattle.electrolyte.specs.Accepted as EA
 use Rattle.image_rows.specs.Written.{written}
-use Rattle.electrolyte_images.specs.Images.{electrolyteParamsAt, electrolyteAt}
+use Rattle.electrolyte_images.specs.Images.{electrolyteParamsAt, electrolyteAt, electrolyteParamsNumbers}
 use Rattle.dfn_calls.specs.Steps.{electrolyteReturn, electrolyteAfter}
 use Rattle.image_laws.specs.Accepted.{inputs-pass, accepted}
-use Rattle.image_laws.specs.Encodable.{EncodableRow, []ᵉ, _∷ᵉ_, first-encodable, max-fits, float-encodable, places-encodable, places-count}
+use Rattle.image_laws.specs.Encodable.{EncodableRow, first-encodable, max-fits, places-encodable, places-count}
 use Rattle.image_laws.specs.Layout.{Holds, holds-alone}
-use Rattle.image_laws.specs.ElectrolyteImages.{electrolyteParamsNumbers, EncodableElectrolyte, electrolyte-layout}
-use Rattle.image_layout.specs.Layout.{electrolyteBytes}
+use Rattle.image_laws.specs.ElectrolyteImages.{electrolyteWords, EncodableElectrolyte, electrolyte-layout}
+use Rattle.image_layout.specs.Layout.{electrolyteBytes, electrolyteRegions, electrolyteProfile}
 
 -- ---- an electrolyte of an image
 pub electrolyteParamsAt-encodable : (s : List ℕ) → EncodableRow (electrolyteParamsNumbers (electrolyteParamsAt s))
-unfolding electrolyteParamsAt
-electrolyteParamsAt-encodable s = float-encodable s 0 ∷ᵉ float-encodable s 1 ∷ᵉ float-encodable s 2 ∷ᵉ float-encodable s 3 ∷ᵉ float-encodable s 4 ∷ᵉ float-encodable s 5 ∷ᵉ float-encodable s 6 ∷ᵉ []ᵉ
+unfolding electrolyteParamsAt firstBy
+electrolyteParamsAt-encodable s = places-encodable 8 s 0
 
 pub electrolyteAt-encodable : (s : List ℕ) → E.stateRefusal (electrolyteAt s) ≡ 0 → EncodableElectrolyte (electrolyteAt s)
-unfolding electrolyteAt
+unfolding electrolyteAt firstBy
 electrolyteAt-encodable s h =
     let n = EA.state-total (electrolyteAt s) h in
     record {
       cE = electrolyteParamsAt-encodable s;
-      regions = float-encodable s 7 ∷ᵉ float-encodable s 8 ∷ᵉ float-encodable s 9 ∷ᵉ float-encodable s 10 ∷ᵉ float-encodable s 11 ∷ᵉ float-encodable s 12 ∷ᵉ []ᵉ;
+      regions = places-encodable 6 s electrolyteRegions;
       neg = omega (arith, n);
       sep = omega (arith, n);
       pos = omega (arith, n);
-      long = places-count 96 s 16;
-      places = places-encodable 96 s 16;
+      long = places-count 96 s electrolyteProfile;
+      places = places-encodable 96 s electrolyteProfile;
     }
 
 electrolyte-node : (v : ElectrolyteStepParams) (c : List Float) (i : ℕ) → T (fits binary64 (nodeNew v c i))
@@ -86,6 +86,6 @@ module _ (s : List ℕ) (jNeg jPos dt t : Float) (a : List ℕ) (h : electrolyte
   stepped-electrolyte : EncodableElectrolyte after
   stepped-electrolyte = electrolyte-step-encodable (electrolyteAt s) jNeg jPos dt t (electrolyteAt-encodable s electrolyte-passes)
 
-  pub electrolyte-answer : electrolyteBytes ≤ length a → Holds 112 electrolyteAt a (electrolyteAfter s jNeg jPos dt t a) (E.stepped (electrolyteAt s) jNeg jPos dt t .state)
+  pub electrolyte-answer : electrolyteBytes ≤ length a → Holds electrolyteWords electrolyteAt a (electrolyteAfter s jNeg jPos dt t a) (E.stepped (electrolyteAt s) jNeg jPos dt t .state)
   unfolding electrolyteAfter written
   electrolyte-answer l = rw (eq-eqb (electrolyteReturn s jNeg jPos dt t) 0 h) (holds-alone electrolyte-layout a after stepped-electrolyte l)

@@ -32,6 +32,7 @@ use Rattle.electrolyte_images.specs.Images.{electrolyteParamsAt, electrolyteAt}
 use Rattle.image_numbers.specs.Numbers.{sheetNumber, particleNumber, cellNumber, rateNumber, nodesOutcome, electrolyteNumber, numberOutcome}
 use Rattle.image_laws.specs.Encodable.{EncodableRow, []ᵉ, _∷ᵉ_, clamp-fits, literal, places-encodable}
 use Rattle.binary64.specs.Literals.{«0·0», «1e-30»}
+use Rattle.image_layout.specs.Layout.{particleProfile}
 
 -- what an answer has: numbers of binary64, and one of them where nothing refuses
 pub record Answered (a : Outcome) : Type 0 where
@@ -110,7 +111,7 @@ electrolyte-answered call e x =
 
 particleAt-places : (s : List ℕ) → EncodableRow (particleAt s 0 .«c_s»)
 unfolding particleAt
-particleAt-places s = places-encodable 64 s 11
+particleAt-places s = places-encodable 64 s particleProfile
 
 -- all nineteen
 pub number-answered : (call : ℕ) (s : List ℕ) (x y : Float) → Answered (numberOutcome call s x y)

@@ -1,7 +1,7 @@
 -- WHAT IS WRITTEN IS READ BACK, for each call from C that returns 0: the record, the report, the number or the solution in its answer is the one that the
 -- call's definition gives. That the call returns 0 is the only premise: then its lengths are right. A number that an answer repeats is given by its 64 bits, as
 -- C gives it (`f64 bits`). Assumes nothing.
-use Prim.Native.Nat.{ℕ, _≤_, _<_, _^_}
+use Prim.Native.Nat.{ℕ, _≤_, _<_, _^_, _+_}
 use mathlib.Core.Path.{sym, _≡_, refl, ap, _∙_}
 use mathlib.Core.Bool.{Bool, true, false, cond, and-eq-true-iff}
 use mathlib.Core.List.{List, map}
@@ -53,7 +53,7 @@ use Rattle.image_laws.specs.DfnBuilds.{electrolyte-built, dfn-built}
 use Rattle.image_laws.specs.ReadyRecords.{sheet-ready, electrolyte-params-ready, params-ready}
 use Rattle.image_laws.specs.Numbers.{number-answered}
 use Rattle.image_laws.specs.Dense.{solved-encodable, doubles-encodable}
-use Rattle.image_layout.specs.Layout.{cellSubSteps, particleBytes, electrolyteBytes, cellBytes, cellRunBytes, cellStepBytes, dfnBytes, dfnRunBytes, dfnStepBytes}
+use Rattle.image_layout.specs.Layout.{cellSubSteps, particleBytes, electrolyteBytes, cellBytes, cellRunBytes, cellStepBytes, dfnBytes, dfnRunBytes, dfnStepBytes, cellEnding, newParticleBytes, regionsBytes, newDfnBytes, sheetBytes, electrolyteParamsBytes}
 
 -- ---- steps
 pub particle-step-read-back : (s : List ℕ) (j dt t : Float) (a : List ℕ) → B.particleReturn s j dt t (length a) ≡ 0
@@ -108,8 +108,8 @@ dfn-report-read-back s bits dt a h =
 -- ---- runs: the cell, the ending and the count of rows, where the run returns 0 or has written a row. Lengths from C are below 2 ^ 64.
 pub record CellRunReadBack (b : List ℕ) (r : DR.RunOutcome) (places : ℕ) : Type 0 where
   pub cell : cellAt (take cellBytes b) ≡ r .solver
-  pub ending : wordAt b 157 ≡ r .ended .ending
-  pub rows : places < 2 ^ 64 → wordAt b 158 ≡ r .rows
+  pub ending : wordAt b cellEnding ≡ r .ended .ending
+  pub rows : places < 2 ^ 64 → wordAt b (cellEnding + 1) ≡ r .rows
 
 abbrev pub DischargeReadBack : List ℕ → Float → Float → Float → Float → ℕ → List ℕ → Type 0
 DischargeReadBack s i dt t limit places a = CellRunReadBack (BR.dischargeAfter s i dt t limit places a) (DR.discharged (DR.runSettings i dt t limit) (cellAt s) places) places
@@ -179,7 +179,7 @@ accepted-galvanostatic-read-back s bits dt limit places a h =
 pub particle-build-read-back : (s a : List ℕ) → B.buildReturn 7 s (length a) ≡ 0 → particleAt (B.buildAfter 7 s a) 0 ≡ particleMade s .particle
 unfolding B.buildReturn B.buildAfter buildLength builtLength
 particle-build-read-back s a h =
-    let c = accepted s a 88 particleBytes (newReturn 7 s) (newAfter 7 s a) h in
+    let c = accepted s a newParticleBytes particleBytes (newReturn 7 s) (newAfter 7 s a) h in
     ap particleIn (c .writes) ∙ particle-built s a (c .refusal) (rw (c .answer) (le-refl particleBytes)) .whole
 
 pub cell-build-read-back : (call : ℕ) (s a : List ℕ) → 8 ≤ call → call ≤ 10 → B.buildReturn call s (length a) ≡ 0 → cellAt (B.buildAfter call s a) ≡ cellBuilt call s .solver
@@ -190,13 +190,13 @@ cell-build-read-back call s a m n h =
 pub electrolyte-build-read-back : (s a : List ℕ) → B.buildReturn 11 s (length a) ≡ 0 → electrolyteAt (B.buildAfter 11 s a) ≡ electrolyteBuilt s .state
 unfolding B.buildReturn B.buildAfter buildLength builtLength
 electrolyte-build-read-back s a h =
-    let c = accepted s a 128 electrolyteBytes (newReturn 11 s) (newAfter 11 s a) h in
+    let c = accepted s a regionsBytes electrolyteBytes (newReturn 11 s) (newAfter 11 s a) h in
     ap electrolyteAt (c .writes) ∙ electrolyte-built s a (c .refusal) (rw (c .answer) (le-refl electrolyteBytes)) .whole
 
 pub dfn-build-read-back : (s a : List ℕ) → B.buildReturn 12 s (length a) ≡ 0 → I.cellAt (B.buildAfter 12 s a) ≡ dfnMade s .cell
 unfolding B.buildReturn B.buildAfter buildLength builtLength
 dfn-build-read-back s a h =
-    let c = accepted s a 512 dfnBytes (newReturn 12 s) (newAfter 12 s a) h in
+    let c = accepted s a newDfnBytes dfnBytes (newReturn 12 s) (newAfter 12 s a) h in
     ap I.cellAt (c .writes) ∙ dfn-built s a (c .refusal) (rw (c .answer) (le-refl dfnBytes)) .whole
 
 -- the ready records: 1 to 3 a sheet, 4 an electrolyte's parameters, 5 and 6 those of a Doyle-Fuller-Newman cell
@@ -207,14 +207,14 @@ ready-sheet-read-back call s a m n h =
     let l12 = le-leb call 12 (omega (arith, n)) in
     let l3 = le-leb call 3 n in
     let l6 = le-leb call 6 (omega (arith, n)) in
-    let c = accepted s a (buildLength call) 80 0 (readyPut call a) (rw (l1, l12, l3, l6) at h) in
-    rw (l1, l12, l3, l6) (ap (λ (b : List ℕ). sheetAt b 0) (c .writes) ∙ sheet-ready call a n (rw (c .answer) (le-refl 80)))
+    let c = accepted s a (buildLength call) sheetBytes 0 (readyPut call a) (rw (l1, l12, l3, l6) at h) in
+    rw (l1, l12, l3, l6) (ap (λ (b : List ℕ). sheetAt b 0) (c .writes) ∙ sheet-ready call a n (rw (c .answer) (le-refl sheetBytes)))
 
 pub ready-electrolyte-params-read-back : (s a : List ℕ) → B.buildReturn 4 s (length a) ≡ 0 → electrolyteParamsAt (B.buildAfter 4 s a) ≡ lipf6EcDmc
 unfolding B.buildReturn B.buildAfter buildLength builtLength
 ready-electrolyte-params-read-back s a h =
-    let c = accepted s a 0 56 0 (readyPut 4 a) h in
-    ap electrolyteParamsAt (c .writes) ∙ electrolyte-params-ready a (rw (c .answer) (le-refl 56))
+    let c = accepted s a 0 electrolyteParamsBytes 0 (readyPut 4 a) h in
+    ap electrolyteParamsAt (c .writes) ∙ electrolyte-params-ready a (rw (c .answer) (le-refl electrolyteParamsBytes))
 
 pub ready-params-read-back : (call : ℕ) (s a : List ℕ) → 5 ≤ call → call ≤ 6 → B.buildReturn call s (length a) ≡ 0 → paramsAt (B.buildAfter call s a) ≡ readyParams call
 unfolding B.buildReturn B.buildAfter builtLength

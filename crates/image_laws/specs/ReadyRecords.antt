@@ -12,14 +12,15 @@ use Rattle.electrode.specs.Sheet.{graphiteAnode, lfpCathode, nmcCathode}
 use Rattle.electrolyte_parameters.specs.Params.{lipf6EcDmc}
 use Rattle.dfn_parameters.specs.Ready.{nmcGraphite, lfpGraphite}
 use Rattle.sheet_images.specs.Images.{sheetAt}
-use Rattle.electrolyte_images.specs.Images.{electrolyteParamsAt}
+use Rattle.electrolyte_images.specs.Images.{electrolyteParamsAt, electrolyteParamsNumbers}
 use Rattle.parameter_images.specs.Images.{paramsAt, paramsNumbers}
 use Rattle.image_builds.specs.Builds.{readySheet, readyParams, readyPut}
 use Rattle.image_laws.specs.Encodable.{EncodableRow, allFit, closed-row}
 use Rattle.image_laws.specs.CellImages.{EncodableSheet, sheet-read-back}
-use Rattle.image_laws.specs.ElectrolyteImages.{electrolyteParamsNumbers, electrolyte-params-read-back}
+use Rattle.image_laws.specs.ElectrolyteImages.{electrolyte-params-read-back}
 use Rattle.image_laws.specs.DfnImages.{EncodableParams, params-read-back}
 use Rattle.image_laws.specs.CellBuilds.{graphite-encodable, lfp-encodable, nmc-encodable}
+use Rattle.image_layout.specs.Layout.{sheetBytes, electrolyteParamsBytes}
 
 -- ---- the ready records
 ready-sheet : (call : ℕ) → EncodableSheet (readySheet call)
@@ -29,7 +30,7 @@ ready-sheet call =
     (either EncodableSheet (eqb call 2) lfpCathode nmcCathode (record { chemistry = unfold lfpCathode in lit≤ tt; numbers = lfp-encodable })
     (record { chemistry = unfold nmcCathode in lit≤ tt; numbers = nmc-encodable }))
 
-pub sheet-ready : (call : ℕ) (a : List ℕ) → call ≤ 3 → 80 ≤ length a → sheetAt (readyPut call a) 0 ≡ readySheet call
+pub sheet-ready : (call : ℕ) (a : List ℕ) → call ≤ 3 → sheetBytes ≤ length a → sheetAt (readyPut call a) 0 ≡ readySheet call
 unfolding readyPut
 sheet-ready call a m l = rw (le-leb call 3 m) (sheet-read-back a 0 (readySheet call) l (ready-sheet call))
 
@@ -37,7 +38,7 @@ electrolyte-params-row : EncodableRow (electrolyteParamsNumbers lipf6EcDmc)
 unfolding lipf6EcDmc allFit fits ofBits
 electrolyte-params-row = closed-row (electrolyteParamsNumbers lipf6EcDmc) tt
 
-pub electrolyte-params-ready : (a : List ℕ) → 56 ≤ length a → electrolyteParamsAt (readyPut 4 a) ≡ lipf6EcDmc
+pub electrolyte-params-ready : (a : List ℕ) → electrolyteParamsBytes ≤ length a → electrolyteParamsAt (readyPut 4 a) ≡ lipf6EcDmc
 unfolding readyPut
 electrolyte-params-ready a l = electrolyte-params-read-back a lipf6EcDmc l electrolyte-params-row
 

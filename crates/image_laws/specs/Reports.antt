@@ -18,31 +18,31 @@ use Rattle.dfn_images.specs.Images as D
 use Rattle.image_laws.specs.Words.{word-read-back}
 use Rattle.image_laws.specs.Encodable.{EncodableRow}
 use Rattle.image_laws.specs.Rows.{Writes, same-below, same-float, writes-then, writes-word, writes-places, place-read-back}
-use Rattle.image_layout.specs.Layout.{cellCutoff, cellSubSteps, dfnCutoff, dfnNewton, cellStepBytes, dfnStepBytes}
+use Rattle.image_layout.specs.Layout.{cellReport, cellCutoff, cellSubSteps, dfnReport, dfnCutoff, dfnNewton, cellStepBytes, dfnStepBytes}
 
 -- ---- how a report is read
--- of a single-particle cell, from word 157 on
+-- of a single-particle cell
 unfoldable pub cellReportAt : List ℕ → SpmState
 cellReportAt s = record {
-  voltage = floatAt s 157;
-  current = floatAt s 158;
-  «theta_neg» = floatAt s 159;
-  «theta_pos» = floatAt s 160;
-  «theta_neg_avg» = floatAt s 161;
-  «theta_pos_avg» = floatAt s 162;
-  «time_s» = floatAt s 163;
+  voltage = floatAt s cellReport;
+  current = floatAt s (cellReport + 1);
+  «theta_neg» = floatAt s (cellReport + 2);
+  «theta_pos» = floatAt s (cellReport + 3);
+  «theta_neg_avg» = floatAt s (cellReport + 4);
+  «theta_pos_avg» = floatAt s (cellReport + 5);
+  «time_s» = floatAt s (cellReport + 6);
   cutoff = eqb (wordAt s cellCutoff) 1;
 }
 
--- of a Doyle-Fuller-Newman cell, from word 1126 on
+-- of a Doyle-Fuller-Newman cell
 unfoldable pub dfnReportAt : List ℕ → DfnStep
 dfnReportAt s = record {
-  voltage = floatAt s 1126;
-  current = floatAt s 1127;
-  «time_s» = floatAt s 1128;
-  «theta_neg» = floatAt s 1129;
-  «theta_pos» = floatAt s 1130;
-  «delta_c_e_max» = floatAt s 1131;
+  voltage = floatAt s dfnReport;
+  current = floatAt s (dfnReport + 1);
+  «time_s» = floatAt s (dfnReport + 2);
+  «theta_neg» = floatAt s (dfnReport + 3);
+  «theta_pos» = floatAt s (dfnReport + 4);
+  «delta_c_e_max» = floatAt s (dfnReport + 5);
   cutoff = eqb (wordAt s dfnCutoff) 1;
   «newton_iter» = wordAt s dfnNewton;
 }
@@ -87,48 +87,48 @@ module _ (s : List ℕ) (at : ℕ) (x : List Float) (b : Bool) (k : ℕ) where
 
 -- ---- a single-particle cell's report
 module _ (s : List ℕ) (r : SpmState) (n : ℕ) where
-  pub writes-cell-report : Writes 157 166 s (C.putReport s r n)
+  pub writes-cell-report : Writes cellReport (cellSubSteps + 1) s (C.putReport s r n)
   unfolding C.putReport
-  writes-cell-report = writes-numbers s 157 (C.stateNumbers r) (r .cutoff) n
+  writes-cell-report = writes-numbers s cellReport (C.stateNumbers r) (r .cutoff) n
 
   pub report-row-read-back : cellStepBytes ≤ length s → EncodableRow (C.stateNumbers r) → cellReportAt (C.putReport s r n) ≡ r
   unfolding cellReportAt C.putReport
   report-row-read-back l h =
-      let x = reported-read-back s 157 (C.stateNumbers r) (r .cutoff) n l h in
+      let x = reported-read-back s cellReport (C.stateNumbers r) (r .cutoff) n l h in
       rw (
-        x 0 157 (lit≤ tt) refl,
-        x 1 158 (lit≤ tt) refl,
-        x 2 159 (lit≤ tt) refl,
-        x 3 160 (lit≤ tt) refl,
-        x 4 161 (lit≤ tt) refl,
-        x 5 162 (lit≤ tt) refl,
-        x 6 163 (lit≤ tt) refl,
-        flag-read-back s 157 (C.stateNumbers r) (r .cutoff) n l,
+        x 0 cellReport (lit≤ tt) refl,
+        x 1 (cellReport + 1) (lit≤ tt) refl,
+        x 2 (cellReport + 2) (lit≤ tt) refl,
+        x 3 (cellReport + 3) (lit≤ tt) refl,
+        x 4 (cellReport + 4) (lit≤ tt) refl,
+        x 5 (cellReport + 5) (lit≤ tt) refl,
+        x 6 (cellReport + 6) (lit≤ tt) refl,
+        flag-read-back s cellReport (C.stateNumbers r) (r .cutoff) n l,
       )
 
   pub sub-steps-word-read-back : cellStepBytes ≤ length s → n < 2 ^ 64 → wordAt (C.putReport s r n) cellSubSteps ≡ n
   unfolding C.putReport
-  sub-steps-word-read-back l m = count-read-back s 157 (C.stateNumbers r) (r .cutoff) n l m
+  sub-steps-word-read-back l m = count-read-back s cellReport (C.stateNumbers r) (r .cutoff) n l m
 
 -- ---- a Doyle-Fuller-Newman cell's report
 module _ (s : List ℕ) (r : DfnStep) where
-  pub writes-dfn-report : Writes 1126 1134 s (D.putReport s r)
+  pub writes-dfn-report : Writes dfnReport (dfnNewton + 1) s (D.putReport s r)
   unfolding D.putReport
-  writes-dfn-report = writes-numbers s 1126 (D.reportNumbers r) (r .cutoff) (r .«newton_iter»)
+  writes-dfn-report = writes-numbers s dfnReport (D.reportNumbers r) (r .cutoff) (r .«newton_iter»)
 
   pub dfn-report-row-read-back : dfnStepBytes ≤ length s → EncodableRow (D.reportNumbers r) → r .«newton_iter» < 2 ^ 64 → dfnReportAt (D.putReport s r) ≡ r
   unfolding dfnReportAt D.putReport
   dfn-report-row-read-back l h m =
-      let x = reported-read-back s 1126 (D.reportNumbers r) (r .cutoff) (r .«newton_iter») l h in
+      let x = reported-read-back s dfnReport (D.reportNumbers r) (r .cutoff) (r .«newton_iter») l h in
       rw (
-        x 0 1126 (lit≤ tt) refl,
-        x 1 1127 (lit≤ tt) refl,
-        x 2 1128 (lit≤ tt) refl,
-        x 3 1129 (lit≤ tt) refl,
-        x 4 1130 (lit≤ tt) refl,
-        x 5 1131 (lit≤ tt) refl,
-        flag-read-back s 1126 (D.reportNumbers r) (r .cutoff) (r .«newton_iter») l,
-        count-read-back s 1126 (D.reportNumbers r) (r .cutoff) (r .«newton_iter») l m,
+        x 0 dfnReport (lit≤ tt) refl,
+        x 1 (dfnReport + 1) (lit≤ tt) refl,
+        x 2 (dfnReport + 2) (lit≤ tt) refl,
+        x 3 (dfnReport + 3) (lit≤ tt) refl,
+        x 4 (dfnReport + 4) (lit≤ tt) refl,
+        x 5 (dfnReport + 5) (lit≤ tt) refl,
+        flag-read-back s dfnReport (D.reportNumbers r) (r .cutoff) (r .«newton_iter») l,
+        count-read-back s dfnReport (D.reportNumbers r) (r .cutoff) (r .«newton_iter») l m,
       )
 
 -- ---- a run's ending and its count of rows, from word `at` on

@@ -7,11 +7,11 @@ use mathlib.Core.Path.{_≡_, refl}
 
 -- the count of nodes
 abbrev pub particleNodes : ℕ
-particleNodes = 10
+particleNodes = 11
 
 -- the profile, 64 places
 abbrev pub particleProfile : ℕ
-particleProfile = 11
+particleProfile = 12
 
 -- ---- a cell: its configuration, then
 
@@ -21,45 +21,45 @@ cellAnode = 6
 
 -- its count of nodes
 abbrev pub cellAnodeNodes : ℕ
-cellAnodeNodes = 16
+cellAnodeNodes = 17
 
 -- its profile
 abbrev pub cellAnodeProfile : ℕ
-cellAnodeProfile = 17
+cellAnodeProfile = 18
 
 -- the cathode's particle
 abbrev pub cellCathode : ℕ
-cellCathode = 81
+cellCathode = 82
 
 -- its count of nodes
 abbrev pub cellCathodeNodes : ℕ
-cellCathodeNodes = 91
+cellCathodeNodes = 93
 
 -- its profile
 abbrev pub cellCathodeProfile : ℕ
-cellCathodeProfile = 92
+cellCathodeProfile = 94
 
 -- the clock
 abbrev pub cellClock : ℕ
-cellClock = 156
+cellClock = 158
 
 -- ---- after a cell: a step's report, or a run's ending and its count of rows
 
 -- seven numbers
 abbrev pub cellReport : ℕ
-cellReport = 157
+cellReport = 159
 
 -- whether the voltage left its limits
 abbrev pub cellCutoff : ℕ
-cellCutoff = 164
+cellCutoff = 166
 
 -- the count of sub-steps
 abbrev pub cellSubSteps : ℕ
-cellSubSteps = 165
+cellSubSteps = 167
 
 -- the ending; the rows follow
 abbrev pub cellEnding : ℕ
-cellEnding = 157
+cellEnding = 159
 
 -- ---- what a new cell is made of: a configuration, then
 
@@ -69,27 +69,27 @@ newCellAnode = 6
 
 -- the cathode's sheet
 abbrev pub newCellCathode : ℕ
-newCellCathode = 16
+newCellCathode = 17
 
 -- ---- an electrolyte: its parameters, then
 
 -- lengths and porosities
 abbrev pub electrolyteRegions : ℕ
-electrolyteRegions = 7
+electrolyteRegions = 8
 
 -- counts of nodes
 abbrev pub electrolyteNodesNeg : ℕ
-electrolyteNodesNeg = 13
+electrolyteNodesNeg = 14
 
 abbrev pub electrolyteNodesSep : ℕ
-electrolyteNodesSep = 14
+electrolyteNodesSep = 15
 
 abbrev pub electrolyteNodesPos : ℕ
-electrolyteNodesPos = 15
+electrolyteNodesPos = 16
 
 -- the profile, 96 places
 abbrev pub electrolyteProfile : ℕ
-electrolyteProfile = 16
+electrolyteProfile = 17
 
 -- ---- a Doyle-Fuller-Newman cell: 25 numbers of its parameters, then
 
@@ -179,37 +179,37 @@ abbrev pub numberBytes : ℕ
 numberBytes = 8
 
 abbrev pub sheetBytes : ℕ
-sheetBytes = 80
+sheetBytes = 88
 
 abbrev pub particleBytes : ℕ
-particleBytes = 600
+particleBytes = 608
 
 abbrev pub newParticleBytes : ℕ
-newParticleBytes = 88
+newParticleBytes = 96
 
 abbrev pub configBytes : ℕ
 configBytes = 48
 
 abbrev pub newCellBytes : ℕ
-newCellBytes = 208
+newCellBytes = 224
 
 abbrev pub cellBytes : ℕ
-cellBytes = 1256
+cellBytes = 1272
 
 abbrev pub cellStepBytes : ℕ
-cellStepBytes = 1328
+cellStepBytes = 1344
 
 abbrev pub cellRunBytes : ℕ
-cellRunBytes = 1272
+cellRunBytes = 1288
 
 abbrev pub electrolyteParamsBytes : ℕ
-electrolyteParamsBytes = 56
+electrolyteParamsBytes = 64
 
 abbrev pub regionsBytes : ℕ
-regionsBytes = 128
+regionsBytes = 136
 
 abbrev pub electrolyteBytes : ℕ
-electrolyteBytes = 896
+electrolyteBytes = 904
 
 abbrev pub dfnParamsBytes : ℕ
 dfnParamsBytes = 472
@@ -230,6 +230,7 @@ abbrev pub solutionBytes : ℕ
 solutionBytes = 256
 
 pub record Layout : Type 0 where
+  pub sheet : (sheetBytes ≡ 8 * particleNodes) × (newParticleBytes ≡ 8 * particleProfile)
   pub particle : particleBytes ≡ 8 * (particleProfile + 64)
   pub anode : configBytes ≡ 8 * cellAnode
   pub anode-parts : (cellAnodeNodes ≡ cellAnode + particleNodes) × (cellAnodeProfile ≡ cellAnode + particleProfile)
@@ -250,6 +251,7 @@ pub record Layout : Type 0 where
 
 pub layout : Layout
 layout = record {
+  sheet = (refl, refl);
   particle = refl;
   anode = refl;
   anode-parts = (refl, refl);

@@ -2,62 +2,62 @@
 // harness/c/persimmonjib.h have the same table.
 
 // Of a particle: the count of nodes.
-pub const PARTICLE_NODES: usize = 10;
+pub const PARTICLE_NODES: usize = 11;
 
 // The profile, 64 places.
-pub const PARTICLE_PROFILE: usize = 11;
+pub const PARTICLE_PROFILE: usize = 12;
 
 // Of a cell: the anode's particle.
 pub const CELL_ANODE: usize = 6;
 
 // Its count of nodes.
-pub const CELL_ANODE_NODES: usize = 16;
+pub const CELL_ANODE_NODES: usize = 17;
 
 // Its profile.
-pub const CELL_ANODE_PROFILE: usize = 17;
+pub const CELL_ANODE_PROFILE: usize = 18;
 
 // The cathode's particle.
-pub const CELL_CATHODE: usize = 81;
+pub const CELL_CATHODE: usize = 82;
 
 // Its count of nodes.
-pub const CELL_CATHODE_NODES: usize = 91;
+pub const CELL_CATHODE_NODES: usize = 93;
 
 // Its profile.
-pub const CELL_CATHODE_PROFILE: usize = 92;
+pub const CELL_CATHODE_PROFILE: usize = 94;
 
 // The clock.
-pub const CELL_CLOCK: usize = 156;
+pub const CELL_CLOCK: usize = 158;
 
 // After a cell, a step's report: seven numbers.
-pub const CELL_REPORT: usize = 157;
+pub const CELL_REPORT: usize = 159;
 
 // Whether the voltage left its limits.
-pub const CELL_CUTOFF: usize = 164;
+pub const CELL_CUTOFF: usize = 166;
 
 // The count of sub-steps.
-pub const CELL_SUB_STEPS: usize = 165;
+pub const CELL_SUB_STEPS: usize = 167;
 
 // After a cell, what a run adds: the ending; the rows follow.
-pub const CELL_ENDING: usize = 157;
+pub const CELL_ENDING: usize = 159;
 
 // Of what a new cell is made of: the anode's sheet.
 pub const NEW_CELL_ANODE: usize = 6;
 
 // The cathode's sheet.
-pub const NEW_CELL_CATHODE: usize = 16;
+pub const NEW_CELL_CATHODE: usize = 17;
 
 // Of an electrolyte: lengths and porosities.
-pub const ELECTROLYTE_REGIONS: usize = 7;
+pub const ELECTROLYTE_REGIONS: usize = 8;
 
 // Counts of nodes.
-pub const ELECTROLYTE_NODES_NEG: usize = 13;
+pub const ELECTROLYTE_NODES_NEG: usize = 14;
 
-pub const ELECTROLYTE_NODES_SEP: usize = 14;
+pub const ELECTROLYTE_NODES_SEP: usize = 15;
 
-pub const ELECTROLYTE_NODES_POS: usize = 15;
+pub const ELECTROLYTE_NODES_POS: usize = 16;
 
 // The profile, 96 places.
-pub const ELECTROLYTE_PROFILE: usize = 16;
+pub const ELECTROLYTE_PROFILE: usize = 17;
 
 // Of a Doyle-Fuller-Newman cell: the anode's count of coefficients.
 pub const DFN_COUNT_NEG: usize = 25;
@@ -118,27 +118,27 @@ pub const DFN_ENDING: usize = 1126;
 
 pub const NUMBER_BYTES: usize = 8;
 
-pub const SHEET_BYTES: usize = 80;
+pub const SHEET_BYTES: usize = 88;
 
-pub const PARTICLE_BYTES: usize = 600;
+pub const PARTICLE_BYTES: usize = 608;
 
-pub const NEW_PARTICLE_BYTES: usize = 88;
+pub const NEW_PARTICLE_BYTES: usize = 96;
 
 pub const CONFIG_BYTES: usize = 48;
 
-pub const NEW_CELL_BYTES: usize = 208;
+pub const NEW_CELL_BYTES: usize = 224;
 
-pub const CELL_BYTES: usize = 1256;
+pub const CELL_BYTES: usize = 1272;
 
-pub const CELL_STEP_BYTES: usize = 1328;
+pub const CELL_STEP_BYTES: usize = 1344;
 
-pub const CELL_RUN_BYTES: usize = 1272;
+pub const CELL_RUN_BYTES: usize = 1288;
 
-pub const ELECTROLYTE_PARAMS_BYTES: usize = 56;
+pub const ELECTROLYTE_PARAMS_BYTES: usize = 64;
 
-pub const REGIONS_BYTES: usize = 128;
+pub const REGIONS_BYTES: usize = 136;
 
-pub const ELECTROLYTE_BYTES: usize = 896;
+pub const ELECTROLYTE_BYTES: usize = 904;
 
 pub const DFN_PARAMS_BYTES: usize = 472;
 

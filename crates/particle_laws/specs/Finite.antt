@@ -109,7 +109,7 @@ module _ (p : ParticleDiffusion) (h : particleRefusal p ≡ 0) where
   stable-step-fine t k =
       let half = literal «0·5» 1 2 1 2 tt tt tt tt tt in
       let d = spacing-range p h .0 in
-      div-most (mul-most (mul-most (half .0) d 1 (2 ^ 11) tt tt) d 1 (2 ^ 21) tt tt) (diffusivity-range (p .params) t (sheet-passed p h) k) (2 ^ 76) 1 tt tt tt .fine
+      div-most (mul-most (mul-most (half .0) d 1 (2 ^ 11) tt tt) d 1 (2 ^ 21) tt tt) (diffusivity-range (p .params) t (sheet-passed p h) k) (2 ^ 92) 1 tt tt tt .fine
 
 -- ---- what the calls answer: the table's number, or the value
 pub dt-stable-is : (p : ParticleDiffusion) (t : Float) → dtStable p t ≡ outcome (firstRefusal (particleRefusal p) (refusalUnless (temperatureFits t) temperature)) (stableStep (p .params) (p .«n_nodes») (diffusivityAt (p .params) t))

@@ -50,30 +50,30 @@ module _ (v : SubStepParams) (r : Ranged v) (c : ℕ → Float) (nodes : (i : �
   doubled : Within (two ⊗ v .dr) 1 (2 ^ 9) 1 (2 ^ 32)
   doubled = mul-between at-2 (r .dr) 1 (2 ^ 9) 1 (2 ^ 32) tt tt tt tt
 
-  centre-sized : {x y : Float} → Sized x (2 ^ 17) 1 → Sized y (2 ^ 17) 1 → Sized (centreRate v x y) (2 ^ 280) 1
-  centre-sized h k = sized (div-most (mul-most (mul-most (at-6 .0) (r .d_s .0) (2 ^ 7) 1 tt tt) (sub-most k h (2 ^ 18) 1 tt tt) (2 ^ 25) 1 tt tt) squared (2 ^ 280) 1 tt tt tt)
+  centre-sized : {x y : Float} → Sized x (2 ^ 17) 1 → Sized y (2 ^ 17) 1 → Sized (centreRate v x y) (2 ^ 296) 1
+  centre-sized h k = sized (div-most (mul-most (mul-most (at-6 .0) (r .d_s .0) (2 ^ 22) 1 tt tt) (sub-most k h (2 ^ 18) 1 tt tt) (2 ^ 40) 1 tt tt) squared (2 ^ 296) 1 tt tt tt)
 
-  ghost-sized : {x : Float} → Sized x (2 ^ 17) 1 → Sized (ghostNode v x) (2 ^ 190) 1
-  ghost-sized h = add-most h (div-most (mul-most (doubled .0) (r .j_n) (2 ^ 91) 1 tt tt) (r .d_s) (2 ^ 188) 1 tt tt tt) (2 ^ 190) 1 tt tt
+  ghost-sized : {x : Float} → Sized x (2 ^ 17) 1 → Sized (ghostNode v x) (2 ^ 206) 1
+  ghost-sized h = add-most h (div-most (mul-most (doubled .0) (r .j_n) (2 ^ 91) 1 tt tt) (r .d_s) (2 ^ 204) 1 tt tt tt) (2 ^ 206) 1 tt tt
 
   -- the outer neighbour may be the ghost
-  shell-sized : (i : ℕ) → 1 ≤ i → i ≤ 63 → {x y z : Float} → Sized x (2 ^ 17) 1 → Sized y (2 ^ 17) 1 → Sized z (2 ^ 190) 1 → Sized (shellRate v i x y z) (2 ^ 280) 1
+  shell-sized : (i : ℕ) → 1 ≤ i → i ≤ 63 → {x y z : Float} → Sized x (2 ^ 17) 1 → Sized y (2 ^ 17) 1 → Sized z (2 ^ 206) 1 → Sized (shellRate v i x y z) (2 ^ 296) 1
   shell-sized i l m h k g =
       let radius : Within (count i ⊗ v .dr) 1 (2 ^ 4) 1 (2 ^ 33) = mul-between (count-within i 63 1 m l (le-trans m (lit≤ tt))) (r .dr) 1 (2 ^ 4) 1 (2 ^ 33) tt tt tt tt in
-      let bend = div-most (add-most (sub-most g (mul-most (at-2 .0) k (2 ^ 18) 1 tt tt) (2 ^ 191) 1 tt tt) h (2 ^ 192) 1 tt tt) squared (2 ^ 258) 1 tt tt tt in
-      let slope = div-most (sub-most g h (2 ^ 191) 1 tt tt) doubled (2 ^ 223) 1 tt tt tt in
-      let turned = mul-most (div-most (at-2 .0) radius (2 ^ 34) 1 tt tt tt) slope (2 ^ 257) 1 tt tt in
-      sized (mul-most (r .d_s .0) (add-most bend turned (2 ^ 259) 1 tt tt) (2 ^ 280) 1 tt tt)
+      let bend = div-most (add-most (sub-most g (mul-most (at-2 .0) k (2 ^ 18) 1 tt tt) (2 ^ 207) 1 tt tt) h (2 ^ 208) 1 tt tt) squared (2 ^ 274) 1 tt tt tt in
+      let slope = div-most (sub-most g h (2 ^ 207) 1 tt tt) doubled (2 ^ 239) 1 tt tt tt in
+      let turned = mul-most (div-most (at-2 .0) radius (2 ^ 34) 1 tt tt tt) slope (2 ^ 273) 1 tt tt in
+      sized (mul-most (r .d_s .0) (add-most bend turned (2 ^ 275) 1 tt tt) (2 ^ 296) 1 tt tt)
 
-  rate-sized : (i : ℕ) → i < v .n → Sized (rate v c i) (2 ^ 280) 1
+  rate-sized : (i : ℕ) → i < v .n → Sized (rate v c i) (2 ^ 296) 1
   unfolding rate
   rate-sized i l = place (eqb i 0) refl
     where
-      outer : (b : Bool) → ltb i (v .n - 1) ≡ b → 1 ≤ i → Sized (cond b (c (i + 1)) (ghostNode v (c (i - 1)))) (2 ^ 190) 1
-      outer true e m = let k = ltb-true i (v .n - 1) e in most-wider (place-sized (i + 1) (omega arith)) (2 ^ 190) 1 tt tt
+      outer : (b : Bool) → ltb i (v .n - 1) ≡ b → 1 ≤ i → Sized (cond b (c (i + 1)) (ghostNode v (c (i - 1)))) (2 ^ 206) 1
+      outer true e m = let k = ltb-true i (v .n - 1) e in most-wider (place-sized (i + 1) (omega arith)) (2 ^ 206) 1 tt tt
       outer false e m = ghost-sized (place-sized (i - 1) (omega arith))
 
-      place : (b : Bool) → eqb i 0 ≡ b → Sized (cond b (centreRate v (c 0) (c 1)) (shellRate v i (c (i - 1)) (c i) (cond (ltb i (v .n - 1)) (c (i + 1)) (ghostNode v (c (i - 1)))))) (2 ^ 280) 1
+      place : (b : Bool) → eqb i 0 ≡ b → Sized (cond b (centreRate v (c 0) (c 1)) (shellRate v i (c (i - 1)) (c i) (cond (ltb i (v .n - 1)) (c (i + 1)) (ghostNode v (c (i - 1)))))) (2 ^ 296) 1
       place true e = let n = r .n-low in centre-sized (place-sized 0 (omega arith)) (place-sized 1 (omega arith))
       place false e =
           let m : 1 ≤ i = positive i (eqb-false i 0 e) in
@@ -87,7 +87,7 @@ module _ (v : SubStepParams) (r : Ranged v) (c : ℕ → Float) (nodes : (i : �
   pub node-in : (i : ℕ) → i < v .n → T (inRange (node v c i) «0·0» (v .c_max))
   unfolding node
   node-in i l =
-      let y = add-most (place-sized i l) (mul-most (r .dt) (rate-sized i l) (2 ^ 297) 1 tt tt) (2 ^ 298) 1 tt tt in
+      let y = add-most (place-sized i l) (mul-most (r .dt) (rate-sized i l) (2 ^ 313) 1 tt tt) (2 ^ 314) 1 tt tt in
       let s = within-scaled (r .c_max) 0 17 tt tt in
       let o = val-le «0·0» (v .c_max) zero-fine (s .fine) (≤F-trans (≤F-of-≈F zero-val) (le-of-lt (size-pos (s .size)))) in
       let k = clamp-in (c i ⊕ v .dt ⊗ rate v c i) «0·0» (v .c_max) (number (c i ⊕ v .dt ⊗ rate v c i) (y .fine)) (number «0·0» zero-fine) (number (v .c_max) (s .fine)) o in

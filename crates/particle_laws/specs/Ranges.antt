@@ -18,7 +18,7 @@ use Rattle.binary64.specs.Bounds.{within-scaled}
 use Rattle.binary64.specs.Value.{val, lt-val}
 use Rattle.binary64.specs.Literals.{«0·0», «200·0», «400·0», «86400·0», «100000·0», «1e13»}
 use Rattle.elementary.specs.Exp.{one}
-use Rattle.elementary.proofs.ArrheniusRange.{arrhenius-298}
+use Rattle.elementary.proofs.ArrheniusRange.{arrhenius-within}
 use Rattle.min_max.proofs.ChoiceLaws.{lt-le}
 use Rattle.refusal.specs.Numbers.{grid, load, interval, temperature, neither-refused, passed}
 use Rattle.refusal.specs.Ranges.{loadFits, intervalFits, temperatureFits}
@@ -46,6 +46,7 @@ pub record SheetRanges (s : ElectrodeParams) : Type 0 where
   pub plate : Within (s .area) (2 ^ 14) 1 1 (2 ^ 20)
   pub activation : Sized (s .«e_a_ds») 100000 1
   pub reaction : Within (s .«k_bv») 1 1 1 (2 ^ 54)
+  pub reference-temperature : Within (s .«t_ref») 400 1 200 1
 
 pub wider : {x : Float} {A C B E : ℕ} → Within x A C B E → (G H K J : ℕ) → T (ltb 0 H) → T (ltb 0 J) → T (leb (A * H) (G * C)) → T (leb (K * E) (B * J)) → Within x G H K J
 wider w G H K J h j l m = (most-wider (w .0) G H h l, least-wider (w .1) K J j m)
@@ -73,6 +74,7 @@ sheet-ranges s t =
       plate = wider (within (at 6) tt tt) (2 ^ 14) 1 1 (2 ^ 20) tt tt tt tt;
       activation = most-wider (tested-sized «0·0» (s .«e_a_ds») «100000·0» tt tt tt (at 7 .above) (at 7 .below)) 100000 1 tt tt;
       reaction = wider (within (at 8) tt tt) 1 1 1 (2 ^ 54) tt tt tt tt;
+      reference-temperature = wider (within (at 9) tt tt) 400 1 200 1 tt tt tt tt;
     }
 
 -- ---- the diffusivity, from 200 to 400 K
@@ -80,10 +82,10 @@ temperature-range : (t : Float) → T (temperatureFits t) → Within t 400 1 200
 unfolding ofBits
 temperature-range t h = wider (within (between t «200·0» «400·0» h) tt tt) 400 1 200 1 tt tt tt tt
 
--- from 2 ^ -97 to 2 ^ 4
-pub diffusivity-range : (s : ElectrodeParams) (t : Float) → T (sheetFits s) → T (temperatureFits t) → Within (diffusivityAt s t) (2 ^ 4) 1 1 (2 ^ 97)
+-- from 2 ^ -113 to 2 ^ 19
+pub diffusivity-range : (s : ElectrodeParams) (t : Float) → T (sheetFits s) → T (temperatureFits t) → Within (diffusivityAt s t) (2 ^ 19) 1 1 (2 ^ 113)
 unfolding diffusivityAt
-diffusivity-range s t h k = let r = sheet-ranges s h in mul-between (r .reference) (arrhenius-298 (r .activation) (temperature-range t k)) (2 ^ 4) 1 1 (2 ^ 97) tt tt tt tt
+diffusivity-range s t h k = let r = sheet-ranges s h in mul-between (r .reference) (arrhenius-within (r .activation) (r .reference-temperature) (temperature-range t k)) (2 ^ 19) 1 1 (2 ^ 113) tt tt tt tt
 
 -- ---- a sub-step
 -- what a sub-step works with, in ranges where each of its operations stays finite (`node-in` of Nodes); the flux may be far beyond the table's 1e13
@@ -91,7 +93,7 @@ pub record Ranged (v : SubStepParams) : Type 0 where
   pub n-low : 3 ≤ v .n
   pub n-high : v .n ≤ 64
   pub dr : Within (v .dr) 1 (2 ^ 10) 1 (2 ^ 33)
-  pub d_s : Within (v .d_s) (2 ^ 4) 1 1 (2 ^ 97)
+  pub d_s : Within (v .d_s) (2 ^ 19) 1 1 (2 ^ 113)
   pub c_max : Within (v .c_max) (2 ^ 17) 1 1 1
   pub j_n : Sized (v .j_n) (2 ^ 100) 1
   pub dt : Sized (v .dt) (2 ^ 17) 1
@@ -131,7 +133,7 @@ module _ (p : ParticleDiffusion) (h : particleRefusal p ≡ 0) where
       div-between (sheet-ranges (p .params) sheet-passed .radius) (count-within (p .«n_nodes» - 1) 63 2 m l (le-trans m (lit≤ tt))) 1 (2 ^ 10) 1 (2 ^ 33) tt tt tt tt tt
 
   -- a sub-step of the particle is in its ranges where its diffusivity, flux and length are
-  pub particle-ranged : {d j dt : Float} → Within d (2 ^ 4) 1 1 (2 ^ 97) → Sized j (2 ^ 100) 1 → Sized dt (2 ^ 17) 1 → nat 0 ≤F val dt → Ranged (subStepParamsOf p d j dt)
+  pub particle-ranged : {d j dt : Float} → Within d (2 ^ 19) 1 1 (2 ^ 113) → Sized j (2 ^ 100) 1 → Sized dt (2 ^ 17) 1 → nat 0 ≤F val dt → Ranged (subStepParamsOf p d j dt)
   particle-ranged d j t l = record { n-low = nodes-of p h .0; n-high = nodes-of p h .1; dr = spacing-range; d_s = d; c_max = sheet-ranges (p .params) sheet-passed .most; j_n = j; dt = t; dt-low = l }
 
 -- ---- the calls' own numbers

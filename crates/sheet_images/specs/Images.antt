@@ -1,32 +1,18 @@
--- The images of a sheet (10 words), a particle (75) and a single-particle cell's configuration (6).
+-- The images of a sheet (11 words), a particle (76) and a single-particle cell's configuration (6).
 use Prim.Native.Nat.{ℕ, _+_}
 use mathlib.Core.List.{List, [], _∷_}
 use lib.Ieee.{Float}
 use Rattle.codec.specs.Words.{wordAt, putWord, floatAt, placesAt, putRow}
 use Rattle.electrode.specs.declared.ElectrodeParams.{ElectrodeParams}
+use Rattle.electrode.specs.Numbers.{sheetOf, sheetNumbers}
 use Rattle.particle.specs.declared.ParticleDiffusion.{ParticleDiffusion}
 use Rattle.kinetics.specs.declared.SpmConfig.{SpmConfig}
 use Rattle.image_layout.specs.Layout.{particleNodes, particleProfile}
 
--- ---- a sheet from word `at` on: the chemistry, then the nine numbers
+-- ---- a sheet from word `at` on: the chemistry, then the ten numbers
 
 unfoldable pub sheetAt : List ℕ → ℕ → ElectrodeParams
-sheetAt s at = record {
-  «electrode_type» = wordAt s at;
-  «r_particle» = floatAt s (at + 1);
-  «d_s_ref» = floatAt s (at + 2);
-  «c_s_max» = floatAt s (at + 3);
-  «theta_init» = floatAt s (at + 4);
-  thickness = floatAt s (at + 5);
-  «epsilon_s» = floatAt s (at + 6);
-  area = floatAt s (at + 7);
-  «e_a_ds» = floatAt s (at + 8);
-  «k_bv» = floatAt s (at + 9);
-}
-
-abbrev pub sheetNumbers : ElectrodeParams → List Float
-sheetNumbers p =
-    p .«r_particle» ∷ p .«d_s_ref» ∷ p .«c_s_max» ∷ p .«theta_init» ∷ p .thickness ∷ p .«epsilon_s» ∷ p .area ∷ p .«e_a_ds» ∷ p .«k_bv» ∷ []
+sheetAt s at = sheetOf (wordAt s at) (placesAt 10 s (at + 1))
 
 unfoldable pub putSheet : List ℕ → ℕ → ElectrodeParams → List ℕ
 putSheet s at p = putRow (putWord s at (p .«electrode_type»)) (at + 1) (sheetNumbers p)

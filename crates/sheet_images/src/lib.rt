@@ -20,36 +20,15 @@ pub fn sheet_at(s: &[u8], at: usize) -> ElectrodeParams
     ensures { λ r. ⌜ r ≡ sheetAt (now (s .entry)) at ⌝ }
 {
     let mut x = [0.0; 10];
-    read_places(s, at, &mut x);
-    ElectrodeParams {
-        electrode_type: read_word(s, at),
-        r_particle: x[1],
-        d_s_ref: x[2],
-        c_s_max: x[3],
-        theta_init: x[4],
-        thickness: x[5],
-        epsilon_s: x[6],
-        area: x[7],
-        e_a_ds: x[8],
-        k_bv: x[9],
-    }
+    read_places(s, at + 1, &mut x);
+    ElectrodeParams::of_numbers(read_word(s, at), &x)
 }
 
 pub fn put_sheet(s: &mut [u8], at: usize, p: ElectrodeParams)
     requires { ⌜ at ≤ 1024 ⌝ }
     ensures { λ _. ⌜ now (s .exit) ≡ putSheet (now (s .entry)) at p ⌝ }
 {
-    let x = [
-        p.r_particle,
-        p.d_s_ref,
-        p.c_s_max,
-        p.theta_init,
-        p.thickness,
-        p.epsilon_s,
-        p.area,
-        p.e_a_ds,
-        p.k_bv,
-    ];
+    let x = p.numbers();
     write_word(s, at, p.electrode_type);
     write_places(s, at + 1, &x);
 }

@@ -236,7 +236,7 @@ module _ (s : SpmSolver) (i dt t : Float) (h : inputRefusal s i dt t ≡ 0) wher
       let m : Most dt false (2 ^ 17) 1 = rw (not-below dt (and-l (lt «0·0» dt) (le dt «86400·0») interval-fits)) at (interval-size .0) in
       div-count m (suc k) 1 (2 ^ 17) 1 (omega arith) (le-trans l (lit≤ tt)) tt tt tt
 
-  diffusivity-in : (e : Electrode) → Within (diffusivityIn e (planOf s i dt t)) (2 ^ 4) 1 1 (2 ^ 97)
+  diffusivity-in : (e : Electrode) → Within (diffusivityIn e (planOf s i dt t)) (2 ^ 19) 1 1 (2 ^ 113)
   unfolding planOf
   diffusivity-in Electrode.anode = diffusivity-range (s .anode .params) t (sheet-at s cell-passed Electrode.anode) temperature-fits
   diffusivity-in Electrode.cathode = diffusivity-range (s .cathode .params) t (sheet-at s cell-passed Electrode.cathode) temperature-fits

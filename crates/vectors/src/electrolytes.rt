@@ -19,6 +19,7 @@ fn next_params(fd: i32, d_e_ref: f64) -> ElectrolyteParams {
     let c_e_init = next_f64(fd);
     let e_a_de = next_f64(fd);
     let e_a_kappa = next_f64(fd);
+    let t_ref = next_f64(fd);
     ElectrolyteParams {
         d_e_ref,
         kappa_ref,
@@ -27,6 +28,7 @@ fn next_params(fd: i32, d_e_ref: f64) -> ElectrolyteParams {
         c_e_init,
         e_a_de,
         e_a_kappa,
+        t_ref,
     }
 }
 
@@ -91,6 +93,7 @@ fn same_params(p: ElectrolyteParams, q: ElectrolyteParams) -> bool {
         & same(p.c_e_init, q.c_e_init)
         & same(p.e_a_de, q.e_a_de)
         & same(p.e_a_kappa, q.e_a_kappa)
+        & same(p.t_ref, q.t_ref)
 }
 
 // Whether two states have the same parameters and regions.
@@ -125,6 +128,7 @@ fn zero_state() -> ElectrolyteState {
         c_e_init: 0.0,
         e_a_de: 0.0,
         e_a_kappa: 0.0,
+        t_ref: 0.0,
     };
     let c_e = [0.0; 96];
     ElectrolyteState {

@@ -1,4 +1,4 @@
--- `electrolyte_images::salt_at` meets its contract. Assumes nothing.
+-- `electrolyte_images::electrolyte_params_at` meets its contract. Assumes nothing.
 use Rattle.electrolyte_images.specs.Images.{electrolyteParamsAt}
 use Rattle.iterate.specs.Iterate.{firstBy}
 use borrow.Author.Needs.{needs}
@@ -32,6 +32,9 @@ array-read-t23 c = search needs
 array-read-t26 : tie.Need-array-read-t26
 array-read-t26 c = search needs
 
+array-read-t29 : tie.Need-array-read-t29
+array-read-t29 c = search needs
+
 returns : tie.Need-returns
 unfolding electrolyteParamsAt firstBy
 returns c = rw (c .before .read-places .ensures)
@@ -49,4 +52,5 @@ electrolyte-params-at-spec =
     array-read-t20
     array-read-t23
     array-read-t26
+    array-read-t29
     returns)

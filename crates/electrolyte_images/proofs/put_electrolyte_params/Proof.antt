@@ -1,4 +1,4 @@
--- `electrolyte_images::put_salt` meets its contract. Assumes nothing.
+-- `electrolyte_images::put_electrolyte_params` meets its contract. Assumes nothing.
 use Rattle.electrolyte_images.specs.Images.{putElectrolyteParams}
 use borrow.Author.Needs.{needs}
 use Rattle.electrolyte_images.proofs.put_electrolyte_params.Statement.{statement}
