@@ -22,18 +22,19 @@ longest e n d = stableStep e n d ⊗ «0·45»
 abbrev pub quotientWith : ElectrodeParams → ℕ → ElectrodeParams → ℕ → Float → Float → Float → Float
 quotientWith a n c m dt dNeg dPos = dt ⊘ minOf (minOf dt (longest a n dNeg)) (longest c m dPos)
 
--- the anode's sheet and count of nodes, the cathode's, Faraday's constant, current density, interval, temperature
+-- the anode's sheet and count of nodes, the cathode's, Faraday's constant, current density, interval, and both diffusivities
+abbrev pub planBy : ElectrodeParams → ℕ → ElectrodeParams → ℕ → Float → Float → Float → Float → Float → Plan
+planBy a n c m faraday j dt dNeg dPos = record {
+  «d_neg» = dNeg;
+  «d_pos» = dPos;
+  «j_neg» = neg j ⊘ surfaceCurrent a faraday;
+  «j_pos» = j ⊘ surfaceCurrent c faraday;
+  q = quotientWith a n c m dt dNeg dPos;
+}
+
+-- with the diffusivities at a temperature
 abbrev pub planWith : ElectrodeParams → ℕ → ElectrodeParams → ℕ → Float → Float → Float → Float → Plan
-planWith a n c m faraday j dt t =
-    let dNeg = diffusivityAt a t in
-    let dPos = diffusivityAt c t in
-    record {
-      «d_neg» = dNeg;
-      «d_pos» = dPos;
-      «j_neg» = neg j ⊘ surfaceCurrent a faraday;
-      «j_pos» = j ⊘ surfaceCurrent c faraday;
-      q = quotientWith a n c m dt dNeg dPos;
-    }
+planWith a n c m faraday j dt t = planBy a n c m faraday j dt (diffusivityAt a t) (diffusivityAt c t)
 
 -- corrected D from 1e-20 to 1e-8 in both electrodes; no more than 4,096 sub-steps
 unfoldable pub planRefusal : Plan → ℕ
