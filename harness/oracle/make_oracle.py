@@ -107,6 +107,14 @@ def code_of(line):
     return line.split("//", 1)[0]
 
 
+def refuse_left(path, name, text):
+    for number, line in enumerate(text.split("\n"), 1):
+        if LEFT.search(code_of(line)):
+            refuse(f"{path}:{number}: a method that the stand-ins do not cover is left: {line.strip()}")
+        if name in WITH_REFERENCE and FIXED.search(code_of(line)):
+            refuse(f"{path}:{number}: a fixed reference temperature is left: {line.strip()}")
+
+
 def main():
     parser = argparse.ArgumentParser(description=__doc__.split("\n", 1)[0])
     parser.add_argument("--source", default=DEFAULT_SOURCE, help="the folder with LICENSE.txt and src/battery/p2d")
@@ -123,11 +131,7 @@ def main():
     for path, content in sources.items():
         before, name = content.decode("utf-8"), os.path.basename(path)
         after = edited(name, before, counts)
-        for number, line in enumerate(after.split("\n"), 1):
-            if LEFT.search(code_of(line)):
-                refuse(f"{path}:{number}: a method that the stand-ins do not cover is left: {line.strip()}")
-            if name in WITH_REFERENCE and FIXED.search(code_of(line)):
-                refuse(f"{path}:{number}: a fixed reference temperature is left: {line.strip()}")
+        refuse_left(path, name, after)
         results[name] = after
         diff += difflib.unified_diff(before.split("\n"), after.split("\n"), path, f"oracle/{name}", lineterm="", n=0)
     if counts != EXPECTED:
