@@ -240,7 +240,7 @@ pub fn cell_steps(draw: &mut Draw) -> Vec<Vec<Slot>> {
         all.extend(one_fault(&solver::step_base(&t.cell, 3.0, t.dt, t.temp_k)));
     }
     all.extend(solver::diffusivity_at_limits(293.15).iter().map(|(cell, temp_k)| solver::stepping(cell, 3.0, 0.01, *temp_k)));
-    for _ in 0..120 {
+    for _ in 0..60 {
         let n = draw.count(3, 8);
         let cell = cell(draw, n);
         let t_ref = draw.pick(&[&cell.anode, &cell.cathode]).sheet.numbers[9];
