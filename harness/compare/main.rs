@@ -12,6 +12,7 @@ mod draw;
 mod earlier;
 mod images;
 mod records;
+mod references;
 mod shrink;
 mod tally;
 mod texts;
