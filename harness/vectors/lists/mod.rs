@@ -10,7 +10,7 @@ mod electrode;
 mod electrolyte;
 mod elementary;
 mod particle;
-mod reference;
+pub mod reference;
 mod replay;
 mod solver;
 

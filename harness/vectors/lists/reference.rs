@@ -81,9 +81,9 @@ fn farthest_sheets() -> Vec<(Sheet, f64)> {
 pub fn d_s(draw: &mut Draw) -> Vec<Vec<Slot>> {
     let asked = |sheet: Sheet, temp_k: f64| [sheet.slots(), vec![float(temp_k)]].concat();
     let mut all: Vec<_> = farthest_sheets().into_iter().map(|(sheet, temp_k)| asked(sheet, temp_k)).collect();
-    for sheet in electrode::sheets(draw, 7) {
+    for sheet in electrode::sheets(draw, 4) {
         for t_ref in several(draw) {
-            all.extend([t_ref, draw.within(TEMPERATURE)].map(|temp_k| asked(with(sheet, t_ref), temp_k)));
+            all.extend([t_ref, READY_REFERENCE, draw.within(TEMPERATURE)].map(|temp_k| asked(with(sheet, t_ref), temp_k)));
         }
     }
     all
@@ -166,21 +166,29 @@ fn sheet_of(cell: &mut Cell, at_anode: bool) -> &mut Sheet {
     }
 }
 
-/// A step that a reference temperature other than 298.15 turns: its number, 0 where it is accepted, was another.
+/// A cell whose step has another number with 298.15 in both sheets; 0 is accepted.
 struct Turned {
     cell: Cell,
     dt: f64,
     temp_k: f64,
-    number: u64,
+    /// with 298.15, and as it is
+    numbers: [u64; 2],
 }
 
-/// The step of this cell, whose reference temperatures are 298.15, after one electrode got another.
-fn turned(mut cell: Cell, at_anode: bool, t_ref: f64, [dt, temp_k]: [f64; 2], [before, after]: [u64; 2]) -> Turned {
-    let number = |cell: &Cell| cell.step(3.0, dt, temp_k).err().unwrap_or(0);
-    assert_eq!(number(&cell), before, "with 298.15");
-    sheet_of(&mut cell, at_anode).numbers[9] = t_ref;
-    assert_eq!(number(&cell), after, "with {t_ref}");
-    Turned { cell, dt, temp_k, number: after }
+impl Turned {
+    fn new(mut cell: Cell, at_anode: bool, t_ref: f64, [dt, temp_k]: [f64; 2], numbers: [u64; 2]) -> Self {
+        sheet_of(&mut cell, at_anode).numbers[9] = t_ref;
+        Self { cell, dt, temp_k, numbers }
+    }
+
+    fn check(&self) {
+        let mut before = self.cell.clone();
+        for at_anode in [true, false] {
+            sheet_of(&mut before, at_anode).numbers[9] = READY_REFERENCE;
+        }
+        let number = |cell: &Cell| cell.step(3.0, self.dt, self.temp_k).err().unwrap_or(0);
+        assert_eq!([number(&before), number(&self.cell)], self.numbers, "a step that t_ref turns");
+    }
 }
 
 /// Accepted, or refused with 6, by the reference temperature alone: the sheet's diffusivity is an end of its range.
@@ -197,7 +205,7 @@ fn turned_by_6(at_anode: bool) -> Vec<Turned> {
         let mut cell = Cell::new(config(3), anode, cathode).expect("ready sheets");
         let sheet = sheet_of(&mut cell, at_anode);
         (sheet.numbers[1], sheet.numbers[7]) = (d_s_ref, 5e4);
-        all.extend(references.map(|t_ref| turned(cell.clone(), at_anode, t_ref, [0.01, temp_k], numbers)));
+        all.extend(references.map(|t_ref| Turned::new(cell.clone(), at_anode, t_ref, [0.01, temp_k], numbers)));
     }
     all
 }
@@ -215,9 +223,9 @@ fn turned_by_7(at_anode: bool) -> Vec<Turned> {
         sheet_of(&mut slower, at_anode).numbers[9] = 350.0;
         let after = longest(&slower, temp_k);
         // up to the last interval that is accepted
-        all.extend([before.next_up(), 2.0 * before, after].map(|dt| turned(cell.clone(), at_anode, 350.0, [dt, temp_k], [7, 0])));
+        all.extend([before.next_up(), 2.0 * before, after].map(|dt| Turned::new(cell.clone(), at_anode, 350.0, [dt, temp_k], [7, 0])));
         let refused = [(293.15, before), (250.0, 0.5 * before), (200.0, 0.25 * before)];
-        all.extend(refused.map(|(t_ref, dt)| turned(cell.clone(), at_anode, t_ref, [dt, temp_k], [0, 7])));
+        all.extend(refused.map(|(t_ref, dt)| Turned::new(cell.clone(), at_anode, t_ref, [dt, temp_k], [0, 7])));
     }
     all
 }
@@ -236,7 +244,7 @@ pub fn cell_steps(draw: &mut Draw) -> Vec<Vec<Slot>> {
     all.extend(turned.iter().map(|t| solver::stepping(&t.cell, 3.0, t.dt, t.temp_k)));
     // 6 and 7, each with a fault of a lower number
     for number in [6, 7] {
-        let t = turned.iter().find(|t| t.number == number).expect("a refused step");
+        let t = turned.iter().find(|t| t.numbers[1] == number).expect("a refused step");
         all.extend(one_fault(&solver::step_base(&t.cell, 3.0, t.dt, t.temp_k)));
     }
     all.extend(solver::diffusivity_at_limits(293.15).iter().map(|(cell, temp_k)| solver::stepping(cell, 3.0, 0.01, *temp_k)));
@@ -318,31 +326,40 @@ pub fn rates(draw: &mut Draw) -> Vec<Vec<Slot>> {
             all.push(electrolyte::asking(p, porosity, temp_k));
         }
     }
-    for turn in 0..10 {
+    for turn in 0..7 {
         let p = if turn == 0 { Params::lipf6_ec_dmc() } else { electrolyte::random_params(draw) };
         for t_ref in several(draw) {
-            let temperatures = [t_ref, draw.within(TEMPERATURE)];
+            let temperatures = [t_ref, READY_REFERENCE, draw.within(TEMPERATURE)];
             all.extend(temperatures.map(|temp_k| electrolyte::asking(salt_with(p, t_ref), draw.within(POROSITY), temp_k)));
         }
     }
     all
 }
 
-/// A profile with peaks, from which a step with 298.15 is accepted or gives 8, and with this reference temperature the other.
-fn turned_by_8(d_e_ref: f64, t_ref: f64, [before, after]: [u64; 2]) -> Vec<Slot> {
+/// A profile with peaks, from which a long step at 400 K gives 8 or is accepted, as the diffusivity says.
+fn peaks(d_e_ref: f64, t_ref: f64) -> Electrolyte {
     let mut e = Electrolyte::new(ready_regions([1, 1, 1])).expect("regions in range");
     e.c_e[..3].copy_from_slice(&[1e298, 1.0, 1e298]);
-    (e.regions.params.numbers[0], e.regions.params.numbers[5]) = (d_e_ref, 1e5);
-    let numbers = [0.0, 0.0, 86_400.0, 400.0];
-    let number = |e: &Electrolyte| e.step_concentration(numbers[0], numbers[1], numbers[2], numbers[3]).err().unwrap_or(0);
-    assert_eq!(number(&e), before, "with 298.15");
-    e.regions.params = salt_with(e.regions.params, t_ref);
-    assert_eq!(number(&e), after, "with {t_ref}");
-    electrolyte::stepping(&e, numbers)
+    (e.regions.params.numbers[0], e.regions.params.numbers[5], e.regions.params.numbers[7]) = (d_e_ref, 1e5, t_ref);
+    e
+}
+
+/// Diffusivity, reference temperature, and the number with 298.15 and with it.
+const TURNED_BY_8: [(f64, f64, [u64; 2]); 2] = [(7.5e-11, 200.0, [0, 8]), (1e-6, 400.0, [8, 0])];
+const LONG_STEP: [f64; 4] = [0.0, 0.0, 86_400.0, 400.0];
+
+/// Ends the program where a case is not turned by its reference temperature, after the lists are written.
+pub fn check_turned() {
+    all_turned().iter().for_each(Turned::check);
+    for (d_e_ref, t_ref, numbers) in TURNED_BY_8 {
+        let [j_n_neg, j_n_pos, dt, temp_k] = LONG_STEP;
+        let number = |t_ref: f64| peaks(d_e_ref, t_ref).step_concentration(j_n_neg, j_n_pos, dt, temp_k).err().unwrap_or(0);
+        assert_eq!([READY_REFERENCE, t_ref].map(number), numbers, "a step of the electrolyte that t_ref turns");
+    }
 }
 
 pub fn electrolyte_steps(draw: &mut Draw) -> Vec<Vec<Slot>> {
-    let mut all = vec![turned_by_8(7.5e-11, 200.0, [0, 8]), turned_by_8(1e-6, 400.0, [8, 0])];
+    let mut all: Vec<_> = TURNED_BY_8.iter().map(|(d_e_ref, t_ref, _)| electrolyte::stepping(&peaks(*d_e_ref, *t_ref), LONG_STEP)).collect();
     for turn in 0..120 {
         let t_ref = drawn(draw);
         let ready = Regions { params: salt_with(Params::lipf6_ec_dmc(), t_ref), ..ready_regions([draw.count(1, 12), draw.count(1, 6), draw.count(1, 12)]) };
