@@ -53,8 +53,12 @@ def main():
     if len(sys.argv) != 3:
         sys.exit("without_t_ref: say which folder to read and which to write")
     folder, out = sys.argv[1:]
-    os.mkdir(out)
-    for file in sorted(os.listdir(folder)):
+    try:
+        files = sorted(os.listdir(folder))
+        os.mkdir(out)
+    except OSError as error:
+        sys.exit(f"without_t_ref: {error.filename}: {error.strerror}")
+    for file in files:
         with open(os.path.join(folder, file), encoding="ascii") as lines, open(os.path.join(out, file), "w", encoding="ascii") as kept:
             kept.writelines(line_without(file.removesuffix(".txt"), line.rstrip("\n")) for line in lines)
 

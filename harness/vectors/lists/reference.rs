@@ -48,6 +48,15 @@ fn temperature(draw: &mut Draw, t_ref: f64) -> f64 {
     }
 }
 
+/// A current of a ready cell, of some cases so large that the voltage ends a run.
+fn current(draw: &mut Draw) -> f64 {
+    if draw.below(4) == 0 {
+        200.0
+    } else {
+        draw.uniform(-4.0, 10.0)
+    }
+}
+
 fn interval(dt: f64) -> f64 {
     dt.clamp(f64::MIN_POSITIVE, 86_400.0)
 }
@@ -264,7 +273,7 @@ pub fn runs(draw: &mut Draw) -> Vec<Vec<Slot>> {
     let mut all = Vec::new();
     for (cell, temp_k) in ready_cells(draw) {
         let dt = interval(one_sub_step(&cell, temp_k) * draw.pick(&[0.5, 1.0, 4.0]));
-        let numbers = [draw.uniform(-4.0, 10.0), dt, temp_k, dt * draw.uniform(0.0, 12.0)];
+        let numbers = [current(draw), dt, temp_k, dt * draw.uniform(0.0, 12.0)];
         all.push(solver::running(&cell, numbers, draw.count(8, 80)));
     }
     for Turned { cell, dt, temp_k, .. } in all_turned() {
@@ -278,7 +287,7 @@ pub fn replays(draw: &mut Draw) -> Vec<Vec<Slot>> {
     let mut all = Vec::new();
     for (cell, temp_k) in ready_cells(draw) {
         let least = one_sub_step(&cell, temp_k);
-        let loads: Vec<[f64; 2]> = (0..draw.count(1, 6)).map(|_| [interval(least * draw.uniform(0.1, 4.0)), draw.uniform(-4.0, 10.0)]).collect();
+        let loads: Vec<[f64; 2]> = (0..draw.count(1, 6)).map(|_| [interval(least * draw.uniform(0.1, 4.0)), current(draw)]).collect();
         all.push(replaying(&cell, &text(&loads), temp_k, draw.count(8, 56)));
     }
     for Turned { cell, dt, temp_k, .. } in all_turned() {
