@@ -693,7 +693,7 @@ fn low_rates(draw: &mut Draw, turn: u64) -> Case {
     Case { start: image_of(Record::Cell.parts(), &cell.slots()), turns }
 }
 
-/// The largest activation energies, and the two temperatures as far apart as can be: a particle's or an electrolyte's rates at their largest and least.
+/// A particle's or an electrolyte's rates at their largest and least: the largest activation energies, the two temperatures far apart.
 fn far_temperatures(draw: &mut Draw, turn: u64) -> Case {
     let ((t_ref, temp_k), free) = (records::far_apart(draw), f64::from_bits(draw.pick(&SPECIAL)));
     if turn % 2 == 0 {

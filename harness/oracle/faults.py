@@ -199,7 +199,7 @@ ELECTRODE = [
     ("ocp of LFP: not clamped a second time", "    let x = x.clamp(0.01, 0.99);\n", "", because("x is clamped to the same limits before")),
     ("ocp of graphite: the root for powf(0.5)", "x.oracle_powf(0.5)", "x.sqrt()"),
     *reference("d_s"),
-    *((f"{name}: t_ref 293.15", "t_ref: 298.15", "t_ref: 293.15", nth(n)) for n, name in enumerate(["graphite_anode", "lfp_cathode", "nmc_cathode"], 1)),
+    *((f"{name}: t_ref 293.15", "t_ref: 298.15", "t_ref: 293.15", nth(n)) for n, name in [(1, "graphite_anode"), (2, "lfp_cathode"), (3, "nmc_cathode")]),
     ("step: 298.15 for t_ref", "let d_s = self.params.d_s(temp_k);", AT_298, nth(1)),
     ("dt_stable: 298.15 for t_ref", "let d_s = self.params.d_s(temp_k);", AT_298, nth(2)),
     ("new: the particle's t_ref is 298.15", "dr,\n            params,", "dr,\n            params: ElectrodeParams { t_ref: 298.15, ..params },"),
@@ -247,7 +247,8 @@ SOLVER = [
     ("step: 298.15 for both t_ref", AREA, AREA + " (self.anode.params.t_ref, self.cathode.params.t_ref) = (298.15, 298.15);"),
     swapped_interval("anode", "cathode"),
     swapped_interval("cathode", "anode"),
-    ("step: the anode at the cathode's t_ref", "self.anode.step(j_n_neg, dt_sub, temp_k)", "self.anode.step(j_n_neg, dt_sub, self.cathode.params.t_ref)"),
+    ("step: the anode at the cathode's t_ref", "self.anode.step(j_n_neg, dt_sub, temp_k)",
+     "self.anode.step(j_n_neg, dt_sub, self.cathode.params.t_ref)"),
     ("overpotential: t_ref for temp_k", "2.0 * r * temp_k / f", "2.0 * r * particle.params.t_ref / f"),
     ("step: a sub-step fewer", "for _ in 0..n_sub {", "for _ in 1..n_sub {"),
     ("step: a sub-step more", "for _ in 0..n_sub {", "for _ in 0..=n_sub {"),
@@ -486,7 +487,9 @@ CALLS_PARTICLE = [
     ("step: a profile that is not finite", "        finite_or_8(&[&moved.c_s])?;\n", "", FINITE),
 ]
 
+
 def with_298(electrode):
+    """An electrode's stable interval with 298.15."""
     return f"{{ let mut other = self.{electrode}.clone(); other.sheet.numbers[9] = 298.15; other.diffusion() }}.dt_stable(temp_k)"
 
 
