@@ -1,5 +1,5 @@
-//! Reference temperatures other than 298.15: the last cases of each list that takes a sheet or an electrolyte's parameters, so that the cases before
-//! them stay as they are.
+//! Reference temperatures other than 298.15: the last cases of each list that takes a sheet or an electrolyte's parameters, so that
+//! the cases before them stay as they are.
 use super::electrode::{self, ready_sheets};
 use super::electrolyte::{self, ready_regions};
 use super::particle::{self, random_profile};
@@ -74,7 +74,8 @@ pub fn sheet(draw: &mut Draw) -> Sheet {
     with(sheet, drawn(draw))
 }
 
-/// Sheets whose corrected diffusivity is the largest and the least that there are, about 1.2e5 and 8e-34, and the two between, each with its temperature.
+/// Sheets whose corrected diffusivity is the largest and the least that there are, about 1.2e5 and 8e-34, and two between, each with its
+/// temperature.
 fn farthest_sheets() -> Vec<(Sheet, f64)> {
     let mut all = Vec::new();
     for (t_ref, temp_k) in FARTHEST {
@@ -152,8 +153,8 @@ pub fn cell(draw: &mut Draw, n: u64) -> Cell {
     random_cell(draw, config, sheets)
 }
 
-/// Ready cells of which the anode alone, the cathode alone or both have another reference temperature, each at four temperatures: both reference
-/// temperatures among them.
+/// Ready cells of which the anode alone, the cathode alone or both have another reference temperature, each at four temperatures,
+/// both of these among them.
 fn ready_cells(draw: &mut Draw) -> Vec<(Cell, f64)> {
     let mut all = Vec::new();
     for (sheets, n) in pairs_of_sheets().into_iter().zip([3, 11]) {
@@ -371,7 +372,8 @@ pub fn electrolyte_steps(draw: &mut Draw) -> Vec<Vec<Slot>> {
     let mut all: Vec<_> = TURNED_BY_8.iter().map(|(d_e_ref, t_ref, _)| electrolyte::stepping(&peaks(*d_e_ref, *t_ref), LONG_STEP)).collect();
     for turn in 0..120 {
         let t_ref = drawn(draw);
-        let ready = Regions { params: salt_with(Params::lipf6_ec_dmc(), t_ref), ..ready_regions([draw.count(1, 12), draw.count(1, 6), draw.count(1, 12)]) };
+        let counts = [draw.count(1, 12), draw.count(1, 6), draw.count(1, 12)];
+        let ready = Regions { params: salt_with(Params::lipf6_ec_dmc(), t_ref), ..ready_regions(counts) };
         let regions = if turn % 2 == 0 { ready } else { regions(draw) };
         let e = electrolyte::random_state(draw, regions);
         let temp_k = temperature(draw, regions.params.numbers[7]);

@@ -112,7 +112,7 @@ pub(super) fn diffusivity_out(draw: &mut Draw, at_anode: bool, high: bool) -> (C
     (random_cell(draw, config(3), (anode, cathode)), if high { 350.0 } else { 250.0 })
 }
 
-/// Ready cells of which one electrode, of this reference temperature, has a corrected diffusivity at a limit or next to one, each with its temperature.
+/// Ready cells of which one electrode, with this t_ref, has a corrected diffusivity at a limit or next to one, each with its temperature.
 pub(super) fn diffusivity_at_limits(t_ref: f64) -> Vec<(Cell, f64)> {
     let mut all = Vec::new();
     for (limit, temp_k) in [(DIFFUSIVITY.low, 290.0), (DIFFUSIVITY.high, 310.0)] {
