@@ -14,7 +14,7 @@
 /* ---- records, as structs of eight-byte fields ---- */
 struct sheet {
     uint64_t chemistry;
-    double r_particle, d_s_ref, c_s_max, theta_init, thickness, epsilon_s, area, e_a_ds, k_bv;
+    double r_particle, d_s_ref, c_s_max, theta_init, thickness, epsilon_s, area, e_a_ds, k_bv, t_ref;
 };
 struct particle {
     struct sheet sheet;
@@ -35,7 +35,7 @@ struct report {
     uint64_t cutoff, sub_steps;
 };
 struct electrolyte_params {
-    double d_e_ref, kappa_ref, t_plus, bruggeman, c_e_init, e_a_de, e_a_kappa;
+    double d_e_ref, kappa_ref, t_plus, bruggeman, c_e_init, e_a_de, e_a_kappa, t_ref;
 };
 struct regions {
     struct electrolyte_params params;
@@ -138,6 +138,7 @@ OFFSET(sheet, epsilon_s, PJ_AT_SHEET_EPSILON_S);
 OFFSET(sheet, area, PJ_AT_SHEET_AREA);
 OFFSET(sheet, e_a_ds, PJ_AT_SHEET_E_A_DS);
 OFFSET(sheet, k_bv, PJ_AT_SHEET_K_BV);
+OFFSET(sheet, t_ref, PJ_AT_SHEET_T_REF);
 OFFSET(particle, sheet, PJ_AT_PARTICLE_SHEET);
 OFFSET(particle, n_nodes, PJ_AT_PARTICLE_N_NODES);
 OFFSET(particle, c_s, PJ_AT_PARTICLE_C_S);
@@ -169,6 +170,7 @@ OFFSET(electrolyte_params, bruggeman, PJ_AT_ELECTROLYTE_PARAMS_BRUGGEMAN);
 OFFSET(electrolyte_params, c_e_init, PJ_AT_ELECTROLYTE_PARAMS_C_E_INIT);
 OFFSET(electrolyte_params, e_a_de, PJ_AT_ELECTROLYTE_PARAMS_E_A_DE);
 OFFSET(electrolyte_params, e_a_kappa, PJ_AT_ELECTROLYTE_PARAMS_E_A_KAPPA);
+OFFSET(electrolyte_params, t_ref, PJ_AT_ELECTROLYTE_PARAMS_T_REF);
 OFFSET(regions, params, PJ_AT_REGIONS_PARAMS);
 OFFSET(regions, l_neg, PJ_AT_REGIONS_L_NEG);
 OFFSET(regions, l_sep, PJ_AT_REGIONS_L_SEP);
@@ -294,8 +296,8 @@ static int near(double x, double y)
 
 static void ready_sheets(void)
 {
-    static const double numbers_lfp[9] = {2.5e-6, 1e-14, 22806.0, 0.20, 80e-6, 0.50, 0.0626, 20000.0, 2e-11};
-    static const double numbers_nmc[9] = {5e-6, 1.5e-14, 49000.0, 0.15, 90e-6, 0.55, 0.0626, 25000.0, 2e-11};
+    static const double numbers_lfp[10] = {2.5e-6, 1e-14, 22806.0, 0.20, 80e-6, 0.50, 0.0626, 20000.0, 2e-11, 298.15};
+    static const double numbers_nmc[10] = {5e-6, 1.5e-14, 49000.0, 0.15, 90e-6, 0.55, 0.0626, 25000.0, 2e-11, 298.15};
     size_t i;
     EXPECT(build(PJ_BUILD_GRAPHITE_ANODE, empty, 0, graphite, sizeof graphite) == PJ_REFUSAL_NONE);
     EXPECT(build(PJ_BUILD_LFP_CATHODE, empty, 0, lfp, sizeof lfp) == PJ_REFUSAL_NONE);
@@ -312,7 +314,8 @@ static void ready_sheets(void)
     EXPECT_F64(graphite, PJ_AT_SHEET_AREA, 0.0626);
     EXPECT_F64(graphite, PJ_AT_SHEET_E_A_DS, 35000.0);
     EXPECT_F64(graphite, PJ_AT_SHEET_K_BV, 2e-11);
-    for (i = 0; i < 9; i++) {
+    EXPECT_F64(graphite, PJ_AT_SHEET_T_REF, 298.15);
+    for (i = 0; i < 10; i++) {
         EXPECT_F64(lfp, PJ_AT_SHEET_R_PARTICLE + 8 * i, numbers_lfp[i]);
         EXPECT_F64(nmc, PJ_AT_SHEET_R_PARTICLE + 8 * i, numbers_nmc[i]);
     }
@@ -328,6 +331,7 @@ static void ready_electrolyte_params(void)
     EXPECT_F64(electrolyte_params, PJ_AT_ELECTROLYTE_PARAMS_C_E_INIT, 1000.0);
     EXPECT_F64(electrolyte_params, PJ_AT_ELECTROLYTE_PARAMS_E_A_DE, 17000.0);
     EXPECT_F64(electrolyte_params, PJ_AT_ELECTROLYTE_PARAMS_E_A_KAPPA, 12000.0);
+    EXPECT_F64(electrolyte_params, PJ_AT_ELECTROLYTE_PARAMS_T_REF, 298.15);
 }
 
 static void ready_dfn_params(void)
@@ -468,6 +472,28 @@ static void numbers(void)
     EXPECT(NUMBER(PJ_NUMBER_N_TOTAL, electrolyte, sizeof electrolyte, 0, 0) == 3.0);
     EXPECT(NUMBER(PJ_NUMBER_ELECTROLYTE_AVG, electrolyte, sizeof electrolyte, 0, 0) == 1000.0);
     EXPECT(NUMBER(PJ_NUMBER_ELECTROLYTE_DT_STABLE, electrolyte, sizeof electrolyte, T, 0) > 0.0);
+}
+
+/* At t_ref a rate is its reference value; each electrode of a cell has its own. */
+static void reference_temperatures(void)
+{
+    static uint8_t sheet[PJ_SHEET_BYTES], salt[PJ_ELECTROLYTE_PARAMS_BYTES], given[PJ_NEW_CELL_BYTES], step[PJ_CELL_STEP_BYTES];
+    memcpy(sheet, graphite, sizeof sheet);
+    memcpy(salt, electrolyte_params, sizeof salt);
+    pj_put_f64(sheet, PJ_AT_SHEET_T_REF, 293.15);
+    pj_put_f64(salt, PJ_AT_ELECTROLYTE_PARAMS_T_REF, 293.15);
+    EXPECT(NUMBER(PJ_NUMBER_D_S, sheet, sizeof sheet, 293.15, 0) == 3.9e-14 && NUMBER(PJ_NUMBER_D_S, sheet, sizeof sheet, T, 0) > 3.9e-14);
+    EXPECT(NUMBER(PJ_NUMBER_D_E, salt, sizeof salt, 0, 293.15) == 7.5e-11 && NUMBER(PJ_NUMBER_D_E, salt, sizeof salt, 0, T) > 7.5e-11);
+    EXPECT(NUMBER(PJ_NUMBER_KAPPA, salt, sizeof salt, 0, 293.15) == 1.1 && NUMBER(PJ_NUMBER_KAPPA, salt, sizeof salt, 0, T) > 1.1);
+
+    memcpy(given, new_cell, sizeof given);
+    pj_put_f64(given, PJ_AT_NEW_CELL_ANODE + PJ_AT_SHEET_D_S_REF, 1e-8);
+    pj_put_f64(given, PJ_AT_NEW_CELL_CATHODE + PJ_AT_SHEET_T_REF, 350.0);
+    EXPECT(build(PJ_BUILD_CELL, given, sizeof given, cell_of, sizeof cell_of) == PJ_REFUSAL_NONE);
+    EXPECT(pj_cell_step(cell_of, sizeof cell_of, 3.0, 0.01, 350.0, step, sizeof step) == PJ_REFUSAL_DIFFUSIVITY);
+    pj_put_f64(given, PJ_AT_NEW_CELL_ANODE + PJ_AT_SHEET_T_REF, 350.0);
+    EXPECT(build(PJ_BUILD_CELL, given, sizeof given, cell_of, sizeof cell_of) == PJ_REFUSAL_NONE);
+    EXPECT(pj_cell_step(cell_of, sizeof cell_of, 3.0, 0.01, 350.0, step, sizeof step) == PJ_REFUSAL_NONE);
 }
 
 /* The signs that the header states. */
@@ -807,7 +833,7 @@ int main(void)
     /* C++ refuses this; harness/c/run sees to it */
     EXPECT(pj_number(PJ_SHEET_BYTES, empty, 0, 0, 0, run, PJ_NUMBER_BYTES) == PJ_REFUSAL_SHEET);
 #endif
-    EXPECT(PJ_LAYOUT_VERSION == 1);
+    EXPECT(PJ_LAYOUT_VERSION == 2);
     ready_sheets();
     ready_electrolyte_params();
     ready_dfn_params();
@@ -816,6 +842,7 @@ int main(void)
     new_electrolytes();
     new_dfn_cells();
     numbers();
+    reference_temperatures();
     single_particle_steps();
     dfn_steps();
     discharges();

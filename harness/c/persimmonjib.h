@@ -35,8 +35,9 @@
 #include <stdint.h>
 #include <string.h>
 
-/* Rises when a size, an offset, a number or the meaning of a field changes. Compare it with the one that you wrote for. */
-#define PJ_LAYOUT_VERSION 1
+/* Rises when a size, an offset, a number or the meaning of a field changes. Compare it with the one that you wrote for.
+ * 2: a sheet and electrolyte parameters end with t_ref, so that these and the records that hold them are longer. */
+#define PJ_LAYOUT_VERSION 2
 
 #ifdef __cplusplus
 extern "C" {
@@ -75,14 +76,14 @@ enum pj_ending {
 /* ---- sizes of images, in bytes -------------------------------------------------------------------------------------------- */
 
 enum pj_bytes {
-    PJ_SHEET_BYTES = 80,
-    PJ_PARTICLE_BYTES = 600,
+    PJ_SHEET_BYTES = 88,
+    PJ_PARTICLE_BYTES = 608,
     PJ_CONFIG_BYTES = 48,
-    PJ_CELL_BYTES = 1256,
+    PJ_CELL_BYTES = 1272,
     PJ_REPORT_BYTES = 72,
-    PJ_ELECTROLYTE_PARAMS_BYTES = 56,
-    PJ_REGIONS_BYTES = 128,
-    PJ_ELECTROLYTE_BYTES = 896,
+    PJ_ELECTROLYTE_PARAMS_BYTES = 64,
+    PJ_REGIONS_BYTES = 136,
+    PJ_ELECTROLYTE_BYTES = 904,
     PJ_DFN_PARAMS_BYTES = 472,
     PJ_DFN_CONFIG_BYTES = 40,
     PJ_DFN_CELL_BYTES = 9008,
@@ -91,13 +92,13 @@ enum pj_bytes {
     PJ_ENDING_BYTES = 16,
 
     /* joined: what a call takes */
-    PJ_NEW_PARTICLE_BYTES = 88, /* sheet, n_nodes */
-    PJ_NEW_CELL_BYTES = 208,    /* config, anode's sheet, cathode's sheet */
+    PJ_NEW_PARTICLE_BYTES = 96, /* sheet, n_nodes */
+    PJ_NEW_CELL_BYTES = 224,    /* config, anode's sheet, cathode's sheet */
     PJ_NEW_DFN_BYTES = 512,     /* DFN parameters, DFN config */
     /* joined: what a call answers */
     PJ_NUMBER_BYTES = 8,       /* one binary64 */
-    PJ_CELL_STEP_BYTES = 1328, /* cell, report */
-    PJ_CELL_RUN_BYTES = 1272,  /* cell, ending */
+    PJ_CELL_STEP_BYTES = 1344, /* cell, report */
+    PJ_CELL_RUN_BYTES = 1288,  /* cell, ending */
     PJ_DFN_STEP_BYTES = 9072,  /* DFN cell, DFN report */
     PJ_DFN_RUN_BYTES = 9024    /* DFN cell, ending */
 };
@@ -121,7 +122,7 @@ enum pj_at {
     /* a sheet */
     PJ_AT_SHEET_CHEMISTRY = 0,   /* whole: PJ_CHEMISTRY_... */
     PJ_AT_SHEET_R_PARTICLE = 8,  /* m, 1e-8 to 1e-3 */
-    PJ_AT_SHEET_D_S_REF = 16,    /* m^2/s at 298.15 K, 1e-20 to 1e-8 */
+    PJ_AT_SHEET_D_S_REF = 16,    /* m^2/s at t_ref, 1e-20 to 1e-8 */
     PJ_AT_SHEET_C_S_MAX = 24,    /* mol/m^3, 1 to 131,072 */
     PJ_AT_SHEET_THETA_INIT = 32, /* 0 to 1; 0 is empty of lithium, 1 is full */
     PJ_AT_SHEET_THICKNESS = 40,  /* m, 1e-7 to 1e-2 */
@@ -129,11 +130,12 @@ enum pj_at {
     PJ_AT_SHEET_AREA = 56,       /* m^2, 1e-6 to 1e4; a cell uses its anode's */
     PJ_AT_SHEET_E_A_DS = 64,     /* J/mol, 0 to 1e5 */
     PJ_AT_SHEET_K_BV = 72,       /* m^2.5/(mol^0.5 s), 1e-16 to 1 */
+    PJ_AT_SHEET_T_REF = 80,      /* K, the temperature of d_s_ref, 200 to 400, else PJ_REFUSAL_SHEET; 298.15 in the ready sheets */
 
     /* a particle */
     PJ_AT_PARTICLE_SHEET = 0,
-    PJ_AT_PARTICLE_N_NODES = 80, /* whole, 3 to 64; take an odd one: the averages of an even one are wrong */
-    PJ_AT_PARTICLE_C_S = 88,     /* mol/m^3, 64 places from centre to surface; the first n_nodes 0 to c_s_max, the rest +0 */
+    PJ_AT_PARTICLE_N_NODES = 88, /* whole, 3 to 64; take an odd one: the averages of an even one are wrong */
+    PJ_AT_PARTICLE_C_S = 96,     /* mol/m^3, 64 places from centre to surface; the first n_nodes 0 to c_s_max, the rest +0 */
 
     /* the config of a single-particle cell */
     PJ_AT_CONFIG_N_NODES = 0,               /* whole, 3 to 64, of both particles */
@@ -146,11 +148,11 @@ enum pj_at {
     /* a single-particle cell */
     PJ_AT_CELL_CONFIG = 0,
     PJ_AT_CELL_ANODE = 48,    /* particle; its n_nodes is the config's, else PJ_REFUSAL_GRID */
-    PJ_AT_CELL_CATHODE = 648, /* particle; likewise */
-    PJ_AT_CELL_TIME_S = 1248, /* s, the cell's clock: finite, not below 0 */
+    PJ_AT_CELL_CATHODE = 656, /* particle; likewise */
+    PJ_AT_CELL_TIME_S = 1264, /* s, the cell's clock: finite, not below 0 */
     /* after the cell, in the answers of pj_cell_step, pj_simulate_discharge and pj_replay */
-    PJ_AT_CELL_REPORT = 1256,
-    PJ_AT_CELL_ENDING = 1256,
+    PJ_AT_CELL_REPORT = 1272,
+    PJ_AT_CELL_ENDING = 1272,
 
     /* a step's report */
     PJ_AT_REPORT_VOLTAGE = 0,        /* V */
@@ -164,29 +166,30 @@ enum pj_at {
     PJ_AT_REPORT_SUB_STEPS = 64,     /* whole, 1 to 4096 */
 
     /* electrolyte parameters */
-    PJ_AT_ELECTROLYTE_PARAMS_D_E_REF = 0,    /* m^2/s, 1e-16 to 1e-6 */
-    PJ_AT_ELECTROLYTE_PARAMS_KAPPA_REF = 8,  /* S/m, 1e-6 to 100 */
+    PJ_AT_ELECTROLYTE_PARAMS_D_E_REF = 0,    /* m^2/s at t_ref, 1e-16 to 1e-6 */
+    PJ_AT_ELECTROLYTE_PARAMS_KAPPA_REF = 8,  /* S/m at t_ref, 1e-6 to 100 */
     PJ_AT_ELECTROLYTE_PARAMS_T_PLUS = 16,    /* 0 to 1 */
     PJ_AT_ELECTROLYTE_PARAMS_BRUGGEMAN = 24, /* 0 to 4 */
     PJ_AT_ELECTROLYTE_PARAMS_C_E_INIT = 32,  /* mol/m^3, 1 to 1e5 */
     PJ_AT_ELECTROLYTE_PARAMS_E_A_DE = 40,    /* J/mol, 0 to 1e5 */
     PJ_AT_ELECTROLYTE_PARAMS_E_A_KAPPA = 48, /* J/mol, 0 to 1e5 */
+    PJ_AT_ELECTROLYTE_PARAMS_T_REF = 56,     /* K, 200 to 400, else PJ_REFUSAL_SHEET; 298.15 in the ready parameters */
 
     /* the regions of an electrolyte */
     PJ_AT_REGIONS_PARAMS = 0,
-    PJ_AT_REGIONS_L_NEG = 56,   /* m, 1e-7 to 1e-2 */
-    PJ_AT_REGIONS_L_SEP = 64,   /* m, 1e-7 to 1e-2 */
-    PJ_AT_REGIONS_L_POS = 72,   /* m, 1e-7 to 1e-2 */
-    PJ_AT_REGIONS_EPS_NEG = 80, /* porosity, 0.01 to 1 */
-    PJ_AT_REGIONS_EPS_SEP = 88, /* porosity, 0.01 to 1 */
-    PJ_AT_REGIONS_EPS_POS = 96, /* porosity, 0.01 to 1 */
-    PJ_AT_REGIONS_N_NEG = 104,  /* whole, 1 to 32 */
-    PJ_AT_REGIONS_N_SEP = 112,  /* whole, 1 to 32 */
-    PJ_AT_REGIONS_N_POS = 120,  /* whole, 1 to 32 */
+    PJ_AT_REGIONS_L_NEG = 64,    /* m, 1e-7 to 1e-2 */
+    PJ_AT_REGIONS_L_SEP = 72,    /* m, 1e-7 to 1e-2 */
+    PJ_AT_REGIONS_L_POS = 80,    /* m, 1e-7 to 1e-2 */
+    PJ_AT_REGIONS_EPS_NEG = 88,  /* porosity, 0.01 to 1 */
+    PJ_AT_REGIONS_EPS_SEP = 96,  /* porosity, 0.01 to 1 */
+    PJ_AT_REGIONS_EPS_POS = 104, /* porosity, 0.01 to 1 */
+    PJ_AT_REGIONS_N_NEG = 112,   /* whole, 1 to 32 */
+    PJ_AT_REGIONS_N_SEP = 120,   /* whole, 1 to 32 */
+    PJ_AT_REGIONS_N_POS = 128,   /* whole, 1 to 32 */
 
     /* an electrolyte */
     PJ_AT_ELECTROLYTE_REGIONS = 0,
-    PJ_AT_ELECTROLYTE_C_E = 128, /* mol/m^3, 96 places; the first n_neg + n_sep + n_pos at least 1e-10, the rest +0 */
+    PJ_AT_ELECTROLYTE_C_E = 136, /* mol/m^3, 96 places; the first n_neg + n_sep + n_pos at least 1e-10, the rest +0 */
 
     /* DFN parameters */
     PJ_AT_DFN_PARAMS_L_NEG = 0,            /* m, 1e-7 to 1e-2 */
@@ -258,10 +261,10 @@ enum pj_at {
 
     /* the joined records that a build takes */
     PJ_AT_NEW_PARTICLE_SHEET = 0,
-    PJ_AT_NEW_PARTICLE_N_NODES = 80,
+    PJ_AT_NEW_PARTICLE_N_NODES = 88,
     PJ_AT_NEW_CELL_CONFIG = 0,
     PJ_AT_NEW_CELL_ANODE = 48,
-    PJ_AT_NEW_CELL_CATHODE = 128,
+    PJ_AT_NEW_CELL_CATHODE = 136,
     PJ_AT_NEW_DFN_PARAMS = 0,
     PJ_AT_NEW_DFN_CONFIG = 472
 };

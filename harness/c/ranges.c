@@ -111,6 +111,7 @@ static void sheets(void)
         {PJ_AT_SHEET_R_PARTICLE, 1e-8, 1e-3}, {PJ_AT_SHEET_D_S_REF, 1e-20, 1e-8}, {PJ_AT_SHEET_C_S_MAX, 1, 131072},
         {PJ_AT_SHEET_THETA_INIT, 0, 1}, {PJ_AT_SHEET_THICKNESS, 1e-7, 1e-2}, {PJ_AT_SHEET_EPSILON_S, 0.01, 1},
         {PJ_AT_SHEET_AREA, 1e-6, 1e4}, {PJ_AT_SHEET_E_A_DS, 0, 1e5}, {PJ_AT_SHEET_K_BV, 1e-16, 1},
+        {PJ_AT_SHEET_T_REF, 200, 400},
     };
     static const struct count whole[] = {{PJ_AT_SHEET_CHEMISTRY, 1, 3, PJ_REFUSAL_SHEET}, {PJ_AT_NEW_PARTICLE_N_NODES, 3, 64, PJ_REFUSAL_GRID}};
     expect(__LINE__, "sheet", pj_build(PJ_BUILD_GRAPHITE_ANODE, empty, 0, new_particle, PJ_SHEET_BYTES), PJ_REFUSAL_NONE);
@@ -141,6 +142,7 @@ static void electrolytes(void)
     static const struct field list[] = {
         {PJ_AT_ELECTROLYTE_PARAMS_D_E_REF, 1e-16, 1e-6}, {PJ_AT_ELECTROLYTE_PARAMS_KAPPA_REF, 1e-6, 100}, {PJ_AT_ELECTROLYTE_PARAMS_T_PLUS, 0, 1}, {PJ_AT_ELECTROLYTE_PARAMS_BRUGGEMAN, 0, 4},
         {PJ_AT_ELECTROLYTE_PARAMS_C_E_INIT, 1, 1e5}, {PJ_AT_ELECTROLYTE_PARAMS_E_A_DE, 0, 1e5}, {PJ_AT_ELECTROLYTE_PARAMS_E_A_KAPPA, 0, 1e5},
+        {PJ_AT_ELECTROLYTE_PARAMS_T_REF, 200, 400},
         {PJ_AT_REGIONS_L_NEG, 1e-7, 1e-2}, {PJ_AT_REGIONS_L_SEP, 1e-7, 1e-2}, {PJ_AT_REGIONS_L_POS, 1e-7, 1e-2},
         {PJ_AT_REGIONS_EPS_NEG, 0.01, 1}, {PJ_AT_REGIONS_EPS_SEP, 0.01, 1}, {PJ_AT_REGIONS_EPS_POS, 0.01, 1},
     };

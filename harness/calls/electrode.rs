@@ -3,8 +3,8 @@ use crate::table::{all_in, finite_or_8, range, Met, Range, TEMPERATURE};
 use crate::words::{float, word, Reader, Slot};
 use oracle::electrode::{self, ElectrodeParams, ElectrodeType};
 
-/// r_particle, d_s_ref, c_s_max, theta_init, thickness, epsilon_s, area, e_a_ds, k_bv
-pub const RANGES: [Range; 9] = [
+/// r_particle, d_s_ref, c_s_max, theta_init, thickness, epsilon_s, area, e_a_ds, k_bv, t_ref
+pub const RANGES: [Range; 10] = [
     range(1e-8, 1e-3),
     range(1e-20, 1e-8),
     range(1.0, 131_072.0),
@@ -14,13 +14,14 @@ pub const RANGES: [Range; 9] = [
     range(1e-6, 1e4),
     range(0.0, 1e5),
     range(1e-16, 1.0),
+    range(200.0, 400.0),
 ];
 
 #[derive(Clone, Copy)]
 pub struct Sheet {
     /// 1 graphite, 2 LFP, 3 NMC
     pub chemistry: u64,
-    pub numbers: [f64; 9],
+    pub numbers: [f64; 10],
 }
 
 impl Sheet {
@@ -48,6 +49,7 @@ impl Sheet {
             params.area,
             params.e_a_ds,
             params.k_bv,
+            params.t_ref,
         ];
         Self { chemistry, numbers }
     }
@@ -74,13 +76,13 @@ impl Sheet {
 
     /// The Rust's record, of a sheet that fits.
     pub fn params(&self) -> ElectrodeParams {
-        let [r_particle, d_s_ref, c_s_max, theta_init, thickness, epsilon_s, area, e_a_ds, k_bv] = self.numbers;
+        let [r_particle, d_s_ref, c_s_max, theta_init, thickness, epsilon_s, area, e_a_ds, k_bv, t_ref] = self.numbers;
         let electrode_type = match self.chemistry {
             1 => ElectrodeType::Graphite,
             2 => ElectrodeType::LFP,
             _ => ElectrodeType::NMC,
         };
-        ElectrodeParams { electrode_type, r_particle, d_s_ref, c_s_max, theta_init, thickness, epsilon_s, area, e_a_ds, k_bv }
+        ElectrodeParams { electrode_type, r_particle, d_s_ref, c_s_max, theta_init, thickness, epsilon_s, area, e_a_ds, k_bv, t_ref }
     }
 
     fn checked(&self, argument_ok: bool) -> Result<ElectrodeParams, u64> {

@@ -4,8 +4,8 @@ use crate::table::{all_in, finite_or_8, interval, load, places, range, Met, Rang
 use crate::words::{array, float, word, Reader, Slot};
 use oracle::electrolyte::{ElectrolyteParams, ElectrolyteState};
 
-/// d_e_ref, kappa_ref, t_plus, bruggeman, c_e_init, e_a_de, e_a_kappa
-pub const RANGES: [Range; 7] = [
+/// d_e_ref, kappa_ref, t_plus, bruggeman, c_e_init, e_a_de, e_a_kappa, t_ref
+pub const RANGES: [Range; 8] = [
     range(1e-16, 1e-6),
     range(1e-6, 100.0),
     range(0.0, 1.0),
@@ -13,6 +13,7 @@ pub const RANGES: [Range; 7] = [
     range(1.0, 1e5),
     range(0.0, 1e5),
     range(0.0, 1e5),
+    range(200.0, 400.0),
 ];
 pub const LENGTH: Range = range(1e-7, 1e-2);
 pub const POROSITY: Range = range(0.01, 1.0);
@@ -22,7 +23,7 @@ pub const FLOOR: Range = range(1e-10, f64::MAX);
 
 #[derive(Clone, Copy)]
 pub struct Params {
-    pub numbers: [f64; 7],
+    pub numbers: [f64; 8],
 }
 
 impl Params {
@@ -36,7 +37,7 @@ impl Params {
 
     pub fn lipf6_ec_dmc() -> Self {
         let p = ElectrolyteParams::lipf6_ec_dmc();
-        Self { numbers: [p.d_e_ref, p.kappa_ref, p.t_plus, p.bruggeman, p.c_e_init, p.e_a_de, p.e_a_kappa] }
+        Self { numbers: [p.d_e_ref, p.kappa_ref, p.t_plus, p.bruggeman, p.c_e_init, p.e_a_de, p.e_a_kappa, p.t_ref] }
     }
 
     pub fn fits(&self) -> bool {
@@ -44,8 +45,8 @@ impl Params {
     }
 
     pub fn params(&self) -> ElectrolyteParams {
-        let [d_e_ref, kappa_ref, t_plus, bruggeman, c_e_init, e_a_de, e_a_kappa] = self.numbers;
-        ElectrolyteParams { d_e_ref, kappa_ref, t_plus, bruggeman, c_e_init, e_a_de, e_a_kappa }
+        let [d_e_ref, kappa_ref, t_plus, bruggeman, c_e_init, e_a_de, e_a_kappa, t_ref] = self.numbers;
+        ElectrolyteParams { d_e_ref, kappa_ref, t_plus, bruggeman, c_e_init, e_a_de, e_a_kappa, t_ref }
     }
 
     fn checked(&self, porosity: f64, temp_k: f64) -> Result<ElectrolyteParams, u64> {

@@ -157,7 +157,7 @@ fn some_word(draw: &mut Draw, record: Record, words: &[u64]) -> usize {
 }
 
 /// Where a cell's image has its three counts of nodes: the config's, the anode's and the cathode's.
-const CELL_COUNTS: [usize; 3] = [0, 16, 91];
+const CELL_COUNTS: [usize; 3] = [0, 17, 93];
 
 /// One argument or one word of the record at its limits; for a run, the length of the slice; of a cell, all its counts at once.
 fn one_fault(draw: &mut Draw, turn: &mut Turn, record: Record, words: &[u64]) {
@@ -256,7 +256,7 @@ fn sheet_numbers(draw: &mut Draw, _: u64) -> Case {
     let mut turns = Vec::new();
     for _ in 0..draw.count(1, 3) {
         let free = f64::from_bits(draw.pick(&SPECIAL));
-        let temp_k = records::temperature(draw);
+        let temp_k = records::temperature(draw, &[sheet.numbers[9]]);
         turns.push(Turn::new(draw, Function::Number(1), &[temp_k, free]));
         turns.push(Turn::new(draw, Function::Number(2), &[free, free]));
         let theta = stoichiometry(draw);
@@ -284,8 +284,8 @@ fn ready(draw: &mut Draw, turn: u64) -> Case {
     let free = f64::from_bits(draw.pick(&SPECIAL));
     let mut unlisted = [Turn::new(draw, Function::Number(number), &[free, 298.15]), Turn::new(draw, Function::Build(build), &[])];
     for turn in &mut unlisted {
-        turn.image_bytes = Some(draw.pick(&[0, 8, 80, 600, 1256]));
-        turn.call.answer_bytes = draw.pick(&[0, 8, 80, 600, 1256]);
+        turn.image_bytes = Some(draw.pick(&[0, 8, 88, 608, 1272]));
+        turn.call.answer_bytes = draw.pick(&[0, 8, 88, 608, 1272]);
     }
     let mut turns = with_faults(draw, vec![ready], Record::Nothing, &[]);
     if draw.below(4) == 0 {
@@ -313,9 +313,9 @@ pub fn interval_of(draw: &mut Draw, least: f64) -> f64 {
     near.clamp(f64::from_bits(1), 86_400.0)
 }
 
-fn particle_numbers(draw: &mut Draw) -> Turn {
+fn particle_numbers(draw: &mut Draw, t_ref: f64) -> Turn {
     let (call, free) = (draw.count(6, 10), f64::from_bits(draw.pick(&SPECIAL)));
-    let x = if call == 6 { records::temperature(draw) } else { free };
+    let x = if call == 6 { records::temperature(draw, &[t_ref]) } else { free };
     Turn::new(draw, Function::Number(call), &[x, free])
 }
 
@@ -329,7 +329,7 @@ fn particle_steps(draw: &mut Draw, turn: u64) -> Case {
     let particle = if build { Particle::new(sheet, n).expect("a sheet in range") } else { records::particle(draw, sheet, n) };
     let mut turns = Vec::new();
     for _ in 0..draw.count(1, 8) {
-        let temp_k = records::temperature(draw);
+        let temp_k = records::temperature(draw, &[sheet.numbers[9]]);
         let least = 0.45 * particle.dt_stable(temp_k).expect("a particle in range");
         let d_s = sheet.d_s(temp_k).expect("a sheet in range");
         let flux = match draw.below(8) {
@@ -344,7 +344,7 @@ fn particle_steps(draw: &mut Draw, turn: u64) -> Case {
         let numbers = [flux.clamp(-1e13, 1e13), dt.clamp(f64::from_bits(1), 86_400.0), temp_k];
         turns.push(Turn::new(draw, Function::ParticleStep, &numbers));
         if draw.below(2) == 0 {
-            turns.push(particle_numbers(draw));
+            turns.push(particle_numbers(draw, sheet.numbers[9]));
         }
     }
     let build = build.then(|| (Function::Build(7), [sheet.slots(), vec![word(n)]].concat()));
@@ -373,11 +373,15 @@ fn some_cell(draw: &mut Draw, n: u64) -> (Cell, Option<(Function, Vec<Slot>)>) {
     }
 }
 
+fn references(cell: &Cell) -> [f64; 2] {
+    [cell.anode.sheet.numbers[9], cell.cathode.sheet.numbers[9]]
+}
+
 /// A temperature at which both diffusivities are in range, mostly.
 fn cell_temperature(draw: &mut Draw, cell: &Cell) -> f64 {
     let in_range = |sheet: &Sheet, temp_k: f64| DIFFUSIVITY.holds(sheet.d_s(temp_k).expect("a sheet in range"));
-    for _ in 0..4 {
-        let temp_k = records::temperature(draw);
+    for _ in 0..6 {
+        let temp_k = records::temperature(draw, &references(cell));
         if draw.below(6) == 0 || in_range(&cell.anode.sheet, temp_k) && in_range(&cell.cathode.sheet, temp_k) {
             return temp_k;
         }
@@ -403,7 +407,7 @@ fn diffusivity_to_limit(draw: &mut Draw, sheet: &mut Sheet, temp_k: f64) {
 
 fn cell_steps(draw: &mut Draw, turn: u64) -> Case {
     let (mut cell, mut build) = some_cell(draw, 3 + turn % 62);
-    let limit_at = records::temperature(draw);
+    let limit_at = records::temperature(draw, &references(&cell));
     if draw.below(12) == 0 {
         let sheet = if draw.below(2) == 0 { &mut cell.anode.sheet } else { &mut cell.cathode.sheet };
         diffusivity_to_limit(draw, sheet, limit_at);
@@ -570,7 +574,7 @@ fn salt_numbers(draw: &mut Draw, _: u64) -> Case {
     let salt = records::salt(draw);
     let mut turns = Vec::new();
     for _ in 0..draw.count(1, 2) {
-        let (temp_k, free) = (records::temperature(draw), f64::from_bits(draw.pick(&SPECIAL)));
+        let (temp_k, free) = (records::temperature(draw, &[salt.numbers[7]]), f64::from_bits(draw.pick(&SPECIAL)));
         // few binary digits: among them where the logarithm halves its argument
         let porosity = if draw.below(8) == 0 { draw.pick(&[0.75, 0.375, 0.1875, 0.5, 0.25, 1.0]) } else { draw.within(POROSITY) };
         for (call, x) in [(13, free), (14, free), (15, porosity), (16, porosity)] {
@@ -585,7 +589,7 @@ fn electrolyte_steps(draw: &mut Draw, _: u64) -> Case {
     let electrolyte = if build { Electrolyte::new(records::regions(draw)).expect("regions in range") } else { records::electrolyte(draw) };
     let mut turns = Vec::new();
     for _ in 0..draw.count(1, 6) {
-        let temp_k = records::temperature(draw);
+        let temp_k = records::temperature(draw, &[electrolyte.regions.params.numbers[7]]);
         let stable = electrolyte.dt_stable(temp_k).expect("an electrolyte in range");
         let dt = if draw.below(6) == 0 { records::power(draw, -60.0, 16.4) } else { stable * draw.pick(&[0.01, 0.2, 0.9, 5.0]) };
         let sizes = [0.0, -0.0, 1.0, 50.0, 1e4, 1e9];
@@ -687,6 +691,28 @@ fn low_rates(draw: &mut Draw, turn: u64) -> Case {
     };
     let turns = vec![Turn::new(draw, Function::CellStep, &[current, dt, temp_k]), last];
     Case { start: image_of(Record::Cell.parts(), &cell.slots()), turns }
+}
+
+/// A particle's or an electrolyte's rates at their largest and least: the largest activation energies, the two temperatures far apart.
+fn far_temperatures(draw: &mut Draw, turn: u64) -> Case {
+    let ((t_ref, temp_k), free) = (records::far_apart(draw), f64::from_bits(draw.pick(&SPECIAL)));
+    if turn % 2 == 0 {
+        let mut e = records::electrolyte(draw);
+        e.regions.params.numbers[5..].copy_from_slice(&[1e5, 1e5, t_ref]);
+        let dt = e.dt_stable(temp_k).expect("an electrolyte in range") * draw.pick(&[0.2, 0.9, 5.0]);
+        let step = [draw.uniform(-50.0, 50.0), draw.uniform(-50.0, 50.0), dt.clamp(f64::from_bits(1), 86_400.0), temp_k];
+        let turns = vec![Turn::new(draw, Function::Number(19), &[temp_k, free]), Turn::new(draw, Function::ElectrolyteStep, &step)];
+        return Case { start: image_of(Record::Electrolyte.parts(), &e.slots()), turns };
+    }
+    let (mut sheet, n) = (records::sheet(draw), draw.count(3, 64));
+    (sheet.numbers[7], sheet.numbers[9]) = (1e5, t_ref);
+    sheet.numbers[1] = draw.pick(&[electrode::RANGES[1].low, electrode::RANGES[1].high, sheet.numbers[1]]);
+    let particle = records::particle(draw, sheet, n);
+    let dt = particle.dt_stable(temp_k).expect("a particle in range") * draw.pick(&[0.3, 0.9, 1e3]);
+    let flux = draw.pick(&[0.0, 1e13, -1e13, 1e-6]) * draw.unit();
+    let step = [flux, dt.clamp(f64::from_bits(1), 86_400.0), temp_k];
+    let turns = vec![Turn::new(draw, Function::Number(6), &[temp_k, free]), Turn::new(draw, Function::ParticleStep, &step)];
+    Case { start: image_of(Record::Particle.parts(), &particle.slots()), turns }
 }
 
 fn galvanostatic(draw: &mut Draw, _: u64) -> Case {
@@ -815,11 +841,11 @@ fn random_byte(draw: &mut Draw, turn: u64) -> Case {
 }
 
 /// The plans in turn, some more often than others.
-pub const PLANS: [Plan; 28] = [
+pub const PLANS: [Plan; 29] = [
     sheet_numbers, particle_steps, cell_steps, electrolyte_steps, dfn_steps, solve, discharges, galvanostatic, ready, salt_numbers,
     particle_steps, cell_steps, random_byte, dfn_steps, solve, sphere, electrolyte_steps, random_images, particle_steps, cell_steps,
     sheet_numbers, dfn_steps, discharges, galvanostatic, dfn_exponents, dfn_overpotentials, replays,
-    low_rates,
+    low_rates, far_temperatures,
 ];
 
 /// A case by its number; it depends on the seed and the number alone.

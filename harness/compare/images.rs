@@ -52,15 +52,15 @@ impl Record {
     pub fn parts(self) -> &'static [Part] {
         match self {
             Record::Nothing => &[],
-            Record::Sheet => &[Words(10)],
-            Record::SheetAndNodes => &[Words(11)],
-            Record::Particle => &[Words(11), Places(64)],
+            Record::Sheet => &[Words(11)],
+            Record::SheetAndNodes => &[Words(12)],
+            Record::Particle => &[Words(12), Places(64)],
             Record::Config => &[Words(6)],
-            Record::ConfigAndSheets => &[Words(26)],
-            Record::Cell => &[Words(17), Places(64), Words(11), Places(64), Words(1)],
-            Record::ElectrolyteParams => &[Words(7)],
-            Record::Regions => &[Words(16)],
-            Record::Electrolyte => &[Words(16), Places(96)],
+            Record::ConfigAndSheets => &[Words(28)],
+            Record::Cell => &[Words(18), Places(64), Words(12), Places(64), Words(1)],
+            Record::ElectrolyteParams => &[Words(8)],
+            Record::Regions => &[Words(17)],
+            Record::Electrolyte => &[Words(17), Places(96)],
             Record::DfnParamsAndConfig => &[Words(26), Places(16), Words(1), Places(16), Words(5)],
             Record::DfnCell => {
                 &[Words(26), Places(16), Words(1), Places(16), Words(5), Places(512), Places(512), Places(33), Words(5)]
@@ -199,11 +199,13 @@ pub struct Fields {
     pub arrays: Vec<Array>,
     /// the words that are no place of an array
     pub plain: Vec<usize>,
+    /// the words that hold a reference temperature
+    pub references: Vec<usize>,
 }
 
 impl Fields {
     fn of(record: Record) -> Self {
-        let mut f = Self { names: Vec::new(), kinds: Vec::new(), arrays: Vec::new(), plain: Vec::new() };
+        let mut f = Self { names: Vec::new(), kinds: Vec::new(), arrays: Vec::new(), plain: Vec::new(), references: Vec::new() };
         match record {
             Record::Nothing => {}
             Record::Sheet => f.sheet(""),
@@ -228,7 +230,7 @@ impl Fields {
             Record::Regions => f.regions(),
             Record::Electrolyte => {
                 f.regions();
-                f.array("c_e", 96, Used::Sum3(13), Each::In(electrolyte::FLOOR));
+                f.array("c_e", 96, Used::Sum3(14), Each::In(electrolyte::FLOOR));
             }
             Record::DfnParamsAndConfig => f.dfn(),
             Record::DfnCell => {
@@ -275,15 +277,16 @@ impl Fields {
 
     fn sheet(&mut self, prefix: &str) {
         self.plain(&format!("{prefix}chemistry"), Meaning::Count(1, 3));
-        let names = ["r_particle", "d_s_ref", "c_s_max", "theta_init", "thickness", "epsilon_s", "area", "e_a_ds", "k_bv"];
+        let names = ["r_particle", "d_s_ref", "c_s_max", "theta_init", "thickness", "epsilon_s", "area", "e_a_ds", "k_bv", "t_ref"];
         self.numbers(prefix, &names, &electrode::RANGES);
+        self.references.push(self.kinds.len() - 1);
     }
 
     fn particle(&mut self, prefix: &str) {
         let start = self.kinds.len();
         self.sheet(prefix);
         self.counts(&[&format!("{prefix}n_nodes")], 3, 64);
-        self.array(&format!("{prefix}c_s"), 64, Used::Count(start + 10), Each::UpTo(start + 3));
+        self.array(&format!("{prefix}c_s"), 64, Used::Count(start + 11), Each::UpTo(start + 3));
     }
 
     fn config(&mut self) {
@@ -292,8 +295,9 @@ impl Fields {
     }
 
     fn salt(&mut self) {
-        let names = ["d_e_ref", "kappa_ref", "t_plus", "bruggeman", "c_e_init", "e_a_de", "e_a_kappa"];
+        let names = ["d_e_ref", "kappa_ref", "t_plus", "bruggeman", "c_e_init", "e_a_de", "e_a_kappa", "t_ref"];
         self.numbers("", &names, &electrolyte::RANGES);
+        self.references.push(self.kinds.len() - 1);
     }
 
     fn regions(&mut self) {

@@ -12,6 +12,7 @@ mod draw;
 mod earlier;
 mod images;
 mod records;
+mod references;
 mod shrink;
 mod tally;
 mod texts;
@@ -27,7 +28,7 @@ use std::time::{Duration, Instant};
 use tally::Tally;
 
 const GATE_SEED: u64 = 20_040_613;
-const GATE_CASES: u64 = 560_000;
+const GATE_CASES: u64 = 580_000;
 
 struct Options {
     seed: u64,

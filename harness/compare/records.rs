@@ -12,13 +12,34 @@ fn moved<const N: usize>(draw: &mut Draw, numbers: [f64; N], ranges: &[Range; N]
     std::array::from_fn(|i| (numbers[i] * draw.uniform(0.5, 2.0)).clamp(ranges[i].low, ranges[i].high))
 }
 
+/// A reference temperature: the ready records', what some suppliers measure at, at an end, or any.
+pub fn reference(draw: &mut Draw) -> f64 {
+    let Range { low, high } = electrode::RANGES[9];
+    match draw.below(8) {
+        0 => 298.15,
+        1 => 293.15,
+        2 => draw.pick(&[low, low.next_up(), high.next_down(), high]),
+        3 | 4 => draw.uniform(270.0, 330.0),
+        _ => draw.uniform(low, high),
+    }
+}
+
+/// The sheet, mostly with another reference temperature.
+fn measured(draw: &mut Draw, mut sheet: Sheet) -> Sheet {
+    if draw.below(4) != 0 {
+        sheet.numbers[9] = reference(draw);
+    }
+    sheet
+}
+
 pub fn sheet(draw: &mut Draw) -> Sheet {
     let ready = draw.pick(&[Sheet::graphite_anode(), Sheet::lfp_cathode(), Sheet::nmc_cathode()]);
-    match draw.below(4) {
+    let sheet = match draw.below(4) {
         0 => ready,
         1 => Sheet { chemistry: ready.chemistry, numbers: moved(draw, ready.numbers, &electrode::RANGES) },
         _ => Sheet { chemistry: draw.count(1, 3), numbers: draw.all_within(&electrode::RANGES) },
-    }
+    };
+    measured(draw, sheet)
 }
 
 /// A solid or electrolyte profile in a range: rough, smooth, at the ends, nearly flat, with zeros and subnormals; next to empty.
@@ -73,13 +94,14 @@ pub fn clock(draw: &mut Draw) -> f64 {
     }
 }
 
-/// Two sheets of one cell.
+/// Two sheets of one cell; their reference temperatures mostly differ.
 pub fn sheets(draw: &mut Draw) -> (Sheet, Sheet) {
-    match draw.below(4) {
-        0 => (Sheet::graphite_anode(), Sheet::lfp_cathode()),
-        1 => (Sheet::graphite_anode(), Sheet::nmc_cathode()),
-        _ => (sheet(draw), sheet(draw)),
-    }
+    let cathode = match draw.below(4) {
+        0 => Sheet::lfp_cathode(),
+        1 => Sheet::nmc_cathode(),
+        _ => return (sheet(draw), sheet(draw)),
+    };
+    (measured(draw, Sheet::graphite_anode()), measured(draw, cathode))
 }
 
 pub fn cell(draw: &mut Draw, n: u64) -> Cell {
@@ -88,11 +110,25 @@ pub fn cell(draw: &mut Draw, n: u64) -> Cell {
     Cell { config: config(draw, n), anode, cathode, time_s: clock(draw) }
 }
 
-pub fn temperature(draw: &mut Draw) -> f64 {
-    match draw.below(4) {
+/// A temperature, of some calls the reference temperature of a record of theirs.
+pub fn temperature(draw: &mut Draw, references: &[f64]) -> f64 {
+    match draw.below(6) {
         0 => 298.15,
         1 => draw.within(TEMPERATURE),
+        2 => draw.pick(references),
         _ => draw.uniform(270.0, 330.0),
+    }
+}
+
+/// Reference temperature and temperature at opposite ends, or next to them.
+pub fn far_apart(draw: &mut Draw) -> (f64, f64) {
+    let low = [TEMPERATURE.low, TEMPERATURE.low.next_up()];
+    let high = [TEMPERATURE.high, TEMPERATURE.high.next_down()];
+    let (low, high) = (draw.pick(&low), draw.pick(&high));
+    if draw.below(2) == 0 {
+        (low, high)
+    } else {
+        (high, low)
     }
 }
 
@@ -148,11 +184,15 @@ pub fn bare_overpotentials(draw: &mut Draw) -> dfn::Cell {
 
 pub fn salt(draw: &mut Draw) -> Params {
     let ready = Params::lipf6_ec_dmc();
-    match draw.below(4) {
+    let mut salt = match draw.below(4) {
         0 => ready,
         1 => Params { numbers: moved(draw, ready.numbers, &electrolyte::RANGES) },
         _ => Params { numbers: draw.all_within(&electrolyte::RANGES) },
+    };
+    if draw.below(4) != 0 {
+        salt.numbers[7] = reference(draw);
     }
+    salt
 }
 
 pub const READY_REGIONS: ([f64; 3], [f64; 3], [u64; 3]) = ([1e-4, 2.5e-5, 8e-5], [0.3, 0.4, 0.35], [5, 3, 5]);

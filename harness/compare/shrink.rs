@@ -48,15 +48,15 @@ fn ready_words(record: Record, words: &[u64]) -> Vec<u64> {
     let (anode, cathode) = (Sheet::graphite_anode(), Sheet::lfp_cathode());
     let regions = || {
         let (lengths, porosities, _) = READY_REGIONS;
-        let counts = [13, 14, 15].map(|at| count(at, 1, 32));
+        let counts = [14, 15, 16].map(|at| count(at, 1, 32));
         Regions { params: Params::lipf6_ec_dmc(), lengths, porosities, counts }
     };
     let dfn_config = || dfn::Config { counts: [count(59, 1, 16), count(60, 1, 16), count(61, 2, 32)], voltages: [2.5, 4.3] };
     let slots = match record {
         Record::Nothing => Vec::new(),
         Record::Sheet => anode.slots(),
-        Record::SheetAndNodes => [anode.slots(), vec![word(count(10, 3, 64))]].concat(),
-        Record::Particle => Particle::new(anode, count(10, 3, 64)).expect("ready").slots(),
+        Record::SheetAndNodes => [anode.slots(), vec![word(count(11, 3, 64))]].concat(),
+        Record::Particle => Particle::new(anode, count(11, 3, 64)).expect("ready").slots(),
         Record::Config => ready_config(count(0, 3, 64)).slots(),
         Record::ConfigAndSheets => [ready_config(count(0, 3, 64)).slots(), anode.slots(), cathode.slots()].concat(),
         Record::Cell => Cell::graphite_lfp(ready_config(count(0, 3, 64))).expect("ready").slots(),
@@ -97,10 +97,10 @@ fn with_count(record: Record, words: &[u64], changes: &[(usize, u64)]) -> Vec<u6
 /// Words that hold counts of nodes, in groups that go together.
 fn counts(record: Record) -> &'static [&'static [usize]] {
     match record {
-        Record::SheetAndNodes | Record::Particle => &[&[10]],
+        Record::SheetAndNodes | Record::Particle => &[&[11]],
         Record::Config | Record::ConfigAndSheets => &[&[0]],
-        Record::Cell => &[&[0, 16, 91]],
-        Record::Regions | Record::Electrolyte => &[&[13], &[14], &[15]],
+        Record::Cell => &[&[0, 17, 93]],
+        Record::Regions | Record::Electrolyte => &[&[14], &[15], &[16]],
         Record::DfnParamsAndConfig | Record::DfnCell => &[&[59], &[60], &[61]],
         _ => &[],
     }

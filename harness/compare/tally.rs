@@ -2,6 +2,7 @@
 use crate::call::{listed, Answer, Call, Function};
 use crate::earlier::Earlier;
 use crate::images::words_of;
+use crate::references::References;
 use calls::replay::MOST_LINES;
 use calls::runs::Ending;
 use std::collections::{BTreeMap, BTreeSet};
@@ -30,6 +31,7 @@ pub struct Tally {
     orders: BTreeSet<u64>,
     unexpected: BTreeSet<String>,
     earlier: Earlier,
+    references: References,
 }
 
 const ENDINGS: [(Function, &str); 13] = [
@@ -61,6 +63,7 @@ impl Tally {
             }
         }
         self.earlier.add(call, oracle);
+        self.references.add(call, oracle);
         self.calls += 1;
         self.kept_bytes += kept_bytes;
         let words = oracle.image.as_deref().map(words_of).unwrap_or_default();
@@ -85,7 +88,7 @@ impl Tally {
         }
         if oracle.number == 0 {
             match call.function {
-                Function::ParticleStep => self.particle_nodes.insert(words[10]),
+                Function::ParticleStep => self.particle_nodes.insert(words[11]),
                 Function::CellStep => {
                     self.sub_steps += words[words.len() - 1];
                     self.cell_nodes.insert(words[0])
@@ -120,6 +123,7 @@ impl Tally {
         self.orders.extend(other.orders);
         self.unexpected.extend(other.unexpected);
         self.earlier.join(other.earlier);
+        self.references.join(other.references);
     }
 
     /// The table, and what is missing for a comparison that has seen everything.
@@ -164,6 +168,8 @@ impl Tally {
         }
         println!();
         missing.extend(self.earlier.print());
+        println!();
+        missing.extend(self.references.print());
         println!();
         println!("rows of the longest replay: {} of {MOST_LINES}", self.longest_replay);
         if self.longest_replay != MOST_LINES as u64 {

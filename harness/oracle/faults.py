@@ -151,12 +151,32 @@ STANDINS = [
     ("the machine's asinh", "        asinh(self)", "        self.asinh()"),
 ]
 
+# the reference temperature: what stands in the formulas, and what may be taken for it
+EXPONENT = "(1.0 / self.t_ref - 1.0 / temp_k)"
+
+
+def reference(rate, n=None):
+    """Wrong reference temperatures in one formula, the n-th of its file."""
+    where = nth(n) if n else {}
+    gas = "const R_GAS: f64 = 8.314;"
+    return [
+        (f"{rate}: 298.15 for t_ref", EXPONENT, EXPONENT.replace("self.t_ref", "298.15"), where),
+        (f"{rate}: 1/T - 1/t_ref", EXPONENT, "(1.0 / temp_k - 1.0 / self.t_ref)", where),
+        (f"{rate}: t_ref for T too", EXPONENT, EXPONENT.replace("temp_k", "self.t_ref"), where),
+        (f"{rate}: (T - t_ref)/(t_ref*T)", EXPONENT, "((temp_k - self.t_ref) / (self.t_ref * temp_k))", where),
+        (f"{rate}: not corrected at 298.15", gas, f"{gas} if temp_k == 298.15 {{ return self.{rate}_ref; }}", where),
+        (f"{rate}: not corrected within 1 K of t_ref", gas, f"{gas} if (temp_k - self.t_ref).abs() < 1.0 {{ return self.{rate}_ref; }}", where),
+    ]
+
+
 # ---- the Rust: each node loop later and earlier, what stands at the ends, the roots, floors and clamps
 
 NO_NODE_0 = because("the node's radius is 0, so its term is +0")
 SKIPPED = because("the loop passes over that node anyway")
 UNREAD = because("that entry is not read again")
 NO_I0 = because("an exchange current of 0 and one that is a NaN are both not above 1e-30")
+
+AT_298 = "let d_s = ElectrodeParams { t_ref: 298.15, ..self.params.clone() }.d_s(temp_k);"
 
 ELECTRODE = [
     ("c_avg: from node 1", "for i in 0..n {", "for i in 1..n {", NO_NODE_0),
@@ -178,7 +198,11 @@ ELECTRODE = [
     ("ocp of NMC: not clamped a second time", "let x = x.clamp(0.1, 0.9);", "let x = x.clamp(0.01, 0.99);"),
     ("ocp of LFP: not clamped a second time", "    let x = x.clamp(0.01, 0.99);\n", "", because("x is clamped to the same limits before")),
     ("ocp of graphite: the root for powf(0.5)", "x.oracle_powf(0.5)", "x.sqrt()"),
-    ("d_s: 1/T - 1/T_ref", "(1.0 / T_REF - 1.0 / temp_k)", "(1.0 / temp_k - 1.0 / T_REF)"),
+    *reference("d_s"),
+    *((f"{name}: t_ref 293.15", "t_ref: 298.15", "t_ref: 293.15", nth(n)) for n, name in [(1, "graphite_anode"), (2, "lfp_cathode"), (3, "nmc_cathode")]),
+    ("step: 298.15 for t_ref", "let d_s = self.params.d_s(temp_k);", AT_298, nth(1)),
+    ("dt_stable: 298.15 for t_ref", "let d_s = self.params.d_s(temp_k);", AT_298, nth(2)),
+    ("new: the particle's t_ref is 298.15", "dr,\n            params,", "dr,\n            params: ElectrodeParams { t_ref: 298.15, ..params },"),
     ("sphere_volume: (r*r)*r first", "4.0 / 3.0 * PI * r * r * r", "4.0 / 3.0 * PI * (r * r * r)"),
 ]
 
@@ -199,10 +223,33 @@ ELECTROLYTE = [
         "let c = *ce + dt * dc_val;\n            *ce = if c.is_nan() { c } else { c.max(1e-10) };",
         because("only an overflow makes no number of a place, and then an infinity of one sign: no NaN comes to the floor"),
     ),
+    *reference("d_e", 1),
+    *reference("kappa", 2),
+    ("lipf6_ec_dmc: t_ref 293.15", "t_ref: 298.15", "t_ref: 293.15"),
+    ("step: t_ref for temp_k in the separator", "self.params.d_e_eff(self.eps_sep, temp_k)", "self.params.d_e_eff(self.eps_sep, self.params.t_ref)"),
+    ("dt_stable: t_ref for temp_k", ".min(self.eps_pos), temp_k)", ".min(self.eps_pos), self.params.t_ref)"),
     ("dt_stable: the largest porosity", "self.eps_neg.min(self.eps_sep).min(self.eps_pos)", "self.eps_neg.max(self.eps_sep).max(self.eps_pos)"),
 ]
 
+AREA = "let area = self.electrode_area;"
+
+
+def swapped_interval(own, other):
+    """This electrode's stable interval with the other's reference temperature."""
+    sheet = f"ElectrodeParams {{ t_ref: self.{other}.params.t_ref, ..self.{own}.params.clone() }}"
+    return (f"step: the {own}'s interval by the {other}'s t_ref", f"self.{own}.dt_stable(temp_k)",
+            f"ParticleDiffusion::new({sheet}, self.{own}.n_nodes).dt_stable(temp_k)")
+
+
 SOLVER = [
+    ("step: the anode has the cathode's t_ref", AREA, AREA + " self.anode.params.t_ref = self.cathode.params.t_ref;"),
+    ("step: the cathode has the anode's t_ref", AREA, AREA + " self.cathode.params.t_ref = self.anode.params.t_ref;"),
+    ("step: 298.15 for both t_ref", AREA, AREA + " (self.anode.params.t_ref, self.cathode.params.t_ref) = (298.15, 298.15);"),
+    swapped_interval("anode", "cathode"),
+    swapped_interval("cathode", "anode"),
+    ("step: the anode at the cathode's t_ref", "self.anode.step(j_n_neg, dt_sub, temp_k)",
+     "self.anode.step(j_n_neg, dt_sub, self.cathode.params.t_ref)"),
+    ("overpotential: t_ref for temp_k", "2.0 * r * temp_k / f", "2.0 * r * particle.params.t_ref / f"),
     ("step: a sub-step fewer", "for _ in 0..n_sub {", "for _ in 1..n_sub {"),
     ("step: a sub-step more", "for _ in 0..n_sub {", "for _ in 0..=n_sub {"),
     ("step: floor for ceil", ".ceil() as usize", ".floor() as usize"),
@@ -387,6 +434,16 @@ RUNS = [
 ]
 
 
+def ends_of_t_ref(place):
+    """The ends of its range that `limits` leaves, and no range at all; it is the number in this place."""
+    old = "range(200.0, 400.0)"
+    return [
+        ("t_ref: its high end", old, f"range(200.0, {as_rust(below(400.0))})"),
+        ("t_ref: below its low end", old, f"range({as_rust(below(200.0))}, 400.0)"),
+        ("t_ref is not asked", "all_in(&self.numbers, &RANGES)", f"all_in(&self.numbers[..{place}], &RANGES[..{place}])"),
+    ]
+
+
 CALLS_ELECTRODE = [
     ("chemistry 0", "(1..=3).contains", "(0..=3).contains"),
     ("chemistry 4", "(1..=3).contains", "(1..=4).contains"),
@@ -404,6 +461,10 @@ CALLS_ELECTRODE = [
     ("ocp: a stoichiometry in 0 to 1", "self.checked(theta.is_finite())?.ocp(theta)", "self.checked((0.0..=1.0).contains(&theta))?.ocp(theta)"),
     ("docp_dtheta: a stoichiometry in 0 to 1", "self.checked(theta.is_finite())?.docp_dtheta(theta)", "self.checked((0.0..=1.0).contains(&theta))?.docp_dtheta(theta)"),
     ("sphere_volume: the radius is not asked", "    met.when(2, !RANGES[0].holds(r));\n", ""),
+    *ends_of_t_ref(9),
+    ("k_bv and t_ref exchanged", "e_a_ds, k_bv, t_ref] = self.numbers", "e_a_ds, t_ref, k_bv] = self.numbers"),
+    ("the record's t_ref is 298.15", "e_a_ds, k_bv, t_ref }", "e_a_ds, k_bv, t_ref: 0.0 * t_ref + 298.15 }"),
+    ("d_s: 5 for t_ref", "met.when(2, !self.fits());", "met.when(if RANGES[9].holds(self.numbers[9]) { 2 } else { 5 }, !self.fits());"),
     ("a number that is not finite", "finite_or_8(&[&[x]]).map(|()| x)", "Ok(x)"),
 ]
 
@@ -425,6 +486,12 @@ CALLS_PARTICLE = [
     ("dt_stable: the temperature is not asked", "        met.when(5, !TEMPERATURE.holds(temp_k));\n", "", nth(2)),
     ("step: a profile that is not finite", "        finite_or_8(&[&moved.c_s])?;\n", "", FINITE),
 ]
+
+
+def with_298(electrode):
+    """An electrode's stable interval with 298.15."""
+    return f"{{ let mut other = self.{electrode}.clone(); other.sheet.numbers[9] = 298.15; other.diffusion() }}.dt_stable(temp_k)"
+
 
 CALLS_SOLVER = [
     ("count: q + 1 of a whole q", "(whole as f64) < q", "(whole as f64) <= q"),
@@ -450,6 +517,16 @@ CALLS_SOLVER = [
     ("step: the current is not asked", "        met.when(3, !load(current_a, MOST_CURRENT));\n", "", nth(1)),
     ("step: the interval is not asked", "        met.when(4, !interval(dt));\n", ""),
     ("step: the temperature is not asked", "        met.when(5, !TEMPERATURE.holds(temp_k));\n", "", nth(1)),
+    ("step: 6 by 298.15", "p.params.d_s(temp_k)", "oracle::electrode::ElectrodeParams { t_ref: 298.15, ..p.params.clone() }.d_s(temp_k)"),
+    ("step: 6 by d_s_ref", "p.params.d_s(temp_k)", "{ let _ = temp_k; p.params.d_s_ref }"),
+    (
+        "step: 6 by the other electrode's t_ref", "!in_range(&made.anode) || !in_range(&made.cathode)",
+        "{\n            let (mut anode, mut cathode) = (self.anode.clone(), self.cathode.clone());\n"
+        "            std::mem::swap(&mut anode.sheet.numbers[9], &mut cathode.sheet.numbers[9]);\n"
+        "            !in_range(&anode.diffusion()) || !in_range(&cathode.diffusion())\n        }",
+    ),
+    ("q: 298.15 for the anode's t_ref", "made.anode.dt_stable(temp_k)", with_298("anode")),
+    ("q: 298.15 for the cathode's t_ref", "made.cathode.dt_stable(temp_k)", with_298("cathode")),
     ("step: the anode's diffusivity is not asked", "!in_range(&made.anode) || ", ""),
     ("step: the cathode's diffusivity is not asked", " || !in_range(&made.cathode)", ""),
     ("step: 7 is not asked", "        met.when(7, q > MOST_SUB_STEPS);\n", ""),
@@ -532,6 +609,7 @@ CALLS_REPLAY = [
     ("every second line", "left = &left[LINE..]", "left = &left[left.len().min(2 * LINE)..]"),
     ("interval and current exchanged", "|[dt, current_a]|", "|[current_a, dt]|"),
     ("4 before 3, as they stand in a line", STEP, "if crate::table::interval(dt) { cell.step(current_a, dt, temp_k) } else { Err(4) }"),
+    ("298.15 for both t_ref", REST, REST + "\n        (cell.anode.sheet.numbers[9], cell.cathode.sheet.numbers[9]) = (298.15, 298.15);"),
     ("each step from the first cell", STEP, "self.step(current_a, dt, temp_k)"),
     ("the text's length is not asked", "        met.when(12, text.len() > MOST_TEXT);\n", ""),
     ("65,536 bytes are too many", "text.len() > MOST_TEXT", "text.len() >= MOST_TEXT"),
@@ -572,6 +650,10 @@ CALLS_REPLAY = [
 ]
 
 CALLS_ELECTROLYTE = [
+    *ends_of_t_ref(7),
+    ("e_a_kappa and t_ref exchanged", "e_a_de, e_a_kappa, t_ref] = self.numbers", "e_a_de, t_ref, e_a_kappa] = self.numbers"),
+    ("the record's t_ref is 298.15", "e_a_de, e_a_kappa, t_ref }", "e_a_de, e_a_kappa, t_ref: 0.0 * t_ref + 298.15 }"),
+    ("rates: 5 for t_ref", "met.when(2, !self.fits() ||", "met.when(if RANGES[7].holds(self.numbers[7]) { 2 } else { 5 }, !self.fits() ||"),
     ("regions of no node", "(1..=MOST_NODES)", "(0..=MOST_NODES)"),
     ("regions of two nodes at least", "(1..=MOST_NODES)", "(2..=MOST_NODES)"),
     ("regions of 31 nodes at most", "(1..=MOST_NODES)", "(1..MOST_NODES)"),

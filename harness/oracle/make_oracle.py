@@ -3,13 +3,15 @@
 
     make_oracle.py --out FOLDER [--source FOLDER]
 
-Three textual edits, none of which moves a line:
+Four textual edits, none of which moves a line:
   1. the line that uses serde becomes one that uses the stand-ins' trait;
   2. `Serialize, Deserialize` leave the derives;
   3. `.exp(`, `.ln(`, `.powf(`, `.asinh(` and `.powi(` become `.oracle_exp(` and so on, methods of that trait on f64, so that
-     receiver, argument and precedence stay.
-The diff is printed. A source that is missing or changed, a count of edits other than the expected one, or a transcendental
-method that is left ends the script with one line and status 1, and nothing is written.
+     receiver, argument and precedence stay;
+  4. the reference temperature: both records of electrode.rs and electrolyte.rs gain a last field `t_ref`, which is 298.15 in the
+     four ready records and stands in the three formulas in place of their constant 298.15.
+The diff is printed. A source that is missing or changed, a count of edits other than the expected one, a transcendental
+method or a fixed reference temperature that is left ends the script with one line and status 1, and nothing is written.
 """
 import argparse
 import difflib
@@ -35,7 +37,19 @@ LEFT = re.compile(
     r"\.(exp|exp2|exp_m1|ln|ln_1p|log|log2|log10|powf|powi|cbrt|hypot|sin|cos|tan|sin_cos|asin|acos|atan|atan2"
     r"|sinh|cosh|tanh|asinh|acosh|atanh|mul_add)\(|\bf64::(exp|ln|powf|powi|mul_add)\b|serde"
 )
-EXPECTED = {"method calls": 28, "use lines": 4, "derives": 10}
+WITH_REFERENCE = ("electrode.rs", "electrolyte.rs")
+# edit 4: the whole line, and what stands in its place; the constant's line stays, empty
+REFERENCE = {
+    "t_ref fields": (r"    pub (k_bv|e_a_kappa): f64,", r"    pub \1: f64, pub t_ref: f64,"),
+    "t_ref ready values": (r"            (k_bv: 2\.0e-11|e_a_kappa: 12_000\.0),", r"            \1, t_ref: 298.15,"),
+    "t_ref constants": (r"        const T_REF: f64 = 298\.15;", ""),
+    "t_ref formulas": (r"(        self\.\w+ \* \(self\.\w+ / R_GAS \* \(1\.0 / )T_REF( - 1\.0 / temp_k\)\)\.exp\(\))", r"\1self.t_ref\2"),
+}
+FIXED = re.compile(r"T_REF|(?<!t_ref: )298\.15")
+EXPECTED = {
+    "method calls": 28, "use lines": 4, "derives": 10,
+    "t_ref fields": 2, "t_ref ready values": 4, "t_ref constants": 3, "t_ref formulas": 3,
+}
 
 
 def refuse(why):
@@ -62,9 +76,20 @@ def read_sources(folder):
     return sources
 
 
-def edited(text, counts):
+def with_reference(line, counts):
+    for kind, (old, new) in REFERENCE.items():
+        found = re.fullmatch(old, line)
+        if found:
+            counts[kind] += 1
+            return found.expand(new)
+    return line
+
+
+def edited(name, text, counts):
     lines = []
     for line in text.split("\n"):
+        if name in WITH_REFERENCE:
+            line = with_reference(line, counts)
         if line == SERDE:
             line = TRAIT
             counts["use lines"] += 1
@@ -82,6 +107,14 @@ def code_of(line):
     return line.split("//", 1)[0]
 
 
+def refuse_left(path, name, text):
+    for number, line in enumerate(text.split("\n"), 1):
+        if LEFT.search(code_of(line)):
+            refuse(f"{path}:{number}: a method that the stand-ins do not cover is left: {line.strip()}")
+        if name in WITH_REFERENCE and FIXED.search(code_of(line)):
+            refuse(f"{path}:{number}: a fixed reference temperature is left: {line.strip()}")
+
+
 def main():
     parser = argparse.ArgumentParser(description=__doc__.split("\n", 1)[0])
     parser.add_argument("--source", default=DEFAULT_SOURCE, help="the folder with LICENSE.txt and src/battery/p2d")
@@ -96,12 +129,9 @@ def main():
     counts = dict.fromkeys(EXPECTED, 0)
     results, diff = {}, []
     for path, content in sources.items():
-        before = content.decode("utf-8")
-        after = edited(before, counts)
-        for number, line in enumerate(after.split("\n"), 1):
-            if LEFT.search(code_of(line)):
-                refuse(f"{path}:{number}: a method that the stand-ins do not cover is left: {line.strip()}")
-        name = os.path.basename(path)
+        before, name = content.decode("utf-8"), os.path.basename(path)
+        after = edited(name, before, counts)
+        refuse_left(path, name, after)
         results[name] = after
         diff += difflib.unified_diff(before.split("\n"), after.split("\n"), path, f"oracle/{name}", lineterm="", n=0)
     if counts != EXPECTED:

@@ -17,7 +17,7 @@ mod published_side {
 
 use std::time::Duration;
 
-/// the temperature at which the sheets' diffusivities are given, K; there the Arrhenius factor is 1
+/// the ready sheets' reference temperature, K; there the Arrhenius factor is 1
 const REFERENCE: f64 = 298.15;
 const ROUNDS: usize = 21;
 /// how long one side's part of a round is to take

@@ -7,6 +7,8 @@ use calls::words::{bits, Slot};
 pub enum Kind {
     /// in a closed range, else 2
     Number(Range),
+    /// a reference temperature: in a closed range, else 2
+    Reference(Range),
     /// in its range, else 5
     Temperature,
     /// above 0, at most so much
@@ -46,6 +48,12 @@ pub fn arguments(slots: Vec<Slot>, kinds: Vec<Kind>) -> Vec<Argument> {
     slots.into_iter().zip(kinds).map(|(slot, kind)| Argument { slot, kind }).collect()
 }
 
+/// Numbers in these ranges, the last a reference temperature.
+pub fn with_reference(ranges: &[Range]) -> Vec<Kind> {
+    let (last, others) = ranges.split_last().expect("a range at least");
+    others.iter().map(|range| Kind::Number(*range)).chain([Kind::Reference(*last)]).collect()
+}
+
 /// The ends, their neighbours on both sides, and what is special to binary64.
 fn limits(low: f64, high: f64) -> Vec<u64> {
     let subnormal = f64::from_bits(1);
@@ -76,7 +84,7 @@ impl Argument {
     fn variants(&self) -> Vec<Slot> {
         let words = |list: Vec<u64>| list.into_iter().map(Slot::Word).collect();
         match self.kind {
-            Kind::Number(range) => words(limits(range.low, range.high)),
+            Kind::Number(range) | Kind::Reference(range) => words(limits(range.low, range.high)),
             Kind::Temperature => words(limits(TEMPERATURE.low, TEMPERATURE.high)),
             Kind::Above0(most) => words(limits(0.0, most)),
             Kind::Load(most) => words(limits(-most, most)),
@@ -109,7 +117,7 @@ impl Argument {
     fn faults(&self) -> Vec<Slot> {
         let one = |x: f64| vec![Slot::Word(bits(x))];
         match self.kind {
-            Kind::Number(range) => one(range.high.next_up()),
+            Kind::Number(range) | Kind::Reference(range) => one(range.high.next_up()),
             Kind::Temperature => one(TEMPERATURE.high.next_up()),
             Kind::Above0(_) => one(0.0),
             Kind::Load(_) => one(f64::NAN),
@@ -152,15 +160,17 @@ pub fn singles(base: &[Argument]) -> Vec<Vec<Slot>> {
 }
 
 /// Two faults at once, in every pair of arguments; of two that only a range each holds to, which share a number, in
-/// neighbours alone.
+/// neighbours alone; a reference temperature does not part its own neighbours.
 pub fn pairs(base: &[Argument]) -> Vec<Vec<Slot>> {
+    let ranged = |at: usize| matches!(base[at].kind, Kind::Number(_) | Kind::Reference(_));
+    let neighbours = |at: usize, other: usize| at + 1 == other || at + 2 == other && matches!(base[at + 1].kind, Kind::Reference(_));
     let faults: Vec<(usize, Slot)> =
         base.iter().enumerate().flat_map(|(at, a)| a.faults().into_iter().map(move |slot| (at, slot))).collect();
     let mut cases = Vec::new();
     for (i, (at, first)) in faults.iter().enumerate() {
         for (other, second) in &faults[i + 1..] {
-            let alike = matches!((&base[*at].kind, &base[*other].kind), (Kind::Number(_), Kind::Number(_)));
-            if at != other && !(alike && at + 1 != *other) {
+            let alike = ranged(*at) && ranged(*other);
+            if at != other && (!alike || neighbours(*at, *other)) {
                 cases.push(with(base, &[(*at, first), (*other, second)]));
             }
         }

@@ -1,12 +1,12 @@
 //! The sheet's calls.
-use super::number;
-use crate::cover::{arguments, pairs, singles, Argument, Kind};
+use super::{number, random_numbers, reference};
+use crate::cover::{arguments, pairs, singles, with_reference, Argument, Kind};
 use crate::draw::Draw;
 use calls::electrode::{sphere_volume as volume, Sheet, RANGES};
 use calls::words::{float, Reader, Slot};
 
 pub fn kinds() -> Vec<Kind> {
-    std::iter::once(Kind::Count(1, 3)).chain(RANGES.iter().map(|range| Kind::Number(*range))).collect()
+    [vec![Kind::Count(1, 3)], with_reference(&RANGES)].concat()
 }
 
 pub fn ready_sheets() -> [Sheet; 3] {
@@ -14,7 +14,7 @@ pub fn ready_sheets() -> [Sheet; 3] {
 }
 
 pub fn random_sheet(draw: &mut Draw) -> Sheet {
-    Sheet { chemistry: draw.count(1, 3), numbers: draw.all_within(&RANGES) }
+    Sheet { chemistry: draw.count(1, 3), numbers: random_numbers(draw, &RANGES) }
 }
 
 /// The three ready sheets, then random ones.
@@ -52,6 +52,7 @@ pub fn d_s_cases(draw: &mut Draw) -> Vec<Vec<Slot>> {
             all.push([sheet.slots(), vec![float(t)]].concat());
         }
     }
+    all.extend(reference::d_s(draw));
     all
 }
 
@@ -63,6 +64,7 @@ pub fn d_s(arguments: &[Slot]) -> Vec<Slot> {
 pub fn sheet_cases(draw: &mut Draw) -> Vec<Vec<Slot>> {
     let mut all: Vec<_> = ready_sheets().iter().flat_map(|s| covered(s, Vec::new())).collect();
     all.extend(sheets(draw, 300).iter().map(Sheet::slots));
+    all.extend((0..60).map(|_| reference::sheet(draw).slots()));
     all
 }
 
@@ -80,6 +82,7 @@ pub fn theta_cases(draw: &mut Draw) -> Vec<Vec<Slot>> {
         all.extend(near.chain(drawn).chain([-3.0, 7.5, 1e300]).map(|x| [sheet.slots(), vec![float(x)]].concat()));
     }
     all.extend((0..300).map(|_| [random_sheet(draw).slots(), vec![float(draw.uniform(-0.1, 1.1))]].concat()));
+    all.extend((0..60).map(|_| [reference::sheet(draw).slots(), vec![float(draw.uniform(-0.1, 1.1))]].concat()));
     all
 }
 

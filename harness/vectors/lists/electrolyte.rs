@@ -1,18 +1,14 @@
 //! The electrolyte's calls.
-use super::number;
-use crate::cover::{arguments, one_fault, pairs, singles, Argument, Kind};
+use super::{number, random_numbers, reference};
+use crate::cover::{arguments, one_fault, pairs, singles, with_reference, Argument, Kind};
 use crate::draw::Draw;
 use calls::electrolyte::{Electrolyte, Params, Regions, FLOOR, LENGTH, MOST_NODES, PLACES, POROSITY, RANGES};
 use calls::table::{MOST_SOURCE, TEMPERATURE};
 use calls::words::{answer, array, float, word, Reader, Slot};
 
-fn params_kinds() -> Vec<Kind> {
-    RANGES.iter().map(|range| Kind::Number(*range)).collect()
-}
-
 fn regions_kinds() -> Vec<Kind> {
     let numbers = [vec![Kind::Number(LENGTH); 3], vec![Kind::Number(POROSITY); 3]].concat();
-    [params_kinds(), numbers, vec![Kind::Count(1, MOST_NODES); 3]].concat()
+    [with_reference(&RANGES), numbers, vec![Kind::Count(1, MOST_NODES); 3]].concat()
 }
 
 fn used(regions: &Regions) -> usize {
@@ -23,20 +19,24 @@ fn kinds(e: &Electrolyte) -> Vec<Kind> {
     [regions_kinds(), vec![Kind::Places { total: PLACES, used: used(&e.regions), each: FLOOR }]].concat()
 }
 
-fn ready_regions(counts: [u64; 3]) -> Regions {
+pub(super) fn ready_regions(counts: [u64; 3]) -> Regions {
     Regions { params: Params::lipf6_ec_dmc(), lengths: [1e-4, 2.5e-5, 8e-5], porosities: [0.3, 0.4, 0.35], counts }
 }
 
-fn random_regions(draw: &mut Draw) -> Regions {
+pub(super) fn random_params(draw: &mut Draw) -> Params {
+    Params { numbers: random_numbers(draw, &RANGES) }
+}
+
+pub(super) fn random_regions(draw: &mut Draw) -> Regions {
     Regions {
-        params: Params { numbers: draw.all_within(&RANGES) },
+        params: random_params(draw),
         lengths: draw.all_within(&[LENGTH; 3]),
         porosities: draw.all_within(&[POROSITY; 3]),
         counts: std::array::from_fn(|_| draw.count(1, MOST_NODES)),
     }
 }
 
-fn random_state(draw: &mut Draw, regions: Regions) -> Electrolyte {
+pub(super) fn random_state(draw: &mut Draw, regions: Regions) -> Electrolyte {
     let mut e = Electrolyte::new(regions).expect("regions in range");
     let count = used(&regions);
     let way = draw.below(3);
@@ -50,15 +50,19 @@ fn random_state(draw: &mut Draw, regions: Regions) -> Electrolyte {
     e
 }
 
+pub(super) fn asking(p: Params, porosity: f64, temp_k: f64) -> Vec<Slot> {
+    [p.slots(), vec![float(porosity), float(temp_k)]].concat()
+}
+
 pub fn rate_cases(draw: &mut Draw) -> Vec<Vec<Slot>> {
-    let slots = |p: Params, porosity: f64, temp_k: f64| [p.slots(), vec![float(porosity), float(temp_k)]].concat();
-    let kinds = [params_kinds(), vec![Kind::Number(POROSITY), Kind::Temperature]].concat();
-    let base = arguments(slots(Params::lipf6_ec_dmc(), 0.3, 310.0), kinds);
+    let kinds = [with_reference(&RANGES), vec![Kind::Number(POROSITY), Kind::Temperature]].concat();
+    let base = arguments(asking(Params::lipf6_ec_dmc(), 0.3, 310.0), kinds);
     let mut all = [singles(&base), pairs(&base)].concat();
     for _ in 0..300 {
-        let p = Params { numbers: draw.all_within(&RANGES) };
-        all.push(slots(p, draw.within(POROSITY), draw.within(TEMPERATURE)));
+        let p = random_params(draw);
+        all.push(asking(p, draw.within(POROSITY), draw.within(TEMPERATURE)));
     }
+    all.extend(reference::rates(draw));
     all
 }
 
@@ -76,6 +80,7 @@ pub fn new_cases(draw: &mut Draw) -> Vec<Vec<Slot>> {
     let base = arguments(ready_regions([3, 2, 4]).slots(), regions_kinds());
     let mut all = [singles(&base), pairs(&base)].concat();
     all.extend((0..60).map(|_| random_regions(draw).slots()));
+    all.extend((0..60).map(|_| reference::regions(draw).slots()));
     all
 }
 
@@ -102,6 +107,10 @@ pub fn number_cases(draw: &mut Draw) -> Vec<Vec<Slot>> {
         let regions = random_regions(draw);
         all.push(random_state(draw, regions).slots());
     }
+    for _ in 0..60 {
+        let regions = reference::regions(draw);
+        all.push(random_state(draw, regions).slots());
+    }
     all
 }
 
@@ -113,7 +122,7 @@ pub fn numbers(arguments: &[Slot]) -> Vec<Slot> {
     [answer(e.n_total().map(|n| vec![word(n)])), number(e.c_avg())].concat()
 }
 
-fn stepping(e: &Electrolyte, numbers: [f64; 4]) -> Vec<Slot> {
+pub(super) fn stepping(e: &Electrolyte, numbers: [f64; 4]) -> Vec<Slot> {
     [e.slots(), numbers.map(float).to_vec()].concat()
 }
 
@@ -149,6 +158,7 @@ pub fn step_cases(draw: &mut Draw) -> Vec<Vec<Slot>> {
         all.push(stepping(&e, [source, -source, 0.1, 298.15]));
         e = e.step_concentration(source, -source, 0.1, 298.15).expect("a step in range");
     }
+    all.extend(reference::electrolyte_steps(draw));
     all
 }
 
@@ -168,6 +178,7 @@ pub fn dt_stable_cases(draw: &mut Draw) -> Vec<Vec<Slot>> {
         let regions = random_regions(draw);
         all.push([random_state(draw, regions).slots(), vec![float(draw.within(TEMPERATURE))]].concat());
     }
+    all.extend(reference::electrolyte_dt_stable(draw));
     all
 }
 

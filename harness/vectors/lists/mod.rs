@@ -1,6 +1,6 @@
 //! The lists, a file for each source file of the Rust.
 use crate::draw::Draw;
-use calls::table::range;
+use calls::table::{range, Range};
 use calls::words::Slot;
 use oracle::standins::with_small_arguments;
 
@@ -10,6 +10,7 @@ mod electrode;
 mod electrolyte;
 mod elementary;
 mod particle;
+pub mod reference;
 mod replay;
 mod solver;
 
@@ -78,6 +79,14 @@ fn about_small_limit(step: impl Fn(f64)) -> [f64; 3] {
 /// A current by which, per area, the overpotentials' arguments are mostly small.
 fn low_current(draw: &mut Draw, area: f64) -> f64 {
     area * draw.pick(&[1.0, -1.0]) * draw.within(range(1e-18, 1.0))
+}
+
+/// The reference temperature of the ready records.
+const READY_REFERENCE: f64 = 298.15;
+
+/// A sheet's or an electrolyte's numbers, the last of which, the reference temperature, is not drawn.
+fn random_numbers<const N: usize>(draw: &mut Draw, ranges: &[Range; N]) -> [f64; N] {
+    std::array::from_fn(|i| if i + 1 < N { draw.within(ranges[i]) } else { READY_REFERENCE })
 }
 
 /// The answer of a call that gives a number.

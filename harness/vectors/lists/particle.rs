@@ -1,6 +1,6 @@
 //! The particle's calls.
 use super::electrode::{self, random_sheet, ready_sheets};
-use super::number;
+use super::{number, reference};
 use crate::cover::{arguments, pairs, singles, Kind};
 use crate::draw::Draw;
 use calls::electrode::Sheet;
@@ -45,6 +45,7 @@ pub fn new_cases(draw: &mut Draw) -> Vec<Vec<Slot>> {
         all.extend([singles(&base), pairs(&base)].concat());
     }
     all.extend((2..=65).map(|n| [random_sheet(draw).slots(), vec![word(n)]].concat()));
+    all.extend((3..=64).map(|n| [reference::sheet(draw).slots(), vec![word(n)]].concat()));
     all
 }
 
@@ -55,7 +56,7 @@ pub fn new(arguments: &[Slot]) -> Vec<Slot> {
     answer(Particle::new(sheet, n).map(|p| vec![array(&p.c_s)]))
 }
 
-fn stepping(p: &Particle, j_n: f64, dt: f64, temp_k: f64) -> Vec<Slot> {
+pub(super) fn stepping(p: &Particle, j_n: f64, dt: f64, temp_k: f64) -> Vec<Slot> {
     [p.slots(), vec![float(j_n), float(dt), float(temp_k)]].concat()
 }
 
@@ -92,6 +93,7 @@ pub fn step_cases(draw: &mut Draw) -> Vec<Vec<Slot>> {
             p = p.step(flux, dt, 298.15).expect("a step in range");
         }
     }
+    all.extend(reference::particle_steps(draw));
     all
 }
 
@@ -108,6 +110,7 @@ pub fn dt_stable_cases(draw: &mut Draw) -> Vec<Vec<Slot>> {
     let base = arguments([p.slots(), vec![float(250.0)]].concat(), [kinds(&p), vec![Kind::Temperature]].concat());
     let mut all = [singles(&base), pairs(&base)].concat();
     all.extend((3..=PLACES as u64).map(|n| [random_particle(draw, n).slots(), vec![float(draw.within(TEMPERATURE))]].concat()));
+    all.extend(reference::particle_dt_stable(draw));
     all
 }
 
@@ -128,6 +131,7 @@ pub fn number_cases(draw: &mut Draw) -> Vec<Vec<Slot>> {
     for n in 3..=PLACES as u64 {
         all.extend((0..3).map(|_| random_particle(draw, n).slots()));
     }
+    all.extend((3..=PLACES as u64).map(|n| reference::particle(draw, n).slots()));
     all
 }
 

@@ -1,5 +1,5 @@
 //! A recorded load on the single-particle cell.
-use super::low_current;
+use super::{low_current, reference};
 use super::solver::{alike_counts, cell_kinds, config, diffusivity_out, equal_electrodes, pairs_of_sheets, random_cell};
 use crate::cover::{arguments, one_fault, pairs, singles, Argument, Kind};
 use crate::draw::Draw;
@@ -17,7 +17,7 @@ fn line_of([dt, current_a]: [u64; 2]) -> Vec<u8> {
 }
 
 /// A text of intervals and currents.
-fn text(lines: &[[f64; 2]]) -> Vec<u8> {
+pub(super) fn text(lines: &[[f64; 2]]) -> Vec<u8> {
     lines.iter().flat_map(|numbers| line_of(numbers.map(f64::to_bits))).collect()
 }
 
@@ -44,7 +44,7 @@ fn read_text(reader: &mut Reader) -> Vec<u8> {
 }
 
 /// Text, temperature and the length of the slice.
-fn replaying(cell: &Cell, text: &[u8], temp_k: f64, places: u64) -> Vec<Slot> {
+pub(super) fn replaying(cell: &Cell, text: &[u8], temp_k: f64, places: u64) -> Vec<Slot> {
     [cell.slots(), text_slots(text, text.len()), vec![float(temp_k), word(places)]].concat()
 }
 
@@ -287,6 +287,7 @@ pub fn cases(draw: &mut Draw) -> Vec<Vec<Slot>> {
         let loads: Vec<[f64; 2]> = (0..12).map(|_| [0.1, low_current(draw, cell.anode.sheet.numbers[6])]).collect();
         all.push(replaying(&cell, &text(&loads), T, 96));
     }
+    all.extend(reference::replays(draw));
     all
 }
 

@@ -1,6 +1,6 @@
 //! The single-particle cell's calls and its run.
 use super::electrode::{self, random_sheet, ready_sheets};
-use super::{about_small_limit, low_current, number, particle};
+use super::{about_small_limit, low_current, number, particle, reference, READY_REFERENCE};
 use crate::cover::{arguments, one_fault, pairs, singles, Argument, Kind};
 use crate::draw::Draw;
 use calls::electrode::Sheet;
@@ -21,7 +21,7 @@ pub(super) fn config(n_nodes: u64) -> Config {
     Config { n_nodes, numbers: [2.5, 4.2, 96_485.0, 8.314, 2e-4] }
 }
 
-fn random_config(draw: &mut Draw, n_nodes: u64) -> Config {
+pub(super) fn random_config(draw: &mut Draw, n_nodes: u64) -> Config {
     Config { n_nodes, numbers: draw.all_within(&RANGES) }
 }
 
@@ -63,6 +63,7 @@ pub fn new_cases(draw: &mut Draw) -> Vec<Vec<Slot>> {
     let base = arguments(slots(config(4), anode, cathode), kinds);
     let mut all = [singles(&base), pairs(&base)].concat();
     all.extend((3..=64).map(|n| slots(random_config(draw, n), random_sheet(draw), random_sheet(draw))));
+    all.extend((3..=64).map(|n| slots(random_config(draw, n), reference::sheet(draw), reference::sheet(draw))));
     all
 }
 
@@ -74,17 +75,17 @@ pub fn new(arguments: &[Slot]) -> Vec<Slot> {
     answer(Cell::new(config, anode, cathode).map(|cell| cell.changed_slots()))
 }
 
-fn stepping(cell: &Cell, current_a: f64, dt: f64, temp_k: f64) -> Vec<Slot> {
+pub(super) fn stepping(cell: &Cell, current_a: f64, dt: f64, temp_k: f64) -> Vec<Slot> {
     [cell.slots(), vec![float(current_a), float(dt), float(temp_k)]].concat()
 }
 
-fn step_base(cell: &Cell, current_a: f64, dt: f64, temp_k: f64) -> Vec<Argument> {
+pub(super) fn step_base(cell: &Cell, current_a: f64, dt: f64, temp_k: f64) -> Vec<Argument> {
     let kinds = [cell_kinds(cell), vec![Kind::Load(MOST_CURRENT), Kind::Above0(86_400.0), Kind::Temperature]].concat();
     arguments(stepping(cell, current_a, dt, temp_k), kinds)
 }
 
 /// The largest dt that makes one sub-step.
-fn one_sub_step(cell: &Cell, temp_k: f64) -> f64 {
+pub(super) fn one_sub_step(cell: &Cell, temp_k: f64) -> f64 {
     let stable = |p: &calls::particle::Particle| p.dt_stable(temp_k).expect("a particle in range") * 0.45;
     stable(&cell.anode).min(stable(&cell.cathode))
 }
@@ -111,15 +112,15 @@ pub(super) fn diffusivity_out(draw: &mut Draw, at_anode: bool, high: bool) -> (C
     (random_cell(draw, config(3), (anode, cathode)), if high { 350.0 } else { 250.0 })
 }
 
-/// Ready cells of which one electrode's corrected diffusivity is a limit or next to one, each with its temperature.
-fn diffusivity_at_limits() -> Vec<(Cell, f64)> {
+/// Ready cells of which one electrode, with this t_ref, has a corrected diffusivity at a limit or next to one, each with its temperature.
+pub(super) fn diffusivity_at_limits(t_ref: f64) -> Vec<(Cell, f64)> {
     let mut all = Vec::new();
     for (limit, temp_k) in [(DIFFUSIVITY.low, 290.0), (DIFFUSIVITY.high, 310.0)] {
         for wanted in [limit.next_down(), limit, limit.next_up()] {
             for at_anode in [true, false] {
                 let mut cell = Cell::new(config(3), pairs_of_sheets()[0].0, pairs_of_sheets()[0].1).expect("ready sheets");
                 let sheet = if at_anode { &mut cell.anode.sheet } else { &mut cell.cathode.sheet };
-                sheet.numbers[1] = 1e-14;
+                (sheet.numbers[1], sheet.numbers[9]) = (1e-14, t_ref);
                 let factor = sheet.d_s(temp_k).expect("a sheet in range") / 1e-14;
                 let near = (wanted / factor).to_bits();
                 for bits in near - 8..near + 8 {
@@ -213,8 +214,9 @@ pub fn step_cases(draw: &mut Draw) -> Vec<Vec<Slot>> {
         }
     }
     all.extend(alike_counts().iter().map(|cell| stepping(cell, 3.0, 1.0, 298.15)));
-    all.extend(diffusivity_at_limits().iter().map(|(cell, temp_k)| stepping(cell, 3.0, 0.01, *temp_k)));
+    all.extend(diffusivity_at_limits(READY_REFERENCE).iter().map(|(cell, temp_k)| stepping(cell, 3.0, 0.01, *temp_k)));
     all.extend(low_rate_steps(draw));
+    all.extend(reference::cell_steps(draw));
     all
 }
 
@@ -241,6 +243,7 @@ pub fn number_cases(draw: &mut Draw) -> Vec<Vec<Slot>> {
         all.push(random_cell(draw, config, sheets).slots());
     }
     all.extend(alike_counts().iter().map(Cell::slots));
+    all.extend((3..=64).map(|n| reference::cell(draw, n).slots()));
     all
 }
 
@@ -253,7 +256,7 @@ pub fn numbers(arguments: &[Slot]) -> Vec<Slot> {
 }
 
 /// Current, interval, temperature, time limit, and the length of the slice.
-fn running(cell: &Cell, [current_a, dt, temp_k, limit]: [f64; 4], length: u64) -> Vec<Slot> {
+pub(super) fn running(cell: &Cell, [current_a, dt, temp_k, limit]: [f64; 4], length: u64) -> Vec<Slot> {
     [cell.slots(), [current_a, dt, temp_k, limit].map(float).to_vec(), vec![word(length)]].concat()
 }
 
@@ -309,6 +312,7 @@ pub fn run_cases(draw: &mut Draw) -> Vec<Vec<Slot>> {
         let cell = equal_electrodes(draw);
         all.push(running(&cell, [low_current(draw, cell.anode.sheet.numbers[6]), 0.1, 298.15, 1e9], 160));
     }
+    all.extend(reference::runs(draw));
     all
 }
 
