@@ -474,6 +474,29 @@ static void numbers(void)
     EXPECT(NUMBER(PJ_NUMBER_ELECTROLYTE_DT_STABLE, electrolyte, sizeof electrolyte, T, 0) > 0.0);
 }
 
+/* An image of layout version 1, which had no t_ref, is not taken for one of version 2, even where its length is that of another record. */
+static void earlier_layout(void)
+{
+    enum { SHEET = PJ_AT_SHEET_T_REF, PROFILE = PJ_PARTICLE_BYTES - PJ_SHEET_BYTES, PARTICLE = SHEET + PROFILE };
+    static uint8_t with_nodes[SHEET + 8], run[PJ_CONFIG_BYTES + 2 * PARTICLE + 8 + PJ_ENDING_BYTES], answer[PJ_CELL_STEP_BYTES];
+    uint8_t *anode = run + PJ_CONFIG_BYTES, *cathode = anode + PARTICLE;
+    memcpy(with_nodes, graphite, SHEET);
+    pj_put_u64(with_nodes, SHEET, 11);
+    EXPECT(pj_number(PJ_NUMBER_D_S, with_nodes, SHEET, T, 0, answer, PJ_NUMBER_BYTES) == PJ_REFUSAL_LENGTH);
+    EXPECT(sizeof with_nodes == PJ_SHEET_BYTES && sizeof run == PJ_CELL_BYTES);
+    EXPECT(pj_number(PJ_NUMBER_D_S, with_nodes, sizeof with_nodes, T, 0, answer, PJ_NUMBER_BYTES) == PJ_REFUSAL_SHEET);
+    memcpy(run, cell_nmc, PJ_CONFIG_BYTES);
+    memcpy(anode, cell_nmc + PJ_AT_CELL_ANODE, SHEET);
+    memcpy(anode + SHEET, cell_nmc + PJ_AT_CELL_ANODE + PJ_SHEET_BYTES, PROFILE);
+    memcpy(cathode, cell_nmc + PJ_AT_CELL_CATHODE, SHEET);
+    memcpy(cathode + SHEET, cell_nmc + PJ_AT_CELL_CATHODE + PJ_SHEET_BYTES, PROFILE);
+    EXPECT(pj_cell_step(run, sizeof run - PJ_ENDING_BYTES, 3.0, 1.0, T, answer, sizeof answer) == PJ_REFUSAL_LENGTH);
+    EXPECT(pj_cell_step(run, sizeof run, 3.0, 1.0, T, answer, sizeof answer) == PJ_REFUSAL_GRID);
+    pj_put_u64(anode, PJ_AT_PARTICLE_N_NODES, 11);
+    pj_put_u64(run, PJ_AT_CELL_CATHODE + PJ_AT_PARTICLE_N_NODES, 11);
+    EXPECT(pj_cell_step(run, sizeof run, 3.0, 1.0, T, answer, sizeof answer) == PJ_REFUSAL_SHEET);
+}
+
 /* At t_ref a rate is its reference value; each electrode of a cell has its own. */
 static void reference_temperatures(void)
 {
@@ -843,6 +866,7 @@ int main(void)
     new_dfn_cells();
     numbers();
     reference_temperatures();
+    earlier_layout();
     single_particle_steps();
     dfn_steps();
     discharges();

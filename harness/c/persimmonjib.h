@@ -16,13 +16,13 @@
  *
  * RANGES are closed, and no NaN and no infinity lies in one. A whole record is checked by every call.
  *
- * PLATFORM. The archive is for x86-64 (System V calling convention) and holds about 109 kB of code and tables. It leaves memcpy
+ * PLATFORM. The archive is for x86-64 (System V calling convention) and holds about 111 kB of code and tables. It leaves memcpy
  * and memset undefined, which the C library or the firmware has to supply, and needs nothing else: no heap, no file, no clock, no
  * C library beyond these two, no thread. Calls keep no state, so that they may run on several threads at once, each on memory of its own.
  *
  * FLOATING POINT. A call must find the processor as the System V convention has it at a program's start: round to nearest, all
  * floating-point exceptions masked, and neither flush-to-zero nor denormals-are-zero (MXCSR = 0x1F80). With both of the last on,
- * 2.0 in 100 drawn calls give other bits or another refusal (in 6.9 of 100 drawn lists of calls; harness/flush/run counts them), and
+ * 1.9 in 100 drawn calls give other bits or another refusal (in 6.4 of 100 drawn lists of calls; harness/flush/run counts them), and
  * no proof covers that. A program that gcc links with -ffast-math starts with both on: turn them off around the calls.
  *
  * STACK. A call needs at most PJ_STACK_..._BYTES of it, whatever it is handed, and what memcpy and memset need besides.
