@@ -1,7 +1,7 @@
 -- A cell file.
 --
 -- Settings: what a line sets, and what a file sets.
--- Records: the thirty numbers that a run starts from, and the records that they make.
+-- Records: the numbers that a run starts from, and the records that a run's numbers make.
 -- Ranges: the ranges of the names are those of the records' own tests.
 pub mod Settings
 pub mod Records
