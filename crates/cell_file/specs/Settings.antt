@@ -3,7 +3,7 @@ use Prim.Native.Nat.{ℕ, zero, suc, _-_}
 use mathlib.Core.Bool.{Bool, cond, not, _&&_}
 use mathlib.Core.List.{List, [], _∷_}
 use lib.Dec.{leb, ltb, eqb}
-use lib.ListN.{length, take, drop, getD, set}
+use lib.ListN.{length, take, drop, getD, set, replicate}
 use lib.Ieee.{Float}
 use Rattle.decimal_text.specs.declared.Decimal.{Decimal}
 use Rattle.decimal_text.specs.declared.Decimal.the-variants.{Number, TooLong, NotDecimal}
@@ -72,6 +72,10 @@ unfoldable pub lineSetting : List ℕ → Setting
 lineSetting s = solidSetting (trimmed (before 35 s))
 
 -- ---- line after line: the numbers, the line that gave each (0 for none), and the first fault with its place and line
+-- numbers of which none is given
+abbrev pub freshSettings : List Float → ℕ → Settings
+freshSettings values fault = record { values = values; given = replicate none 0; fault = fault; place = none; line = 0 }
+
 unfoldable pub faulted : Settings → ℕ → ℕ → ℕ → Settings
 faulted st line fault place = record {
   values = st .values;

@@ -37,7 +37,16 @@ pub fn ready(q: ElectrodeParams) -> [f64; NONE]
     ensures { λ r. ⌜ r ≡ readyWith q ⌝ }
 {
     let ten = [
-        5.0, 10.0, 298.15, 3600.0, 11.0, 3.0, 4.2, 96485.0, 8.314, 2e-4,
+        5.0,
+        10.0,
+        298.15,
+        3600.0,
+        11.0,
+        3.0,
+        4.2,
+        96485.0,
+        8.314,
+        2e-4,
     ];
     let run = put_ten([0.0; NONE], 0, &ten);
     let half = put_sheet(run, ANODE, ElectrodeParams::graphite_anode());
