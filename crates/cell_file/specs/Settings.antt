@@ -123,9 +123,13 @@ inSheets = none - anode
 abbrev pub last : ℕ
 last = none - 1
 
--- a cell file may leave t_ref out, which has the last row
+-- the row of t_ref
+abbrev pub referenceRow : ℕ
+referenceRow = 20
+
+-- a cell file may leave t_ref out
 abbrev pub isAsked : ℕ → Bool
-isAsked k = not (eqb (rowOf k) 20)
+isAsked k = not (eqb (rowOf k) referenceRow)
 
 -- the first place that is asked for and that no line gave, of the last k of both sheets
 unfoldable pub missingBy : ℕ → List ℕ → ℕ

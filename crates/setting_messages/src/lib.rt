@@ -98,7 +98,7 @@ fn say_what(fault: u64, place: usize, program: &[u8]) {
     );
     entry(
         ERR,
-        b"||||||||a cell file has at most 4,095 bytes|not given, and a cell file gives both sheets, but for t_ref|",
+        b"||||||||a cell file has at most 4,095 bytes|not given, and a cell file gives each number of both sheets but t_ref|",
         fault as usize,
     );
     if fault == UNKNOWN_NAME {
@@ -170,6 +170,6 @@ pub fn write_names(load: bool) {
     }
     say(
         OUT,
-        b"\nA cell file has a line NAME = VALUE for each number of both sheets, and for any other that it sets; without one for t_ref, it is 298.15 K. '#' begins a remark.\n",
+        b"\nA cell file has a line NAME = VALUE for each number of both sheets, and for any other that it sets; a t_ref without a line is 298.15 K; '#' begins a remark.\n",
     );
 }
