@@ -5,13 +5,13 @@ use setting_table::names::ANODE;
 use setting_table::names::CATHODE;
 use setting_table::names::NONE;
 ghost use mathlib.Core.Path.{_≡_};
-ghost use Prim.Native.Nat.{_≤_};
-ghost use Rattle.setting_table.specs.Names.{cathode};
+ghost use Prim.Native.Nat.{_+_, _≤_};
+ghost use Rattle.setting_table.specs.Names.{cathode, none};
 ghost use Rattle.cell_file.specs.Records.{putBy, withSheet, readyWith, tenAt, sheetAt, configAt};
 
 // Puts ten numbers from a place on.
 fn put_ten(v: [f64; NONE], base: usize, x: &[f64; 10]) -> [f64; NONE]
-    requires { ⌜ base ≤ 22 ⌝ }
+    requires { ⌜ base + 10 ≤ none ⌝ }
     ensures { λ r. ⌜ r ≡ putBy 10 base (now (x .entry)) v ⌝ }
 {
     let mut all = v;
@@ -55,7 +55,7 @@ pub fn ready(q: ElectrodeParams) -> [f64; NONE]
 
 // The ten numbers from a place on.
 fn ten_at(v: &[f64; NONE], base: usize) -> [f64; 10]
-    requires { ⌜ base ≤ 22 ⌝ }
+    requires { ⌜ base + 10 ≤ none ⌝ }
     ensures { λ r. ⌜ r ≡ tenAt (now (v .entry)) base ⌝ }
 {
     let mut ten = [0.0; 10];
