@@ -85,7 +85,7 @@ class ReplayTest(unittest.TestCase):
             out, message = self.replay(word)
             self.assertEqual((out.splitlines()[0], message), ("replay [lfp | nmc | CELL FILE] load=FILE [NAME=VALUE ..]", ""))
             names = [line.split()[0] for line in out.splitlines() if line.startswith("    ")]
-            self.assertEqual((len(names), {"current", "dt", "time"} & set(names)), (27, set()))
+            self.assertEqual((len(names), {"current", "dt", "time"} & set(names)), (29, set()))
 
     def test_faults(self):
         for arguments, words in [

@@ -13,10 +13,11 @@ use lib.ListN.{length, take, drop, length-drop}
 use lib.Seq.{drop-drop}
 use Rattle.plain_text.specs.Text.{indexOf, linesOf, startsWith, afterMark}
 use Rattle.plain_text.specs.Pieces.{rest-is, linesBehind, lines-first}
+use Rattle.setting_table.specs.Names.{none}
 use Rattle.cell_file.specs.declared.Setting.{Setting}
 use Rattle.cell_file.specs.declared.Settings.{Settings}
 use Rattle.cell_file.specs.Settings.{setting, noSign, longFile, notGiven, assigned, settingOf, solidSetting}
-use Rattle.cell_file.specs.Settings.{faulted, takenLine, linesTaken, fileTaken, missingBy, wholeSheets, cellTaken}
+use Rattle.cell_file.specs.Settings.{faulted, takenLine, linesTaken, fileTaken, inSheets, missingBy, wholeSheets, cellTaken}
 use Rattle.binary64.specs.Literals.{«0·0»}
 
 module _ (t : List ℕ) (i : ℕ) (some : length t ≡ 0 → ⊥) (e : i ≡ 0 + indexOf 61 t) where
@@ -27,7 +28,7 @@ module _ (t : List ℕ) (i : ℕ) (some : length t ≡ 0 → ⊥) (e : i ≡ 0 +
   unfolding solidSetting settingOf
   sets r h q = rw (ne-eqb (length t) 0 some, is-index, lt-ltb i (length t) h) (q ∙ rw (rest-is (i + 1) t, add-one i))
 
-  pub sets-none : length t ≤ i → setting noSign 30 «0·0» ≡ solidSetting t
+  pub sets-none : length t ≤ i → setting noSign none «0·0» ≡ solidSetting t
   unfolding solidSetting settingOf
   sets-none h = rw (ne-eqb (length t) 0 some, is-index, le-ltb i (length t) h)
 
@@ -86,15 +87,15 @@ mark-length s = go (startsWith s (239 ∷ 187 ∷ 191 ∷ []))
 
 -- ---- the three ends of a cell file
 module _ (st : Settings) (s : List ℕ) where
-  pub cell-long : 4095 < length s → faulted st 0 longFile 30 ≡ cellTaken st s
+  pub cell-long : 4095 < length s → faulted st 0 longFile none ≡ cellTaken st s
   unfolding cellTaken fileTaken wholeSheets faulted
   cell-long h = rw (lt-leb (length s) 4095 h)
 
-  module _ (r : Settings) (m : ℕ) (h : length s ≤ 4095) (e : r ≡ linesTaken st 1 (linesOf (afterMark s))) (q : m ≡ missingBy 20 (r .given)) where
-    pub cell-missing : eqb (r .fault) 0 && ltb m 30 ≡ true → faulted r 0 notGiven m ≡ cellTaken st s
+  module _ (r : Settings) (m : ℕ) (h : length s ≤ 4095) (e : r ≡ linesTaken st 1 (linesOf (afterMark s))) (q : m ≡ missingBy inSheets (r .given)) where
+    pub cell-missing : eqb (r .fault) 0 && ltb m none ≡ true → faulted r 0 notGiven m ≡ cellTaken st s
     unfolding cellTaken fileTaken wholeSheets
     cell-missing t = rw (le-leb (length s) 4095 h, ← e, ← q, t)
 
-    pub cell-whole : eqb (r .fault) 0 && ltb m 30 ≡ false → r ≡ cellTaken st s
+    pub cell-whole : eqb (r .fault) 0 && ltb m none ≡ false → r ≡ cellTaken st s
     unfolding cellTaken fileTaken wholeSheets
     cell-whole t = rw (le-leb (length s) 4095 h, ← e, ← q, t)

@@ -1,14 +1,14 @@
 -- What a line sets, and what a file sets: the first fault that is met, with its line, or the numbers. Definitions only.
 use Prim.Native.Nat.{ℕ, zero, suc, _-_}
-use mathlib.Core.Bool.{cond, not, _&&_}
+use mathlib.Core.Bool.{Bool, cond, not, _&&_}
 use mathlib.Core.List.{List, [], _∷_}
 use lib.Dec.{leb, ltb, eqb}
-use lib.ListN.{length, take, drop, getD, set}
+use lib.ListN.{length, take, drop, getD, set, replicate}
 use lib.Ieee.{Float}
 use Rattle.decimal_text.specs.declared.Decimal.{Decimal}
 use Rattle.decimal_text.specs.declared.Decimal.the-variants.{Number, TooLong, NotDecimal}
 use Rattle.decimal_text.specs.DecimalText.{numberOf}
-use Rattle.setting_table.specs.Names.{placeOf}
+use Rattle.setting_table.specs.Names.{anode, none, rowOf, placeOf}
 use Rattle.setting_table.specs.Ranges.{inPlace, isCount, isWhole}
 use Rattle.cell_file.specs.declared.Setting.{Setting}
 use Rattle.cell_file.specs.declared.Settings.{Settings}
@@ -57,21 +57,25 @@ valued k NotDecimal = setting notDecimal k «0·0»
 
 -- NAME and VALUE, with blanks around them or not
 unfoldable pub assigned : List ℕ → List ℕ → Setting
-assigned name value = cond (ltb (placeOf (trimmed name)) 30) (valued (placeOf (trimmed name)) (numberOf (trimmed value))) (setting unknownName 30 «0·0»)
+assigned name value = cond (ltb (placeOf (trimmed name)) none) (valued (placeOf (trimmed name)) (numberOf (trimmed value))) (setting unknownName none «0·0»)
 
 -- NAME = VALUE, at the first '='
 unfoldable pub settingOf : List ℕ → Setting
-settingOf t = cond (ltb (indexOf 61 t) (length t)) (assigned (take (indexOf 61 t) t) (drop (suc (indexOf 61 t)) t)) (setting noSign 30 «0·0»)
+settingOf t = cond (ltb (indexOf 61 t) (length t)) (assigned (take (indexOf 61 t) t) (drop (suc (indexOf 61 t)) t)) (setting noSign none «0·0»)
 
 -- nothing but blanks sets nothing
 unfoldable pub solidSetting : List ℕ → Setting
-solidSetting t = cond (eqb (length t) 0) (setting 0 30 «0·0») (settingOf t)
+solidSetting t = cond (eqb (length t) 0) (setting 0 none «0·0») (settingOf t)
 
 -- a line, up to the '#' that begins a remark
 unfoldable pub lineSetting : List ℕ → Setting
 lineSetting s = solidSetting (trimmed (before 35 s))
 
 -- ---- line after line: the numbers, the line that gave each (0 for none), and the first fault with its place and line
+-- numbers of which none is given
+abbrev pub freshSettings : List Float → ℕ → Settings
+freshSettings values fault = record { values = values; given = replicate none 0; fault = fault; place = none; line = 0 }
+
 unfoldable pub faulted : Settings → ℕ → ℕ → ℕ → Settings
 faulted st line fault place = record {
   values = st .values;
@@ -94,7 +98,7 @@ given st line a = record {
 unfoldable pub stored : Settings → ℕ → Setting → Settings
 stored st line a =
     cond (eqb (a .fault) 0)
-    (cond (ltb (a .place) 30)
+    (cond (ltb (a .place) none)
     (cond (eqb (getD (st .given) (a .place) 0) 0) (given st line a) (faulted st line givenTwice (a .place)))
     st)
     (faulted st line (a .fault) (a .place))
@@ -109,16 +113,32 @@ linesTaken st line (l ∷ ls) = linesTaken (takenLine st line l) (suc line) ls
 
 -- a file of at most 4,095 bytes
 unfoldable pub fileTaken : Settings → List ℕ → Settings
-fileTaken st s = cond (leb (length s) 4095) (linesTaken st 1 (linesOf (afterMark s))) (faulted st 0 longFile 30)
+fileTaken st s = cond (leb (length s) 4095) (linesTaken st 1 (linesOf (afterMark s))) (faulted st 0 longFile none)
 
--- the first place of both sheets that no line gave, of the last k; 30 where there is none
+-- how many numbers both sheets have, with their chemistries
+abbrev pub inSheets : ℕ
+inSheets = none - anode
+
+-- the last place
+abbrev pub last : ℕ
+last = none - 1
+
+-- the row of t_ref
+abbrev pub referenceRow : ℕ
+referenceRow = 20
+
+-- a cell file may leave t_ref out
+abbrev pub isAsked : ℕ → Bool
+isAsked k = not (eqb (rowOf k) referenceRow)
+
+-- the first place that is asked for and that no line gave, of the last k of both sheets
 unfoldable pub missingBy : ℕ → List ℕ → ℕ
-missingBy zero g = 30
-missingBy (suc k) g = cond (eqb (getD g (29 - k) 0) 0) (29 - k) (missingBy k g)
+missingBy zero g = none
+missingBy (suc k) g = cond (isAsked (last - k) && eqb (getD g (last - k) 0) 0) (last - k) (missingBy k g)
 
--- a cell file gives both sheets whole
+-- a cell file gives both sheets, but for t_ref
 unfoldable pub wholeSheets : Settings → Settings
-wholeSheets st = cond (eqb (st .fault) 0 && ltb (missingBy 20 (st .given)) 30) (faulted st 0 notGiven (missingBy 20 (st .given))) st
+wholeSheets st = cond (eqb (st .fault) 0 && ltb (missingBy inSheets (st .given)) none) (faulted st 0 notGiven (missingBy inSheets (st .given))) st
 
 unfoldable pub cellTaken : Settings → List ℕ → Settings
 cellTaken st s = wholeSheets (fileTaken st s)

@@ -5,8 +5,12 @@ ghost use mathlib.Core.Path.{_≡_};
 ghost use Prim.Native.Nat.{_≤_, _<_};
 ghost use lib.ListN.{length};
 ghost use Rattle.plain_text.specs.Text.{linesOf};
-ghost use Rattle.cell_file.specs.Settings.{numberFault, valued, assigned, solidSetting, lineSetting, faulted, stored, takenLine, linesTaken, missingBy, cellTaken};
+ghost use Rattle.setting_table.specs.Names.{none};
+ghost use Rattle.cell_file.specs.Settings.{numberFault, valued, assigned, solidSetting, lineSetting, faulted, stored, takenLine, linesTaken, inSheets, missingBy, cellTaken};
 use decimal_text::Decimal;
+use setting_table::names::ANODE;
+use setting_table::names::NONE;
+use setting_table::names::row_of;
 
 // What is wrong with a line or a file; 0 is nothing.
 pub const NO_SIGN: u64 = 1;
@@ -27,24 +31,24 @@ pub const LONG_FILE: u64 = 8;
 
 pub const NOT_GIVEN: u64 = 9;
 
-// What a line sets: a number at a place, or its fault; place 30 and no fault where it sets nothing.
+// What a line sets: a number at a place, or its fault; NONE and no fault where it sets nothing.
 pub struct Setting {
     pub fault: u64,
     pub place: usize,
     pub value: f64,
 }
 
-// The thirty numbers, the line that gave each, and the first fault with its place and its line.
+// The numbers, the line that gave each, and the first fault with its place and its line.
 pub struct Settings {
-    pub values: [f64; 30],
-    pub given: [u64; 30],
+    pub values: [f64; NONE],
+    pub given: [u64; NONE],
     pub fault: u64,
     pub place: usize,
     pub line: u64,
 }
 
 fn number_fault(k: usize, x: f64) -> u64
-    requires { ⌜ k < 30 ⌝ }
+    requires { ⌜ k < none ⌝ }
     ensures { λ r. ⌜ r ≡ numberFault k x ⌝ }
 {
     if !setting_table::ranges::in_range(k, x) {
@@ -57,7 +61,7 @@ fn number_fault(k: usize, x: f64) -> u64
 }
 
 fn valued_as(k: usize, d: Decimal) -> Setting
-    requires { ⌜ k < 30 ⌝ }
+    requires { ⌜ k < none ⌝ }
     ensures { λ r. ⌜ r ≡ valued k d ⌝ }
 {
     match d {
@@ -83,12 +87,12 @@ fn assign(name: &[u8], value: &[u8]) -> Setting
     ensures { λ r. ⌜ r ≡ assigned (now (name .entry)) (now (value .entry)) ⌝ }
 {
     let k = setting_table::names::place_of(plain_text::without_blanks(name));
-    if k < 30 {
+    if k < NONE {
         return valued_as(k, decimal_text::read(plain_text::without_blanks(value)));
     }
     Setting {
         fault: UNKNOWN_NAME,
-        place: 30,
+        place: NONE,
         value: 0.0,
     }
 }
@@ -100,7 +104,7 @@ fn setting_in(t: &[u8]) -> Setting
     if t.len() == 0 {
         return Setting {
             fault: 0,
-            place: 30,
+            place: NONE,
             value: 0.0,
         };
     }
@@ -111,7 +115,7 @@ fn setting_in(t: &[u8]) -> Setting
     }
     Setting {
         fault: NO_SIGN,
-        place: 30,
+        place: NONE,
         value: 0.0,
     }
 }
@@ -145,7 +149,7 @@ fn store(st: Settings, line: u64, a: Setting) -> Settings
     if a.fault != 0 {
         return with_fault(st, line, a.fault, k);
     }
-    if k >= 30 {
+    if k >= NONE {
         return st;
     }
     let mut given = st.given;
@@ -191,29 +195,39 @@ fn take_lines(first: Settings, s: &[u8]) -> Settings
     st
 }
 
-// The first place of both sheets that no line gave, or 30.
-fn missing(given: &[u64; 30]) -> usize
-    ensures { λ r. ⌜ r ≡ missingBy 20 (now (given .entry)) ⌝ }
+// How many numbers both sheets have, with their chemistries.
+const SHEETS: usize = NONE - ANODE;
+
+// The last place.
+const LAST: usize = NONE - 1;
+
+// The row of t_ref, which a cell file may leave out.
+const T_REF: usize = 20;
+
+// The first place of both sheets that is asked for and that no line gave, or NONE.
+fn missing(given: &[u64; NONE]) -> usize
+    ensures { λ r. ⌜ r ≡ missingBy inSheets (now (given .entry)) ⌝ }
 {
-    let mut found: usize = 30;
-    for k in 0..20 {
-        let place = 29 - k;
-        found = plain_text::either(given[place] == 0, place, found);
+    let mut found = NONE;
+    for k in 0..SHEETS {
+        let place = LAST - k;
+        let asked = row_of(place) != T_REF;
+        found = plain_text::either(asked & (given[place] == 0), place, found);
     }
     found
 }
 
-// Takes a cell file, which gives both sheets whole.
+// Takes a cell file, which gives both sheets; t_ref may be left out.
 pub fn take_cell(st: Settings, s: &[u8]) -> Settings
     ensures { λ r. ⌜ r ≡ cellTaken st (now (s .entry)) ⌝ }
 {
     if s.len() > 4095 {
-        return with_fault(st, 0, LONG_FILE, 30);
+        return with_fault(st, 0, LONG_FILE, NONE);
     }
     let taken = take_lines(st, plain_text::after_mark(s));
     let given = taken.given;
     let place = missing(&given);
-    if (taken.fault == 0) & (place < 30) {
+    if (taken.fault == 0) & (place < NONE) {
         return with_fault(taken, 0, NOT_GIVEN, place);
     }
     taken

@@ -1,13 +1,12 @@
--- What the first argument asks for, the numbers to start from, and the cell that thirty numbers make. Definitions only.
+-- What the first argument asks for, and the cell that a run's numbers make. Definitions only.
 use Prim.Native.Nat.{ℕ}
 use mathlib.Core.Bool.{Bool, cond, _&&_, _||_}
 use mathlib.Core.List.{List}
 use lib.Dec.{ltb, eqb}
 use lib.Ieee.{Float}
-use lib.ListN.{length, replicate}
+use lib.ListN.{length}
 use Rattle.plain_text.specs.Text.{indexOf, isText}
-use Rattle.setting_table.specs.Names.{bytesOf}
-use Rattle.cell_file.specs.declared.Settings.{Settings}
+use Rattle.setting_table.specs.Names.{anode, cathode, bytesOf}
 use Rattle.cell_file.specs.Records.{configAt, sheetAt}
 use Rattle.solver.specs.declared.SpmBuildAnswer.{SpmBuildAnswer}
 use Rattle.solver.specs.Cell.{built}
@@ -24,10 +23,6 @@ asksHelp w = isText w (bytesOf "help") || isText w (bytesOf "--help") || isText 
 unfoldable pub firstPlace : List ℕ → ℕ
 firstPlace w = cond (namesCell w) 2 1
 
--- numbers of which none is given
-abbrev pub freshSettings : List Float → ℕ → Settings
-freshSettings values fault = record { values = values; given = replicate 30 0; fault = fault; place = 30; line = 0 }
-
 -- the config, the anode's sheet and the cathode's
 unfoldable pub builtFrom : List Float → SpmBuildAnswer
-builtFrom v = built (configAt v) (sheetAt v 10) (sheetAt v 20)
+builtFrom v = built (configAt v) (sheetAt v anode) (sheetAt v cathode)

@@ -6,8 +6,10 @@ use cell_file::take_line;
 use electrode::ElectrodeParams;
 use setting_messages::ERR;
 use setting_messages::say;
+use setting_table::names::NONE;
 ghost use mathlib.Core.Path.{_≡_};
-ghost use Rattle.command_line.specs.Arguments.{namesCell, asksHelp, freshSettings, firstPlace};
+ghost use Rattle.cell_file.specs.Settings.{freshSettings};
+ghost use Rattle.command_line.specs.Arguments.{namesCell, asksHelp, firstPlace};
 
 // A fault that is not a line's or a cell file's, such as a file that cannot be read.
 pub const OTHER_FAULT: u64 = 10;
@@ -27,14 +29,14 @@ pub fn asks_help(word: &[u8]) -> bool
 }
 
 // The numbers to start from, of which none is given yet.
-pub fn fresh(values: [f64; 30], fault: u64) -> Settings
+pub fn fresh(values: [f64; NONE], fault: u64) -> Settings
     ensures { λ r. ⌜ r ≡ freshSettings values fault ⌝ }
 {
     Settings {
         values,
-        given: [0; 30],
+        given: [0; NONE],
         fault,
-        place: 30,
+        place: NONE,
         line: 0,
     }
 }
@@ -58,7 +60,7 @@ pub fn read_file(path: &[u8], text: &mut [u8]) -> isize {
 }
 
 // The numbers of a cell file.
-fn from_file(path: &[u8], start: [f64; 30], program: &[u8]) -> Settings {
+fn from_file(path: &[u8], start: [f64; NONE], program: &[u8]) -> Settings {
     let mut text = io::buffer();
     let got = read_file(path, &mut text);
     let size = io::count(got, &text);

@@ -8,6 +8,7 @@ use setting_messages::name;
 use setting_messages::number;
 use setting_messages::say;
 use setting_messages::unit;
+use setting_table::names::NONE;
 
 // A refusal by its number and its word of docs/REFERENCE.md's table.
 fn say_refusal(fd: i32, number: u64) {
@@ -46,7 +47,7 @@ pub fn write_setting(k: usize, x: f64) {
 }
 
 // The temperature and the limits, which end that line.
-pub fn write_limits(v: [f64; 30]) {
+pub fn write_limits(v: [f64; NONE]) {
     write_setting(2, v[2]);
     write_setting(5, v[5]);
     write_setting(6, v[6]);

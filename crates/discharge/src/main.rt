@@ -6,6 +6,7 @@ mod help;
 use cell_file::Settings;
 use command_line::arguments;
 use command_line::ending;
+use setting_table::names::NONE;
 use solver::SpmSolver;
 
 fn take(st: Settings, i: usize, program: &[u8]) -> Settings {
@@ -27,7 +28,7 @@ fn given(first: &[u8], program: &[u8]) -> Settings {
     st
 }
 
-fn run(v: [f64; 30], cell: SpmSolver, named: &[u8]) {
+fn run(v: [f64; NONE], cell: SpmSolver, named: &[u8]) {
     let mut rows = [0.0; 80000];
     let r = discharge_run::simulate_discharge(cell, v[0], v[1], v[2], v[3], &mut rows);
     let e = r.ending;

@@ -9,6 +9,7 @@ use csv_rows::OUT;
 use runs::Ending;
 use setting_messages::ERR;
 use setting_messages::say;
+use setting_table::names::NONE;
 use solver::SpmSolver;
 ghost use mathlib.Core.Path.{_≡_};
 ghost use lib.ListN.{length};
@@ -39,7 +40,7 @@ fn write_ending(e: Ending, rows: usize) {
 }
 
 // Replays the file at a path. It has at most 1,927 lines, so that the rows, 10,000 as csv_rows writes them, always have room.
-fn replay(v: [f64; 30], cell: SpmSolver, named: &[u8], path: &[u8]) {
+fn replay(v: [f64; NONE], cell: SpmSolver, named: &[u8], path: &[u8]) {
     let mut text = load_buffer();
     let got = command_line::arguments::read_file(path, &mut text);
     let size = io::count(got, &text);
@@ -58,7 +59,7 @@ fn replay(v: [f64; 30], cell: SpmSolver, named: &[u8], path: &[u8]) {
 }
 
 // Builds the cell and replays the file that argument i names, load=FILE.
-fn run(v: [f64; 30], named: &[u8], i: usize) {
+fn run(v: [f64; NONE], named: &[u8], i: usize) {
     let mut word = io::buffer();
     let size = os::arg(i, &mut word);
     let built = command_line::build(&v);

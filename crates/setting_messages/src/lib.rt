@@ -6,7 +6,10 @@ use cell_file::UNKNOWN_NAME;
 use cell_file::records::ready;
 use csv_rows::OUT;
 use electrode::ElectrodeParams;
+use setting_table::names::NONE;
 use setting_table::names::in_load;
+use setting_table::names::part_of;
+use setting_table::names::row_of;
 
 pub const ERR: i32 = 2;
 
@@ -40,10 +43,10 @@ pub fn number(fd: i32, x: f64) {
 
 // Writes the name at a place.
 pub fn name(fd: i32, k: usize) {
-    if k >= 30 {
+    if k >= NONE {
         return;
     }
-    entry(fd, b"|anode.|cathode.|", k / 10);
+    entry(fd, b"|anode.|cathode.|", part_of(k));
     for j in 0..12 {
         let b = setting_table::names::letter(k, j);
         byte_if(fd, b != b' ', b);
@@ -52,15 +55,14 @@ pub fn name(fd: i32, k: usize) {
 
 // Writes the unit at a place; nothing for a number without one.
 pub fn unit(fd: i32, k: usize) {
-    if k < 10 {
-        entry(fd, b" A| s| K| s|| V| V| C/mol| J/(mol K)| ohm m^2|", k);
-    } else {
-        entry(
-            fd,
-            b"| m| m^2/s| mol/m^3|| m|| m^2| J/mol| m^2.5/(mol^0.5 s)|",
-            k % 10,
-        );
+    if k >= NONE {
+        return;
     }
+    entry(
+        fd,
+        b" A| s| K| s|| V| V| C/mol| J/(mol K)| ohm m^2|| m| m^2/s| mol/m^3|| m|| m^2| J/mol| m^2.5/(mol^0.5 s)| K|",
+        row_of(k),
+    );
 }
 
 // Writes the range at a place, with its unit.
@@ -69,7 +71,7 @@ pub fn range(fd: i32, k: usize) {
         say(fd, b"any number of s");
         return;
     }
-    if k >= 30 {
+    if k >= NONE {
         return;
     }
     if k == 1 {
@@ -96,7 +98,7 @@ fn say_what(fault: u64, place: usize, program: &[u8]) {
     );
     entry(
         ERR,
-        b"||||||||a cell file has at most 4,095 bytes|not given, and a cell file gives both sheets whole|",
+        b"||||||||a cell file has at most 4,095 bytes|not given, and a cell file gives each number of both sheets but t_ref|",
         fault as usize,
     );
     if fault == UNKNOWN_NAME {
@@ -125,7 +127,7 @@ pub fn in_file(st: Settings, path: &[u8], program: &[u8]) {
         io::print_decimal(ERR, st.line);
     }
     say(ERR, b": ");
-    if st.place < 30 {
+    if st.place < NONE {
         name(ERR, st.place);
         say(ERR, b": ");
     }
@@ -133,7 +135,7 @@ pub fn in_file(st: Settings, path: &[u8], program: &[u8]) {
     if st.fault == GIVEN_TWICE {
         let k = st.place;
         let given = st.given;
-        if k < 30 {
+        if k < NONE {
             say(ERR, b", first in line ");
             io::print_decimal(ERR, given[k]);
         }
@@ -142,11 +144,11 @@ pub fn in_file(st: Settings, path: &[u8], program: &[u8]) {
 }
 
 // A row of the list of names: the name, a value, its unit and its range.
-pub fn write_name(v: &[f64; 30], k: usize) {
+pub fn write_name(v: &[f64; NONE], k: usize) {
     say(OUT, b"    ");
     name(OUT, k);
     say(OUT, b" = ");
-    if k < 30 {
+    if k < NONE {
         number(OUT, v[k]);
     }
     unit(OUT, k);
@@ -161,13 +163,13 @@ pub fn write_name(v: &[f64; 30], k: usize) {
 // Writes the list of names with what each is for nmc, without those that a load file stands for where there is one, and what a cell file is.
 pub fn write_names(load: bool) {
     let v = ready(ElectrodeParams::nmc_cathode());
-    for k in 0..30 {
+    for k in 0..NONE {
         if !(load & in_load(k)) {
             write_name(&v, k);
         }
     }
     say(
         OUT,
-        b"\nA cell file has a line NAME = VALUE for each number of both sheets, and for any other that it sets; '#' begins a remark.\n",
+        b"\nA cell file has a line NAME = VALUE for each number of both sheets, and for any other that it sets; a t_ref without a line is 298.15 K; '#' begins a remark.\n",
     );
 }

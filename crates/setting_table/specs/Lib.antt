@@ -1,4 +1,4 @@
--- The thirty numbers that a run is set by.
+-- The thirty-two numbers that a run is set by.
 --
 -- Names: the names, and the place of one.
 -- Ranges: the range of each number.

@@ -1,13 +1,14 @@
 -- The range of each number: both ends are in it. Definitions only.
-use Prim.Native.Nat.{ℕ, _-_}
-use mathlib.Core.Bool.{Bool, cond, _&&_, _||_}
+use Prim.Native.Nat.{ℕ}
+use mathlib.Core.Bool.{Bool, _&&_, _||_}
 use mathlib.Core.List.{List, [], _∷_}
-use lib.Dec.{ltb, eqb}
+use lib.Dec.{eqb}
 use lib.Ieee.{Float, le, neg, nan, eq}
 use lib.ListN.{getD}
 use Rattle.binary64.specs.Operators.{f64, count}
 use Rattle.binary64.specs.Literals.{«0·0», «5e-324», «1e-20», «1e-16», «1e-8», «1e-7», «1e-6», «0·001», «0·01», «1·0», «3·0», «8·0», «9·0», «10·0», «64·0», «200·0», «400·0», «10000·0», «86400·0», «90000·0», «100000·0», «131072·0», «1e6»}
 use Rattle.min_max.specs.Count.{ceilOf}
+use Rattle.setting_table.specs.Names.{anode, cathode, rowOf}
 
 -- an interval is above 0: the least number above it is its low end; the time limit is any number, so its ends are the largest ones
 unfoldable pub lowEnds : List Float
@@ -33,6 +34,7 @@ lowEnds =
     «1e-6» ∷  -- area 1e-6
     «0·0» ∷  -- e_a_ds 0
     «1e-16» ∷  -- k_bv 1e-16
+    «200·0» ∷  -- t_ref 200
     [])
 
 unfoldable pub highEnds : List Float
@@ -58,11 +60,8 @@ highEnds =
     «10000·0» ∷  -- area 1e4
     «100000·0» ∷  -- e_a_ds 1e5
     «1·0» ∷  -- k_bv 1
+    «400·0» ∷  -- t_ref 400
     [])
-
--- both sheets have the same ranges
-abbrev pub rowOf : ℕ → ℕ
-rowOf k = cond (ltb k 20) k (k - 10)
 
 unfoldable pub lowOf : ℕ → Float
 lowOf k = getD lowEnds (rowOf k) nan
@@ -76,7 +75,7 @@ inPlace k x = le (lowOf k) x && le x (highOf k)
 
 -- n_nodes and both chemistries are whole numbers
 abbrev pub isCount : ℕ → Bool
-isCount k = eqb k 4 || eqb k 10 || eqb k 20
+isCount k = eqb k 4 || eqb k anode || eqb k cathode
 
 unfoldable pub isWhole : Float → Bool
 isWhole x = eq (count (ceilOf x)) x

@@ -1,19 +1,15 @@
-// The ranges of the thirty numbers that a run is set by: one table for testing a number and for saying its range.
+// The ranges of the numbers that a run is set by: one table for testing a number and for saying its range.
+use crate::names::ANODE;
+use crate::names::CATHODE;
+use crate::names::row_of;
 ghost use mathlib.Core.Path.{_≡_};
 ghost use Prim.Native.Nat.{_<_};
-ghost use Rattle.setting_table.specs.Ranges.{rowOf, lowOf, highOf, inPlace, isCount, isWhole};
-
-// The row of a place: both sheets have the same ranges.
-fn row_of(k: usize) -> usize
-    requires { ⌜ k < 30 ⌝ }
-    ensures { λ r. ⌜ (r ≡ rowOf k) × (r < 20) ⌝ }
-{
-    if k < 20 { k } else { k - 10 }
-}
+ghost use Rattle.setting_table.specs.Names.{none};
+ghost use Rattle.setting_table.specs.Ranges.{lowOf, highOf, inPlace, isCount, isWhole};
 
 // The low end of a number's range.
 pub fn low(k: usize) -> f64
-    requires { ⌜ k < 30 ⌝ }
+    requires { ⌜ k < none ⌝ }
     ensures { λ r. ⌜ r ≡ lowOf k ⌝ }
 {
     let ends = [
@@ -37,6 +33,7 @@ pub fn low(k: usize) -> f64
         1e-6,
         0.0,
         1e-16,
+        200.0,
     ];
     let row = row_of(k);
     ends[row]
@@ -44,7 +41,7 @@ pub fn low(k: usize) -> f64
 
 // The high end.
 pub fn high(k: usize) -> f64
-    requires { ⌜ k < 30 ⌝ }
+    requires { ⌜ k < none ⌝ }
     ensures { λ r. ⌜ r ≡ highOf k ⌝ }
 {
     let ends = [
@@ -68,6 +65,7 @@ pub fn high(k: usize) -> f64
         1e4,
         1e5,
         1.0,
+        400.0,
     ];
     let row = row_of(k);
     ends[row]
@@ -75,7 +73,7 @@ pub fn high(k: usize) -> f64
 
 // Whether a number is in the range of its place.
 pub fn in_range(k: usize, x: f64) -> bool
-    requires { ⌜ k < 30 ⌝ }
+    requires { ⌜ k < none ⌝ }
     ensures { λ r. ⌜ r ≡ inPlace k x ⌝ }
 {
     (low(k) <= x) & (x <= high(k))
@@ -85,7 +83,7 @@ pub fn in_range(k: usize, x: f64) -> bool
 pub fn is_count(k: usize) -> bool
     ensures { λ r. ⌜ r ≡ isCount k ⌝ }
 {
-    (k == 4) | (k == 10) | (k == 20)
+    (k == 4) | (k == ANODE) | (k == CATHODE)
 }
 
 pub fn is_whole(x: f64) -> bool

@@ -4,15 +4,15 @@ use mathlib.Core.Path.{_≡_, refl}
 use native.Mathlib.Omega.{arith}
 use native.Mathlib.Numerals.{add-one}
 use borrow.Author.Needs.{needs}
-use Rattle.cell_file.specs.Settings.{missingBy}
+use Rattle.cell_file.specs.Settings.{inSheets, missingBy}
 use Rattle.cell_file.proofs.missing.Statement.{statement}
 use Rattle.cell_file.proofs.missing.Tie as tie
 
 abbrev Inv-loop : tie.InvT-loop
-Inv-loop given found₀ k₀ found k = (k ≤ 20) × (found ≡ missingBy k given)
+Inv-loop given found₀ k₀ found k = (k ≤ inSheets) × (found ≡ missingBy k given)
 
 abbrev μ-loop : tie.MeasureT-loop
-μ-loop given found₀ k₀ found k = 20 - k
+μ-loop given found₀ k₀ found k = inSheets - k
 
 loop-holds : tie.Need-loop-holds Inv-loop μ-loop
 unfolding missingBy
@@ -20,6 +20,9 @@ loop-holds c = (search needs, refl)
 
 sub-place : tie.Need-sub-place Inv-loop μ-loop
 sub-place c = search needs
+
+row-of-requires : tie.Need-row-of-requires Inv-loop μ-loop
+row-of-requires c κs = search needs
 
 mul-either : tie.Need-mul-either Inv-loop μ-loop
 mul-either c = search needs
@@ -38,10 +41,13 @@ loop-less c = search needs
 
 loop-again : tie.Need-loop-again Inv-loop μ-loop
 unfolding missingBy
-loop-again c = (search needs, rw (add-one (c .before .before .before .loop .k), c .either .ensures, c .before .before .before .loop .inv .1))
+loop-again c =
+    let row-of = c .before .before .row-of in
+    let loop = c .before .before .before .before .loop in
+    (search needs, rw (add-one (loop .k), c .either .ensures, row-of .ensures .0, loop .inv .1))
 
 returns : tie.Need-returns Inv-loop μ-loop
-returns c = let e : c .before .loop .k ≡ 20 = omega arith in rw e at (c .before .loop .inv .1)
+returns c = let e : c .before .loop .k ≡ inSheets = omega arith in rw e at (c .before .loop .inv .1)
 
 pub missing-spec : {M : Type 1} → statement M
 missing-spec =
@@ -51,6 +57,7 @@ missing-spec =
     μ-loop
     loop-holds
     sub-place
+    row-of-requires
     mul-either
     element-copy-out-either
     either-requires

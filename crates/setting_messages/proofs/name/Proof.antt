@@ -16,6 +16,9 @@ returns c = search needs
 slice-aggregate-entry : tie.Need-slice-aggregate-entry Inv-loop μ-loop
 slice-aggregate-entry c = search needs
 
+part-of-requires : tie.Need-part-of-requires Inv-loop μ-loop
+part-of-requires c κs = search needs
+
 entry-requires : tie.Need-entry-requires Inv-loop μ-loop
 entry-requires c κs = search needs
 
@@ -48,6 +51,7 @@ name-spec =
     μ-loop
     returns
     slice-aggregate-entry
+    part-of-requires
     entry-requires
     loop-holds
     letter-requires

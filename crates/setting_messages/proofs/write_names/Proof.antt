@@ -1,14 +1,15 @@
 -- `setting_messages::write_names` meets its contract. Assumes nothing.
 use Prim.Native.Nat.{_≤_, _-_}
 use borrow.Author.Needs.{needs}
+use Rattle.setting_table.specs.Names.{none}
 use Rattle.setting_messages.proofs.write_names.Statement.{statement}
 use Rattle.setting_messages.proofs.write_names.Tie as tie
 
 abbrev Inv-loop : tie.InvT-loop
-Inv-loop load v k₀ t4 k = k ≤ 30
+Inv-loop load v k₀ t4 k = k ≤ none
 
 abbrev μ-loop : tie.MeasureT-loop
-μ-loop load v k₀ t4 k = 30 - k
+μ-loop load v k₀ t4 k = none - k
 
 nmc-cathode-requires : tie.Need-nmc-cathode-requires Inv-loop μ-loop
 nmc-cathode-requires c κs = search needs

@@ -1,11 +1,11 @@
 -- `setting_table::names::letter` meets its contract. Assumes nothing.
 use borrow.Author.Needs.{needs}
-use Rattle.setting_table.proofs.Places.{letter-is}
+use Rattle.setting_table.specs.Names.{bytesOf, letterOf}
 use Rattle.setting_table.proofs.names.letter.Statement.{statement}
 use Rattle.setting_table.proofs.names.letter.Tie as tie
 
-names-of-requires : tie.Need-names-of-requires
-names-of-requires c κs = search needs
+row-of-requires : tie.Need-row-of-requires
+row-of-requires c κs = search needs
 
 mul-result : tie.Need-mul-result
 mul-result c = search needs
@@ -17,8 +17,9 @@ array-read-result : tie.Need-array-read-result
 array-read-result c = search needs
 
 returns : tie.Need-returns
-returns c = rw (c .names-of .ensures) (letter-is (c .before .args .k) (c .before .args .j))
+unfolding bytesOf letterOf
+returns c = rw (c .row-of .ensures .0)
 
 pub letter-spec : {M : Type 1} → statement M
 letter-spec =
-    tie.close (tie.spec names-of-requires mul-result add-result array-read-result returns)
+    tie.close (tie.spec row-of-requires mul-result add-result array-read-result returns)

@@ -4,29 +4,25 @@ use mathlib.Core.Path.{_≡_, refl}
 use native.Mathlib.Omega.{arith}
 use native.Mathlib.Numerals.{add-one}
 use borrow.Author.Needs.{needs}
-use Rattle.setting_table.specs.Names.{placeBy, shifted}
-use Rattle.setting_table.proofs.Places.{place-turn}
+use Rattle.setting_table.specs.Names.{placeBy}
 use Rattle.setting_table.proofs.names.place_among.Statement.{statement}
 use Rattle.setting_table.proofs.names.place_among.Tie as tie
 
 abbrev Inv-loop : tie.InvT-loop
-Inv-loop sheet base s names found₀ k₀ found k = (k ≤ 10) × (found ≡ shifted base (placeBy k names s))
+Inv-loop base count s found₀ k₀ found k = (k ≤ count) × (found ≡ placeBy k base s)
 
 abbrev μ-loop : tie.MeasureT-loop
-μ-loop sheet base s names found₀ k₀ found k = 10 - k
-
-names-of-requires : tie.Need-names-of-requires Inv-loop μ-loop
-names-of-requires c κs = search needs
+μ-loop base count s found₀ k₀ found k = count - k
 
 loop-holds : tie.Need-loop-holds Inv-loop μ-loop
 unfolding placeBy
 loop-holds c = (search needs, refl)
 
+add-place : tie.Need-add-place Inv-loop μ-loop
+add-place c = search needs
+
 is-named-requires : tie.Need-is-named-requires Inv-loop μ-loop
 is-named-requires c κs = search needs
-
-add-either : tie.Need-add-either Inv-loop μ-loop
-add-either c = search needs
 
 either-requires : tie.Need-either-requires Inv-loop μ-loop
 either-requires c κs = search needs
@@ -38,18 +34,16 @@ loop-less : tie.Need-loop-less Inv-loop μ-loop
 loop-less c = search needs
 
 loop-again : tie.Need-loop-again Inv-loop μ-loop
+unfolding placeBy
 loop-again c =
     let is-named = c .before .is-named in
-    let loop-test = c .before .before .before .loop-test in
-    let loop = c .before .before .before .before .loop in
-    let names-of = c .before .before .before .before .before .names-of in
-    let args = c .before .before .before .before .before .before .before .args in
-    (search needs, rw (add-one, c .either .ensures, is-named .ensures, loop .inv .1) (place-turn (args .base) (names-of .result) (args .s .now) (loop .k) (loop-test .taken)))
+    let loop = c .before .before .before .loop in
+    (search needs, rw (add-one (loop .k), c .either .ensures, is-named .ensures, loop .inv .1))
 
 returns : tie.Need-returns Inv-loop μ-loop
 returns c =
-    let loop = c .before .loop in
-    let e : loop .k ≡ 10 = omega arith in rw (← c .before .before .names-of .ensures) (rw e at (loop .inv .1))
+    let e : c .before .loop .k ≡ c .before .before .before .args .count = omega arith in
+    rw e at (c .before .loop .inv .1)
 
 pub place-among-spec : {M : Type 1} → statement M
 place-among-spec =
@@ -57,10 +51,9 @@ place-among-spec =
     (tie.spec
     Inv-loop
     μ-loop
-    names-of-requires
     loop-holds
+    add-place
     is-named-requires
-    add-either
     either-requires
     add-k
     loop-less

@@ -1,9 +1,9 @@
--- `setting_table::ranges::row_of` meets its contract. Assumes nothing.
+-- `setting_table::names::row_of` meets its contract. Assumes nothing.
 use native.Mathlib.Omega.{arith}
 use borrow.Author.Needs.{needs}
 use borrow.Author.Tests.{lt-ltb, le-ltb}
-use Rattle.setting_table.proofs.ranges.row_of.Statement.{statement}
-use Rattle.setting_table.proofs.ranges.row_of.Tie as tie
+use Rattle.setting_table.proofs.names.row_of.Statement.{statement}
+use Rattle.setting_table.proofs.names.row_of.Tie as tie
 
 sub-result : tie.Need-sub-result
 sub-result c = search needs
