@@ -31,7 +31,7 @@ use Rattle.parameter_images.specs.Images as G
 use Rattle.dfn_images.specs.Images.{cellAt}
 use Rattle.image_builds.specs.Builds.{electrolyteBuilt, dfnMade, newReturn, newAfter}
 use Rattle.image_laws.specs.Accepted.{inputs-pass, accepted-is}
-use Rattle.image_laws.specs.Encodable.{EncodableRow, []ᵉ, _∷ᵉ_, filled-encodable, filled-length, literal, float-encodable, places-encodable}
+use Rattle.image_laws.specs.Encodable.{EncodableRow, []ᵉ, _∷ᵉ_, filled-encodable, filled-length, literal, places-encodable}
 use Rattle.image_laws.specs.Layout.{Holds, holds-alone}
 use Rattle.image_laws.specs.ElectrolyteImages.{electrolyteWords, EncodableElectrolyte, electrolyte-layout}
 use Rattle.image_laws.specs.DfnImages.{EncodableParams, EncodableGrid, EncodableDfn, dfn-layout}

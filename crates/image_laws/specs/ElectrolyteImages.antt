@@ -2,11 +2,11 @@
 use Prim.Native.Nat.{ℕ, _≤_, _<_, _+_, _^_}
 use mathlib.Core.Path.{_≡_, refl, _∙_}
 use mathlib.Core.Logic.{inl}
-use mathlib.Core.List.{List, [], _∷_}
+use mathlib.Core.List.{List}
 use native.Mathlib.Omega.{arith}
 use lib.Dec.{lit≤}
 use lib.ListN.{length, getD}
-use lib.Ieee.{Float, nan}
+use lib.Ieee.{nan}
 use Rattle.codec.specs.Words.{wordAt, putWord, floatAt, putRow}
 use Rattle.electrolyte_parameters.specs.declared.ElectrolyteParams.{ElectrolyteParams}
 use Rattle.electrolyte.specs.declared.ElectrolyteState.{ElectrolyteState}

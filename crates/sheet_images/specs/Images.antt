@@ -1,7 +1,6 @@
 -- The images of a sheet (11 words), a particle (76) and a single-particle cell's configuration (6).
 use Prim.Native.Nat.{ℕ, _+_}
 use mathlib.Core.List.{List, [], _∷_}
-use lib.Ieee.{Float}
 use Rattle.codec.specs.Words.{wordAt, putWord, floatAt, placesAt, putRow}
 use Rattle.electrode.specs.declared.ElectrodeParams.{ElectrodeParams}
 use Rattle.electrode.specs.Numbers.{sheetOf, sheetNumbers}
