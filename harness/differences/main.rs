@@ -159,6 +159,19 @@ fn electrolyte() {
     println!("electrolyte floor: a source of -1e9 for 1 s leaves {:e}", floored.c_e[0]);
 }
 
+/// The ready NMC cell at 298.15 K, by the temperature at which its diffusivities are taken to have been measured.
+fn reference_temperature() {
+    for t_ref in [288.15, 293.15, T, 303.15] {
+        let mut cell = nmc();
+        cell.config.numbers[0] = 3.0;
+        cell.anode.sheet.numbers[9] = t_ref;
+        cell.cathode.sheet.numbers[9] = t_ref;
+        let rows = cell.simulate_discharge(5.0, 10.0, T, 3600.0, 8 * 360).rows;
+        let (d, at_600, end) = (cell.anode.sheet.d_s(T).unwrap(), rows[59][0], rows[rows.len() - 1][6]);
+        println!("reference temperature {t_ref} K: graphite_nmc, 11 nodes, 5 A, 10 s, {T} K: the anode's D {d:.3e}, {at_600:.4} V at 600 s, 3 V at {end} s");
+    }
+}
+
 fn stand_ins() {
     let t: f64 = -7.25;
     println!("stand-ins: exp({t}) is {:016X}", oracle::standins::exp(t).to_bits());
@@ -190,4 +203,5 @@ fn print_differences() {
     stand_ins();
     low_rates::print_grain();
     low_rates::print_rows();
+    reference_temperature();
 }
