@@ -1,7 +1,7 @@
 -- A worked instance of theorems 2 and 3 of calls from C, every premise met. The configuration's image, and the cell that `pj_build` 8 makes of it (graphite_lfp, 11 nodes): the list of
--- `solver_laws/specs/Instance`, 2 s and then 1 s at 3 A, with refused calls and an answer a byte short among them. For the ranking the same cell at 3,600 s, and 4 A. Answers are zeros.
+-- `solver_laws/specs/Instance`, 2 s and then 1 s at 3 A, with refused calls and an answer a byte short among them. For the ranking the same cell at 3,600 s, and 4 A, an answer a byte long among them. Answers are zeros.
 -- Assumes nothing.
-use Prim.Native.Nat.{ℕ, _<_}
+use Prim.Native.Nat.{ℕ, _<_, _+_, _-_}
 use mathlib.Core.Path.{_≡_, refl, ap, _∙_}
 use mathlib.Core.List.{List, [], _∷_}
 use native.Mathlib.Nat.{le-refl}
@@ -44,7 +44,7 @@ zeros-length n = length-replicate {A = ℕ} n 0
 unfoldable pub configImage : List ℕ
 configImage = putConfig (zeros 48) config
 
--- what `pj_build` 8 leaves in an answer of 1,256 zeros
+-- what `pj_build` 8 leaves in an answer of zeros
 unfoldable pub image : List ℕ
 image = B.buildAfter 8 configImage (zeros cellBytes)
 
@@ -59,12 +59,12 @@ step q = record { call = q; answer = zeros cellStepBytes }
 -- refused with 3, refused with 10, accepted, refused with 7, accepted, refused with 3
 abbrev pub calls : List (CCall SD.Call)
 calls =
-    step no-current ∷ record { call = draw three two; answer = zeros 1327 } ∷ step (draw three two) ∷ step too-long ∷ step (draw three one)
+    step no-current ∷ record { call = draw three two; answer = zeros (cellStepBytes - 1) } ∷ step (draw three two) ∷ step too-long ∷ step (draw three one)
     ∷ step no-current ∷ []
 
 -- accepted, refused with 3, refused with 7, refused with 10, accepted
 abbrev pub strongerCalls : List (CCall SD.Call)
-strongerCalls = step (draw four two) ∷ step no-current ∷ step too-long ∷ record { call = draw four one; answer = zeros 1329 } ∷ step (draw four one) ∷ []
+strongerCalls = step (draw four two) ∷ step no-current ∷ step too-long ∷ record { call = draw four one; answer = zeros (cellStepBytes + 1) } ∷ step (draw four one) ∷ []
 
 -- ---- the build is accepted, and its cell is the one that `graphite_lfp` gives
 config-encodable : EncodableConfig config

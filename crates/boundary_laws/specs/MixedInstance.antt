@@ -1,6 +1,6 @@
 -- A worked instance of theorem 2 of a list that mixes builds, steps, runs and replays, every premise met: from an image of zeros, a build with an answer a byte short, a build of graphite_lfp,
 -- the steps of `Instance`, and among them a run without room for a row and a replay of a text without a line. Assumes nothing.
-use Prim.Native.Nat.{ℕ, _<_}
+use Prim.Native.Nat.{ℕ, _<_, _-_}
 use mathlib.Core.Path.{_≡_, ap, _∙_}
 use mathlib.Core.List.{List, [], _∷_}
 use mathlib.Core.Logic.{inl, inr}
@@ -47,7 +47,7 @@ step q = record { call = inr (inl q); answer = zeros cellStepBytes }
 
 abbrev pub mixedCalls : List (CCall CellCall)
 mixedCalls =
-    record { call = inl graphiteLfp; answer = zeros 1255 } ∷ record { call = inl graphiteLfp; answer = zeros cellBytes } ∷ step no-current ∷ step (draw three two)
+    record { call = inl graphiteLfp; answer = zeros (cellBytes - 1) } ∷ record { call = inl graphiteLfp; answer = zeros cellBytes } ∷ step no-current ∷ step (draw three two)
     ∷ record { call = inr (inr (inl noRoom)); answer = zeros cellRunBytes } ∷ step too-long ∷ record { call = inr (inr (inr noLines)); answer = zeros cellRunBytes } ∷ step (draw three one)
     ∷ step no-current ∷ []
 

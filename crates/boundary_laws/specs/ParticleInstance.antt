@@ -1,6 +1,6 @@
 -- A worked instance of theorem 1 of calls from C, every premise met: the ready graphite sheet and 11 nodes, the particle that `pj_build` 7 makes of them, and a
 -- list of `pj_particle_step`, two calls that are refused and one with an answer a byte short among three that are accepted. Answers are zeros. Assumes nothing.
-use Prim.Native.Nat.{ℕ, _<_}
+use Prim.Native.Nat.{ℕ, _<_, _-_}
 use mathlib.Core.Path.{_≡_, refl, ap, _∙_, subst}
 use mathlib.Core.List.{List, [], _∷_}
 use native.Mathlib.Nat.{le-refl}
@@ -46,7 +46,7 @@ particleImage = B.buildAfter 7 sheetImage (zeros particleBytes)
 -- the calls: accepted, refused with 3, refused with 10, accepted, refused with 4, accepted
 abbrev pub particleCallList : List (CCall PD.Call)
 particleCallList =
-    record { call = draw; answer = zeros particleBytes } ∷ record { call = no-flux; answer = zeros particleBytes } ∷ record { call = draw; answer = zeros 607 }
+    record { call = draw; answer = zeros particleBytes } ∷ record { call = no-flux; answer = zeros particleBytes } ∷ record { call = draw; answer = zeros (particleBytes - 1) }
     ∷ record { call = draw; answer = zeros particleBytes } ∷ record { call = no-time; answer = zeros particleBytes } ∷ record { call = draw; answer = zeros particleBytes } ∷ []
 
 -- ---- the build is accepted, and its particle is the one that `new` gives

@@ -1,4 +1,4 @@
--- The image of a single-particle cell (157 words), and what a step adds to it.
+-- The image of a single-particle cell (159 words), and what a step adds to it.
 use Prim.Native.Nat.{ℕ}
 use mathlib.Core.Bool.{cond}
 use mathlib.Core.List.{List, [], _∷_}

@@ -26,7 +26,7 @@ ghost use mathlib.Core.Path.{_≡_};
 ghost use Rattle.solver.specs.Parts.{partsOf};
 ghost use Rattle.cell_images.specs.Images.{cellAt, putCell, putReport};
 
-// The cell in the first 157 words, without its profiles.
+// The cell in the first 159 words, without its profiles.
 pub fn parts_at(s: &[u8]) -> SpmParts
     ensures { λ r. ⌜ r ≡ partsOf (cellAt (now (s .entry))) ⌝ }
 {
@@ -43,7 +43,7 @@ pub fn parts_at(s: &[u8]) -> SpmParts
     }
 }
 
-// The cell in the first 157 words.
+// The cell in the first 159 words.
 pub fn cell_at(s: &[u8]) -> SpmSolver
     ensures { λ r. ⌜ r ≡ cellAt (now (s .entry)) ⌝ }
 {
