@@ -16,6 +16,7 @@ mod references;
 mod shrink;
 mod tally;
 mod texts;
+mod weights;
 
 use call::{ask_oracle, ask_port, Call, Function};
 use cases::Case;

@@ -3,6 +3,7 @@ use crate::call::{listed, Answer, Call, Function};
 use crate::earlier::Earlier;
 use crate::images::words_of;
 use crate::references::References;
+use crate::weights::Weights;
 use calls::replay::MOST_LINES;
 use calls::runs::Ending;
 use std::collections::{BTreeMap, BTreeSet};
@@ -32,6 +33,7 @@ pub struct Tally {
     unexpected: BTreeSet<String>,
     earlier: Earlier,
     references: References,
+    weights: Weights,
 }
 
 const ENDINGS: [(Function, &str); 13] = [
@@ -64,6 +66,7 @@ impl Tally {
         }
         self.earlier.add(call, oracle);
         self.references.add(call, oracle);
+        self.weights.add(call, oracle);
         self.calls += 1;
         self.kept_bytes += kept_bytes;
         let words = oracle.image.as_deref().map(words_of).unwrap_or_default();
@@ -124,6 +127,7 @@ impl Tally {
         self.unexpected.extend(other.unexpected);
         self.earlier.join(other.earlier);
         self.references.join(other.references);
+        self.weights.join(other.weights);
     }
 
     /// The table, and what is missing for a comparison that has seen everything.
@@ -166,6 +170,7 @@ impl Tally {
                 missing.push(format!("{what}: not all were seen"));
             }
         }
+        missing.extend(self.weights.print());
         println!();
         missing.extend(self.earlier.print());
         println!();

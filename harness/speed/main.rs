@@ -1,4 +1,5 @@
-//! Times of oracle, port and published Rust on the same inputs, as a table in markdown.
+//! Times of oracle, port and published Rust on the same inputs, as two tables in markdown: of what computes, and of a
+//! particle's averages, by themselves a few operations beside the reading and checking of an image.
 //!
 //!     speed [ROUNDS]
 //!
@@ -42,6 +43,13 @@ impl Load {
             -self.current_a
         }
     }
+}
+
+/// A particle's average, with its number in harness/c/persimmonjib.h.
+#[derive(Clone, Copy)]
+pub enum Average {
+    Theta = 8,
+    Concentration = 9,
 }
 
 pub struct System {
@@ -211,6 +219,35 @@ fn cases<'a>(systems: &'a [System; 2], text: &'a [u8]) -> Vec<Case<'a>> {
     all
 }
 
+fn averages() -> Vec<Case<'static>> {
+    let load = Load { current_a: 3.0, dt: 10.0, temp_k: REFERENCE };
+    let mut all = Vec::new();
+    for n in [11, 64] {
+        for (name, average) in [("c_avg", Average::Concentration), ("theta_avg", Average::Theta)] {
+            all.push(Case {
+                name: format!("{name}, n = {n}"),
+                sides: [
+                    Box::new(move |times| oracle_side::averages(average, n, load, times)),
+                    Box::new(move |times| port_side::averages(average, n, load, times)),
+                    Box::new(move |times| published_side::averages(average, n, load, times)),
+                ],
+                units: 1.0,
+                once: false,
+            });
+        }
+    }
+    all
+}
+
+fn print_table(cases: &[Case], rounds: usize) {
+    println!("| what, in ns | oracle | port | oracle / port | quartiles of the ratio | published Rust | published / port |");
+    println!("|---|---|---|---|---|---|---|");
+    for case in cases {
+        println!("{}", row(case, rounds));
+    }
+    println!();
+}
+
 fn main() {
     let rounds = match std::env::args().nth(1).map(|given| given.parse::<usize>()) {
         None => ROUNDS,
@@ -220,13 +257,9 @@ fn main() {
             std::process::exit(2);
         }
     };
-    println!("| what, in ns | oracle | port | oracle / port | quartiles of the ratio | published Rust | published / port |");
-    println!("|---|---|---|---|---|---|---|");
     let systems = [System::of_order(8), System::of_order(32)];
     let text = text_of(Load { current_a: 3.0, dt: 1.0, temp_k: REFERENCE }, 300);
-    for case in cases(&systems, &text) {
-        println!("{}", row(&case, rounds));
-    }
-    println!();
+    print_table(&cases(&systems, &text), rounds);
+    print_table(&averages(), rounds);
     println!("Medians of {rounds} rounds.");
 }

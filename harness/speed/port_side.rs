@@ -1,10 +1,12 @@
 //! What is timed of the port: images in, images out, as firmware calls it.
-use crate::{clock, Answer, Load, System};
+use crate::{clock, Answer, Average, Load, System};
 use std::hint::black_box;
 use std::time::Duration;
 
 // lengths of harness/c/persimmonjib.h, in bytes
 const CELL: usize = 1272;
+const PARTICLE: usize = 608;
+const AT_CELL_ANODE: usize = 48;
 const REPORT: usize = 72;
 const DFN_CELL: usize = 9008;
 const DFN_REPORT: usize = 64;
@@ -59,6 +61,19 @@ pub fn cell_steps(n_nodes: usize, load: Load, times: usize) -> (Duration, Answer
     });
     // voltage, clock, the cathode's first place
     (taken, vec![word(&last, CELL / 8), word(&last, CELL / 8 - 1), word(&last, 94)], word(&last, CELL / 8 + 8))
+}
+
+/// An average of the anode after one step.
+pub fn averages(average: Average, n_nodes: usize, load: Load, times: usize) -> (Duration, Answer) {
+    let mut stepped = vec![0; CELL + REPORT];
+    accepted(port::cell_step(&spm(n_nodes), [load.current_a, load.dt, load.temp_k], &mut stepped));
+    let anode = &stepped[AT_CELL_ANODE..AT_CELL_ANODE + PARTICLE];
+    let mut answer = [0; 8];
+    let started = clock::now();
+    for _ in 0..times {
+        accepted(port::number(average as u64, black_box(anode), [0.0, 0.0], black_box(&mut answer)));
+    }
+    (clock::now() - started, vec![word(&answer, 0)])
 }
 
 pub fn dfn_steps(counts: [usize; 3], load: Load, times: usize) -> (Duration, Answer) {

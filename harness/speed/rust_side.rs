@@ -1,5 +1,5 @@
 // What is timed of the Rust; included once for the oracle and once for the published Rust, with `model` as its name.
-use crate::{clock, Answer, Load, System};
+use crate::{clock, Answer, Average, Load, System};
 use model::dfn::{access, DfnConfig, DfnParams, DfnSolver};
 use model::solver::{SpmConfig, SpmSolver};
 use std::hint::black_box;
@@ -46,6 +46,22 @@ pub fn replays(n_nodes: usize, text: &[u8], temp_k: f64, times: usize) -> (Durat
     let taken = clock::now() - started;
     let last = states.last().expect("rows");
     (taken, vec![states.len() as u64, last.voltage.to_bits(), last.theta_pos_avg.to_bits()])
+}
+
+/// An average of the anode after one step.
+pub fn averages(average: Average, n_nodes: usize, load: Load, times: usize) -> (Duration, Answer) {
+    let mut solver = spm(n_nodes);
+    solver.step(load.current_a, load.dt, load.temp_k);
+    let mut last = 0.0;
+    let started = clock::now();
+    for _ in 0..times {
+        let anode = black_box(&solver.anode);
+        last = black_box(match average {
+            Average::Theta => anode.theta_avg(),
+            Average::Concentration => anode.c_avg(),
+        });
+    }
+    (clock::now() - started, vec![last.to_bits()])
 }
 
 fn dfn([n_x_neg, n_x_pos, n_r]: [usize; 3]) -> DfnSolver {

@@ -1,2 +1,1 @@
-pub mod FloatTable
 pub mod InPlace

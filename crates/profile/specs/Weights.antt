@@ -1,21 +1,14 @@
 -- The weights of the average over a particle's volume, and its two sums: for odd n Simpson's rule, for even n not. Definitions only.
-use Prim.Native.Nat.{ℕ, zero, suc, _-_, _%_, _<_}
-use mathlib.Core.Path.{_≡_}
-use mathlib.Core.List.{List}
+use Prim.Native.Nat.{ℕ, zero, suc, _-_, _%_}
 use mathlib.Core.Bool.{cond, _||_}
 use lib.Dec.{eqb}
 use lib.Ieee.{Float}
 use Rattle.binary64.specs.Operators.{_⊕_, _⊗_, f64, count}
 use Rattle.binary64.specs.Literals.{«0·0», «1·0»}
-use Rattle.arrays.specs.Places.{at}
 
 -- the weight of an inner place: 2 at an even one, 4 at an odd one
 unfoldable pub innerWeight : ℕ → Float
 innerWeight i = f64 (cond (eqb (i % 2) 0) 0x4000_0000_0000_0000 0x4010_0000_0000_0000)
-
--- a table of the weights of all inner places
-abbrev pub AreInnerWeights : List Float → Type 0
-AreInnerWeights l = (i : ℕ) → i < 64 → at l i ≡ innerWeight i
 
 -- 1 at both ends
 unfoldable pub weight : ℕ → ℕ → Float

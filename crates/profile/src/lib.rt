@@ -7,7 +7,7 @@ ghost use mathlib.Core.Path.{_≡_};
 ghost use Prim.Native.Nat.{_≤_, _<_};
 ghost use Rattle.arrays.specs.Places.{filled};
 ghost use Rattle.profile.specs.Places.{profileFits, finiteProfile};
-ghost use Rattle.profile.specs.Weights.{weight, AreInnerWeights};
+ghost use Rattle.profile.specs.Weights.{weight};
 ghost use Rattle.profile.specs.Sums.{addedBy, sumsAfter};
 
 // Whether the first n places are in 0 to c_max and the others +0.
@@ -34,99 +34,24 @@ pub fn uniform(x: f64, n: usize) -> [f64; 64]
     c_s
 }
 
-// The weights of the inner places: 2 at an even one, 4 at an odd one.
-const WEIGHTS: [f64; 64] = [
-    2.0,
-    4.0,
-    2.0,
-    4.0,
-    2.0,
-    4.0,
-    2.0,
-    4.0,
-    2.0,
-    4.0,
-    2.0,
-    4.0,
-    2.0,
-    4.0,
-    2.0,
-    4.0,
-    2.0,
-    4.0,
-    2.0,
-    4.0,
-    2.0,
-    4.0,
-    2.0,
-    4.0,
-    2.0,
-    4.0,
-    2.0,
-    4.0,
-    2.0,
-    4.0,
-    2.0,
-    4.0,
-    2.0,
-    4.0,
-    2.0,
-    4.0,
-    2.0,
-    4.0,
-    2.0,
-    4.0,
-    2.0,
-    4.0,
-    2.0,
-    4.0,
-    2.0,
-    4.0,
-    2.0,
-    4.0,
-    2.0,
-    4.0,
-    2.0,
-    4.0,
-    2.0,
-    4.0,
-    2.0,
-    4.0,
-    2.0,
-    4.0,
-    2.0,
-    4.0,
-    2.0,
-    4.0,
-    2.0,
-    4.0,
-];
-
 // The sums over the places so far: of the shares of the volume, and of these with the concentrations.
 pub struct Sums {
     pub shares: f64,
     pub content: f64,
 }
 
-// The table, made once for all places.
-fn inner_weights() -> [f64; 64]
-    ensures { λ r. ⌜ AreInnerWeights r ⌝ }
-{
-    WEIGHTS
-}
-
-// The weight of the place i of n: 1 at both ends.
-fn weight(table: &[f64; 64], n: usize, i: usize) -> f64
-    requires { ⌜ (1 ≤ n) × ((i < 64) × AreInnerWeights (now table)) ⌝ }
+// The weight of the place i of n: 1 at both ends, between them 2 at even places and 4 at odd ones.
+fn weight(n: usize, i: usize) -> f64
+    requires { ⌜ 1 ≤ n ⌝ }
     ensures { λ r. ⌜ r ≡ weight n i ⌝ }
 {
-    if i == 0 {
+    if (i == 0) | (i == n - 1) {
         return 1.0;
     }
-    if i == n - 1 {
-        return 1.0;
+    if i % 2 == 0 {
+        return 2.0;
     }
-    table[i]
+    4.0
 }
 
 // The sums with the place i of the weight w added.
@@ -147,13 +72,12 @@ pub fn sums_of(c: &[f64; 64], n: usize, dr: f64) -> Sums
     requires { ⌜ (1 ≤ n) × (n ≤ 64) ⌝ }
     ensures { λ r. ⌜ r ≡ sumsAfter (now (c .entry)) n dr n ⌝ }
 {
-    let table = inner_weights();
     let mut s = Sums {
         shares: 0.0,
         content: 0.0,
     };
     for i in 0..n {
-        s = added(s, weight(&table, n, i), dr, i, c[i]);
+        s = added(s, weight(n, i), dr, i, c[i]);
     }
     s
 }

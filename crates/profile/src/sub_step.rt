@@ -38,12 +38,12 @@ pub fn prepare(n: usize, dr: f64, d_s: f64, c_max: f64, j_n: f64, dt: f64) -> Su
     }
 }
 
-// A count as a binary64, which holds it exactly.
+// A count as a binary64, which holds it exactly; from 32 bits the machine converts it by one instruction, from 64 unsigned ones it does not.
 pub fn count_f64(n: usize) -> f64
     requires { ⌜ n ≤ 64 ⌝ }
     ensures { λ r. ⌜ r ≡ count n ⌝ }
 {
-    n as f64
+    n as u32 as f64
 }
 
 // 2 / r for the radius r of each node but the centre's.

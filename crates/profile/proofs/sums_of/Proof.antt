@@ -9,20 +9,17 @@ use Rattle.profile.proofs.sums_of.Statement.{statement}
 use Rattle.profile.proofs.sums_of.Tie as tie
 
 abbrev Inv-loop : tie.InvT-loop
-Inv-loop c n dr table s₀ i₀ s i = (i ≤ n) × (s ≡ sumsAfter c n dr i)
+Inv-loop c n dr s₀ i₀ s i = (i ≤ n) × (s ≡ sumsAfter c n dr i)
 
 abbrev μ-loop : tie.MeasureT-loop
-μ-loop c n dr table s₀ i₀ s i = n - i
-
-inner-weights-requires : tie.Need-inner-weights-requires Inv-loop μ-loop
-inner-weights-requires c κs = search needs
+μ-loop c n dr s₀ i₀ s i = n - i
 
 loop-holds : tie.Need-loop-holds Inv-loop μ-loop
 unfolding sumsAfter
 loop-holds c = (search needs, refl)
 
 weight-requires : tie.Need-weight-requires Inv-loop μ-loop
-weight-requires c κs = (search needs, (search needs, c .before .before .before .inner-weights .ensures))
+weight-requires c κs = search needs
 
 mul-added : tie.Need-mul-added Inv-loop μ-loop
 mul-added c = search needs
@@ -41,10 +38,10 @@ loop-less c = search needs
 
 loop-again : tie.Need-loop-again Inv-loop μ-loop
 unfolding sumsAfter
-loop-again c = (search needs, rw (add-one, c .added .ensures, c .before .before .weight .ensures, c .before .before .before .before .before .loop .inv .1))
+loop-again c = (search needs, rw (add-one, c .added .ensures, c .before .before .weight .ensures, c .before .before .before .before .loop .inv .1))
 
 returns : tie.Need-returns Inv-loop μ-loop
-returns c = let e : c .before .loop .i ≡ c .before .before .before .args .n = omega arith in
+returns c = let e : c .before .loop .i ≡ c .before .before .args .n = omega arith in
     rw e at (c .before .loop .inv .1)
 
 pub sums-of-spec : {M : Type 1} → statement M
@@ -53,7 +50,6 @@ sums-of-spec =
     (tie.spec
     Inv-loop
     μ-loop
-    inner-weights-requires
     loop-holds
     weight-requires
     mul-added
