@@ -402,8 +402,9 @@ uint64_t pj_particle_step(const uint8_t *particle, size_t particle_len, double j
  * - a full or empty particle is clamped and charge is lost without a word. Once theta_neg or theta_pos of a report is 0 or 1 its
  *   averages, its state of charge and all that follows are no longer the cell's, and the voltage may stay above v_min for ever;
  * - with an LFP cathode the voltage rises during most of a discharge, since the curve of the Rust rises with lithium;
- * - a graphite anode below about 0.1 makes the voltage of any cell rise a little before it falls;
- * - on charge the ohmic drop lowers the voltage, where it should raise it: v_max is met late by 2 |i| R. */
+ * - a graphite anode below about 0.1 makes the voltage of any cell rise a little before it falls.
+ * The drop in the electrolyte, current_a / area * r_electrolyte_ohm_m2, is subtracted with its sign: it lowers the voltage on
+ * discharge and raises it on charge. (Rows of a charge from an earlier release, in which it lowered both, are too low by twice that.) */
 uint64_t pj_cell_step(const uint8_t *cell, size_t cell_len, double current_a, double dt, double temp_k,
                       uint8_t *answer, size_t answer_len);
 

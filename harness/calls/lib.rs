@@ -6,6 +6,7 @@
 
 pub mod dense;
 pub mod dfn;
+pub mod earlier;
 pub mod electrode;
 pub mod electrolyte;
 pub mod particle;

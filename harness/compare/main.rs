@@ -11,6 +11,7 @@ mod cases;
 mod draw;
 mod earlier;
 mod images;
+mod ohmic_drop;
 mod records;
 mod references;
 mod shrink;

@@ -2,6 +2,7 @@
 use crate::call::{listed, Answer, Call, Function};
 use crate::earlier::Earlier;
 use crate::images::words_of;
+use crate::ohmic_drop::OhmicDrop;
 use crate::references::References;
 use crate::weights::Weights;
 use calls::replay::MOST_LINES;
@@ -34,6 +35,7 @@ pub struct Tally {
     earlier: Earlier,
     references: References,
     weights: Weights,
+    ohmic_drop: OhmicDrop,
 }
 
 const ENDINGS: [(Function, &str); 13] = [
@@ -67,6 +69,7 @@ impl Tally {
         self.earlier.add(call, oracle);
         self.references.add(call, oracle);
         self.weights.add(call, oracle);
+        self.ohmic_drop.add(call, oracle);
         self.calls += 1;
         self.kept_bytes += kept_bytes;
         let words = oracle.image.as_deref().map(words_of).unwrap_or_default();
@@ -128,6 +131,7 @@ impl Tally {
         self.earlier.join(other.earlier);
         self.references.join(other.references);
         self.weights.join(other.weights);
+        self.ohmic_drop.join(other.ohmic_drop);
     }
 
     /// The table, and what is missing for a comparison that has seen everything.
@@ -175,6 +179,8 @@ impl Tally {
         missing.extend(self.earlier.print());
         println!();
         missing.extend(self.references.print());
+        println!();
+        missing.extend(self.ohmic_drop.print());
         println!();
         println!("rows of the longest replay: {} of {MOST_LINES}", self.longest_replay);
         if self.longest_replay != MOST_LINES as u64 {

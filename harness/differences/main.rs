@@ -1,5 +1,7 @@
 //! Prints, for each entry of docs/DIFFERENCES.md, what the oracle gives for the input that shows it, beside what the source
-//! of the model or the plain formula would give; with the argument `low_rates` the curve of the overpotential at tiny currents.
+//! of the model or the plain formula would give; with the argument `low_rates` the curve of the overpotential at tiny currents,
+//! with `charge` that of a charge.
+mod charge;
 mod low_rates;
 
 use calls::dfn;
@@ -26,14 +28,6 @@ fn anode_curve() {
     let published = 0.7222 + 0.1387 * x + 0.029 * x.sqrt() - 0.0172 / x + 0.0019 / x.powf(1.5) + 0.2808 * (0.90 - 15.0 * x).exp()
         - 0.7984 * (0.4465 * x - 0.4108).exp();
     println!("anode curve: graphite at theta 0.01: {rust:.4} V, with exp(0.90 - 15 theta) {published:.4} V");
-}
-
-fn ohmic_sign() {
-    let cell = spm(11);
-    let (_, charge) = cell.step(-3.0, 1.0, T).unwrap();
-    let v_ohm = -3.0 / 0.0626 * 2e-4;
-    let (got, plain) = (charge.state.voltage, charge.state.voltage - 2.0 * v_ohm);
-    println!("ohmic sign: graphite_lfp, 11 nodes, -3 A, 1 s: {got:.6} V, with a drop that keeps its sign {plain:.6} V");
 }
 
 fn nmc() -> Cell {
@@ -181,8 +175,9 @@ fn main() {
     match std::env::args().nth(1).as_deref() {
         None => print_differences(),
         Some("low_rates") => low_rates::print_curve(),
+        Some("charge") => charge::print_curve(),
         Some(_) => {
-            eprintln!("differences: no argument, or low_rates");
+            eprintln!("differences: no argument, low_rates or charge");
             std::process::exit(2);
         }
     }
@@ -193,7 +188,6 @@ fn print_differences() {
     lfp_curve();
     clamped_run();
     graphite_bump();
-    ohmic_sign();
     even_nodes();
     stability();
     soc_window();
@@ -204,4 +198,6 @@ fn print_differences() {
     low_rates::print_grain();
     low_rates::print_rows();
     reference_temperature();
+    charge::print_step();
+    charge::print_charges();
 }

@@ -17,6 +17,11 @@ pub mod solver {
     include!(concat!(env!("ORACLE_SOURCES"), "/solver.rs"));
 }
 
+/// solver.rs before change request (v): its ohmic drop is multiplied by the current's sign.
+pub mod earlier_solver {
+    include!(concat!(env!("ORACLE_SOURCES"), "/earlier_solver.rs"));
+}
+
 pub mod dfn {
     include!(concat!(env!("ORACLE_SOURCES"), "/dfn.rs"));
 

@@ -3,15 +3,17 @@
 
     make_oracle.py --out FOLDER [--source FOLDER]
 
-Four textual edits, none of which moves a line:
+Five textual edits, none of which moves a line:
   1. the line that uses serde becomes one that uses the stand-ins' trait;
   2. `Serialize, Deserialize` leave the derives;
   3. `.exp(`, `.ln(`, `.powf(`, `.asinh(` and `.powi(` become `.oracle_exp(` and so on, methods of that trait on f64, so that
      receiver, argument and precedence stay;
   4. the reference temperature: both records of electrode.rs and electrolyte.rs gain a last field `t_ref`, which is 298.15 in the
-     four ready records and stands in the three formulas in place of their constant 298.15.
+     four ready records and stands in the three formulas in place of their constant 298.15;
+  5. the ohmic drop: the terminal voltage of solver.rs loses the factor `* current_a.signum()` of v_ohm.
 The diff is printed. A source that is missing or changed, a count of edits other than the expected one, a transcendental
-method or a fixed reference temperature that is left ends the script with one line and status 1, and nothing is written.
+method, a fixed reference temperature or a sign of the current that is left ends the script with one line and status 1, and
+nothing is written. Beside solver.rs stands earlier_solver.rs, without edit 5: what is said of rows before and after it is asked of both.
 """
 import argparse
 import difflib
@@ -46,9 +48,14 @@ REFERENCE = {
     "t_ref formulas": (r"(        self\.\w+ \* \(self\.\w+ / R_GAS \* \(1\.0 / )T_REF( - 1\.0 / temp_k\)\)\.exp\(\))", r"\1self.t_ref\2"),
 }
 FIXED = re.compile(r"T_REF|(?<!t_ref: )298\.15")
+WITH_DROP, EARLIER = "solver.rs", "earlier_solver.rs"
+# edit 5: the whole line, and what stands in its place
+VOLTAGE_BY_SIGNUM = "        let voltage = (u_pos + eta_pos) - (u_neg + eta_neg) - v_ohm * current_a.signum();"
+VOLTAGE = "        let voltage = (u_pos + eta_pos) - (u_neg + eta_neg) - v_ohm;"
 EXPECTED = {
     "method calls": 28, "use lines": 4, "derives": 10,
     "t_ref fields": 2, "t_ref ready values": 4, "t_ref constants": 3, "t_ref formulas": 3,
+    "signum factors": 1,
 }
 
 
@@ -103,6 +110,12 @@ def edited(name, text, counts):
     return "\n".join(lines)
 
 
+def with_signed_drop(text, counts):
+    lines = text.split("\n")
+    counts["signum factors"] += lines.count(VOLTAGE_BY_SIGNUM)
+    return "\n".join(VOLTAGE if line == VOLTAGE_BY_SIGNUM else line for line in lines)
+
+
 def code_of(line):
     return line.split("//", 1)[0]
 
@@ -113,6 +126,8 @@ def refuse_left(path, name, text):
             refuse(f"{path}:{number}: a method that the stand-ins do not cover is left: {line.strip()}")
         if name in WITH_REFERENCE and FIXED.search(code_of(line)):
             refuse(f"{path}:{number}: a fixed reference temperature is left: {line.strip()}")
+        if name == WITH_DROP and "signum" in code_of(line):
+            refuse(f"{path}:{number}: a sign of the current is left: {line.strip()}")
 
 
 def main():
@@ -131,6 +146,9 @@ def main():
     for path, content in sources.items():
         before, name = content.decode("utf-8"), os.path.basename(path)
         after = edited(name, before, counts)
+        if name == WITH_DROP:
+            results[EARLIER] = after
+            after = with_signed_drop(after, counts)
         refuse_left(path, name, after)
         results[name] = after
         diff += difflib.unified_diff(before.split("\n"), after.split("\n"), path, f"oracle/{name}", lineterm="", n=0)

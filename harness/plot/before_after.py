@@ -3,7 +3,7 @@
 
     harness/plot/before_after.py [--title TEXT] < harness/differences/low_rates.csv > docs/low_rates.svg
 
-The CSV has a line of names with their units, `current [A],before [V],now [V]`, and rows of numbers. Its first column is the axis below, each other one a line in the legend.
+test_before_after.py has the titles of the pictures in docs. The CSV has a line of names with their units, `current [A],before [V],now [V]`, and rows of numbers. Its first column is the axis below, each other one a line in the legend.
 Both axes have their unit with the prefix, such as fA or aV, that keeps their numbers short.
 """
 import argparse

@@ -1,5 +1,5 @@
 #!/usr/bin/env python3
-"""Holds before_after.py to what it must draw, and docs/low_rates.svg to the curve of harness/differences.
+"""Holds before_after.py to what it must draw, and docs/low_rates.svg and docs/charge.svg to the curves of harness/differences.
 
     python3 harness/plot/test_before_after.py
 """
@@ -13,7 +13,10 @@ from test_curve import Drawn
 
 HERE = Path(__file__).resolve().parent
 ROOT = HERE.parent.parent
-TITLE = "Overpotential of both electrodes at tiny currents, before change request (ii) and now"
+TITLES = {
+    "low_rates": "Overpotential of both electrodes at tiny currents, before change request (ii) and now",
+    "charge": "A charge of graphite_nmc at 5 A with 1e-3 Ω·m², before change request (v) and now",
+}
 
 
 def run(given, *arguments):
@@ -46,10 +49,12 @@ class BeforeAfterTest(unittest.TestCase):
                 self.assertEqual((status, svg, len(message.splitlines())), (1, "", 1))
                 self.assertIn(words, message)
 
-    def test_picture_of_low_rates(self):
-        _, svg, _ = run((ROOT / "harness" / "differences" / "low_rates.csv").read_text(), "--title", TITLE)
-        picture = (ROOT / "docs" / "low_rates.svg").read_text()
-        self.assertTrue(svg == picture, "docs/low_rates.svg is not the picture of harness/differences/low_rates.csv")
+    def test_pictures_of_the_differences(self):
+        for name, title in TITLES.items():
+            with self.subTest(name):
+                _, svg, _ = run((ROOT / "harness" / "differences" / f"{name}.csv").read_text(), "--title", title)
+                picture = (ROOT / "docs" / f"{name}.svg").read_text()
+                self.assertTrue(svg == picture, f"docs/{name}.svg is not the picture of harness/differences/{name}.csv")
 
 
 if __name__ == "__main__":

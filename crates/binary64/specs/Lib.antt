@@ -17,14 +17,14 @@
 --   RangeOps    the range of each operation's result from those of its operands: mul- and div-between, add- and sub-alike, -unlike (operands of one sign, of opposite ones),
 --               -over (the first operand is the larger), each -most (bounds from above only); div-count by a whole number
 --   Value       le-val, val-le, lt-val, val-lt: the order of finite floats is that of their values;  val-neg;  int-val: whole numbers up to 2 ^ 53 are held
---   Rounds      add-, sub-, mul-, div-rounds: each operation rounds its exact result;  held: a float that binary64 holds is its own value rounded
+--   Rounds      add-, sub-, mul-, div-rounds: each operation rounds its exact result;  representable: a float that binary64 holds is its own value rounded;  times-one, in Representable: and itself times 1
 --   Error       rounding-error: for any A from 2 ^ -1022 to 2 ^ 1023 with |Q| ≤ A, Q rounded is finite and within A · u of Q, subnormal results included
---   OrderLaws   rounds-le: rounding keeps the order;  stays: it never crosses a float that binary64 holds;  rounds-nonneg, rounds-nonpos;  add-, sub-, mul-, div-le, mul-, div-ge (and neg-le in Order)
+--   OrderLaws   rounds-le: rounding keeps the order;  stays: it never crosses a float that binary64 holds;  rounds-nonneg, rounds-nonpos;  add-, mul-, div-le, sub-, mul-, div-ge (and neg-le in Order)
 --   Bounds      rounds-bounded, bounded-pow, rounds-scaled: rounding keeps bounds that are floats or powers of 2;  scaled- and bounded-mul, -div;
 --               most-bounded, bounded-most, within-scaled join Range and Value
 --   Near        an error bound carried through each operation, one rounding more each time: near-neg, -add, -sub, -mul, -div, -factor (an exact factor that may be tiny), rescale;
 --               chains start from exact, near-own and near-count
--- Sign, Order, Opened, Nearest, Held and Monotone hold what these rest on, over natural numbers: each operation as one call of `round`, and what `round` does.
+-- Sign, Order, Opened, Nearest, Representable and Monotone hold what these rest on, over natural numbers: each operation as one call of `round`, and what `round` does.
 --
 -- How to use it (Examples has these lines in full, Instances closed floats at which the premises hold)
 --   a range     add-over (literal one 1 1 1 1 tt tt tt tt tt) (div-count (mul-most a y 1 32 tt tt) k 1 1 32 l m tt tt tt) 33 32 31 32 tt tt tt tt tt

@@ -15,10 +15,10 @@ use Rattle.fraction.specs.Field.{≈F-refl, ≈F-sym, ≈F-trans, ≤F-of-≈F,
 use Rattle.fraction.specs.Certificate.{quote, ring, le-by, up, _⊞_, _⊠_}
 use Rattle.fraction.specs.Inverse.{inv-nn, inv-anti}
 use Rattle.fraction.specs.Order.{≤F-refl, ≤F-resp, lt-le-trans}
-use Rattle.binary64.specs.Operators.{_⊕_, _⊗_, _⊘_, negative}
+use Rattle.binary64.specs.Operators.{_⊕_, _⊖_, _⊗_, _⊘_, negative}
 use Rattle.binary64.specs.Monotone.{round-below}
 use Rattle.binary64.specs.Order.{between-finite}
-use Rattle.binary64.specs.Rounds.{Rounds, representable, add-rounds, mul-rounds, div-rounds}
+use Rattle.binary64.specs.Rounds.{Rounds, representable, add-rounds, sub-rounds, mul-rounds, div-rounds}
 use Rattle.binary64.specs.Value.{signed, val, val-is, ratio-same, signed-cong, signed→below, le-val}
 
 -- ---- the order
@@ -87,6 +87,10 @@ positive-num y h = not-zero y (positive-finite y h) (λ (e : val y ≈F nat 0). 
 module _ (x x' y y' : Float) (p : T (finite x)) (p' : T (finite x')) (q : T (finite y)) (q' : T (finite y')) where
   pub add-le : T (le x x') → T (le y y') → T (le (x ⊕ y) (x' ⊕ y'))
   add-le h k = rounds-le (add-rounds x y p q) (add-rounds x' y' p' q') (le-by (val x ∷ val x' ∷ val y ∷ val y' ∷ []) 0 (up (le-val x x' p p' h) ⊞ up (le-val y y' q q' k)) (search quote depth 24) tt)
+
+-- the more is taken, the less is left
+pub sub-ge : (x y y' : Float) → T (finite x) → T (finite y) → T (finite y') → T (le y y') → T (le (x ⊖ y') (x ⊖ y))
+sub-ge x y y' p q q' h = rounds-le (sub-rounds x y' p q') (sub-rounds x y p q) (le-by (val x ∷ val y ∷ val y' ∷ []) 0 (up (le-val y y' q q' h)) (search quote depth 24) tt)
 
 module _ (x y a : Float) (p : T (finite x)) (q : T (finite y)) (h : T (le x y)) where
   -- by a factor at least 0, and at most 0

@@ -1,20 +1,21 @@
--- A float that binary64 holds is what its own value rounds to. Assumes nothing.
-use mathlib.Core.Path.{_≡_, sym, ap, ap₂, _∙_, subst}
+-- A float that binary64 holds is what its own value rounds to, and so it is itself times 1. Assumes nothing.
+use mathlib.Core.Path.{_≡_, refl, sym, ap, ap₂, _∙_, subst}
 use Prim.Native.Nat.{ℕ, zero, suc, _+_, _-_, _*_, _/_, _%_, _^_, _≤_, _<_}
 use native.Mathlib.Nat.{le-of-eq, le-of-suc-le-suc, lt-of-lt-of-le, lt-of-not-le, not-le-of-lt, mul-comm, mul-assoc, mul-right-comm, mul-one, zero-mul, mul-lt-mul-of-pos-right}
-use mathlib.Core.Bool.{Bool, _&&_, cond}
+use mathlib.Core.Bool.{Bool, true, false, _&&_, cond}
 use lib.Dec.{T, ltb, leb, eqb, ltb→lt, leb→le}
 use lib.Pow.{pow-pos, pow-add, pow-lt}
 use lib.IntN.{ℤ, pos, negsuc}
-use lib.Ieee.{Float, nan, inf, fin, Format, prec, emax, low, up, down, size, hid, top, round, fits, toBits, ofBits}
+use lib.Ieee.{Float, nan, inf, fin, Format, binary64, prec, emax, low, up, down, size, hid, top, unlike, round, mul, fits, toBits, ofBits}
 use lib.Ieee.Bits.{ofBits-toBits}
 use lib.Ieee.Digits.{back}
 use lib.Ieee.Exact.{HasValue, round-exact}
 use lib.Ieee.Fits.{down-pos, and-l, and-r, round-fits}
 use lib.Ieee.Nearest.{div-same}
-use lib.Ieee.Positive.{num, den}
-use lib.Ieee.Scale.{finite}
-use Rattle.binary64.specs.Operators.{negative}
+use lib.Ieee.Positive.{num, den, den-pos}
+use lib.Ieee.Scale.{round-same, finite}
+use Rattle.binary64.specs.Operators.{_⊗_, negative}
+use Rattle.binary64.specs.Literals.{«1·0»}
 
 -- ---- two floats that a format holds are equal where their sign and size are
 same-bits : (f : Format) (x : Float) (s : Bool) (m : ℕ) (e : ℤ) → HasValue x s (m * up e) (down e) → toBits f x ≡ toBits f (fin s m e)
@@ -65,3 +66,18 @@ pub own-round : (f : Format) (x : Float) → T (finite x) → T (fits f x) → x
 own-round f nan p t = absurd p
 own-round f (inf s) p t = absurd p
 own-round f (fin s m e) p t = sym (unique f (round f s (m * up e) (down e)) s m e (round-fits f s (m * up e) (down e)) t (fits-value f s m e t))
+
+-- ---- times 1, NaN and infinities too
+unlike-false : (s : Bool) → unlike s false ≡ s
+unlike-false true = refl
+unlike-false false = refl
+
+pub times-one : (x : Float) → T (fits binary64 x) → x ⊗ «1·0» ≡ x
+unfolding mul ofBits
+times-one nan t = refl
+times-one (inf s) t = ap inf (unlike-false s)
+times-one (fin s m e) t =
+    let x = fin s m e in
+    ap (λ (b : Bool). round binary64 b (num x * 1) (den x * 1)) (unlike-false s)
+    ∙ round-same binary64 s (num x * 1) (den x * 1) (num x) (den x) (rw mul-one (den-pos x)) (den-pos x) (simp mul-one refl)
+    ∙ sym (own-round binary64 x tt t)

@@ -1,24 +1,22 @@
 -- Up to 2 ^ -26 in size H of x is x, bit for bit: (x * x) / 6 is then at most half of a last place below 1, and leaves it 1. Assumes nothing.
 use mathlib.Core.Path.{_≡_, refl, sym, ap, _∙_, subst₂}
-use mathlib.Core.Bool.{Bool, true, false, not}
-use Prim.Native.Nat.{_*_, _^_}
-use native.Mathlib.Nat.{mul-one}
+use mathlib.Core.Bool.{true, false, not}
+use Prim.Native.Nat.{_^_}
 use native.Mathlib.Omega.{arith}
 use lib.Dec.{T}
-use lib.Ieee.{Float, binary64, unlike, add, neg, le, round, size, fits, ofBits}
+use lib.Ieee.{Float, binary64, add, neg, le, round, size, fits, ofBits}
 use lib.Ieee.Bits.{is-true}
 use lib.Ieee.Fits.{sub-fits}
-use lib.Ieee.Positive.{num, den, den-pos}
-use lib.Ieee.Scale.{round-same, finite}
+use lib.Ieee.Positive.{den-pos}
 use Rattle.binary64.specs.Operators.{_⊕_, _⊖_, _⊗_, _⊘_, f64, negative}
 use Rattle.binary64.specs.Literals.{«0·0009765625», «6·0»}
-use Rattle.binary64.specs.Opened.{mul-is, sub-is}
+use Rattle.binary64.specs.Opened.{sub-is}
 use Rattle.binary64.specs.Order.{not→lt, le→below}
 use Rattle.binary64.specs.OrderLaws.{add-le}
 use Rattle.binary64.specs.Range.{Most, Sized, sized, neg-most}
 use Rattle.binary64.specs.RangeOps.{mul-most, div-most, sub-over}
 use Rattle.binary64.specs.RangeTests.{most-le, most-ge}
-use Rattle.binary64.specs.Representable.{own-round}
+use Rattle.binary64.specs.Representable.{times-one}
 use Rattle.min_max.specs.MinMax.{absOf}
 use Rattle.elementary.specs.Exp.{one}
 use Rattle.elementary.specs.Asinh.{asinhTaylor, isSmall, asinhOf}
@@ -52,18 +50,6 @@ one-kept q h = antisym near one-near below above
     above : T (le one (one ⊖ q))
     above = subst₂ (λ (y z : Float). T (le y z)) (half-lost .0) (sym (sub-is binary64 one q)) (add-le one one (neg half) (neg q) tt tt tt (n .fine) one-le (most-ge n half tt tt))
 
-times-one : (x : Float) → T (finite x) → T (fits binary64 x) → x ⊗ one ≡ x
-unfolding ofBits
-times-one x p f =
-    mul-is binary64 x one p tt
-    ∙ ap (λ (s : Bool). round binary64 s (num x * 1) (den x * 1)) (same (negative x))
-    ∙ round-same binary64 (negative x) (num x * 1) (den x * 1) (num x) (den x) (rw mul-one (den-pos x)) (den-pos x) (simp mul-one refl)
-    ∙ sym (own-round binary64 x p f)
-  where
-    same : (s : Bool) → unlike s false ≡ s
-    same true = refl
-    same false = refl
-
 small : (x : Float) → Sized x 1 (2 ^ 26) → isSmall x ≡ true
 unfolding ofBits
 small x h = is-true (isSmall x) (not→lt (absOf x) «0·0009765625» (a .fine) tt refute)
@@ -82,4 +68,4 @@ pub asinh-linear : (x : Float) → T (fits binary64 x) → Sized x 1 (2 ^ 26) �
 unfolding asinhTaylor
 asinh-linear x f h =
     let q : Sized ((x ⊗ x) ⊘ «6·0») 1 (2 ^ 54) = sized (div-most (mul-most h h 1 (2 ^ 52) tt tt) at-6 1 (2 ^ 54) tt tt tt) in
-    asinh-taylor x (small x h) ∙ ap (λ (z : Float). x ⊗ z) (one-kept ((x ⊗ x) ⊘ «6·0») q) ∙ times-one x (h .fine) f
+    asinh-taylor x (small x h) ∙ ap (λ (z : Float). x ⊗ z) (one-kept ((x ⊗ x) ⊘ «6·0») q) ∙ times-one x f

@@ -8,7 +8,7 @@ use Rattle.binary64.specs.Literals.{«0·0»}
 use Rattle.square_root.specs.Root.{sqrtOf}
 use Rattle.elementary.specs.Exp.{one, series, squarings, powered, expOf}
 use Rattle.elementary.specs.Ln.{lnOf}
-use Rattle.min_max.specs.MinMax.{absOf, signumOf, clampOf, maxOf, minOf}
+use Rattle.min_max.specs.MinMax.{absOf, clampOf, maxOf, minOf}
 use Rattle.elementary.specs.Asinh.{asinhLog, asinhTaylor, asinhOf}
 use Rattle.elementary.specs.Power.{powfOf}
 use Rattle.min_max.specs.Count.{ceilOf}
@@ -32,7 +32,6 @@ pub record Specials : Type 0 where
   -- one NaN gives the other
   pub max-nan : (x : Float) → (maxOf nan x ≡ x) × (maxOf x nan ≡ x)
   pub min-nan : (x : Float) → (minOf nan x ≡ x) × (minOf x nan ≡ x)
-  pub signum-zero : (signumOf «0·0» ≡ one) × (signumOf (neg «0·0») ≡ neg one)
   pub abs-zero : (s : Bool) → absOf (fin s 0 (pos 0)) ≡ «0·0»
   pub ceil-nan : ceilOf nan ≡ 0
 
@@ -94,7 +93,6 @@ specials = record {
   clamp-zero = clamp-at-zero;
   max-nan = λ x. (refl, ap (λ (z : Bool). cond (isNan x || z) nan x) (not-below-nan x) ∙ other x);
   min-nan = λ x. (refl, other x);
-  signum-zero = (refl, refl);
   abs-zero = λ s. refl;
   ceil-nan = refl;
 }

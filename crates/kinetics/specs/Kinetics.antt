@@ -5,7 +5,7 @@ use lib.Ieee.{Float, lt, neg}
 use Rattle.binary64.specs.Operators.{_⊕_, _⊖_, _⊗_, _⊘_}
 use Rattle.binary64.specs.Literals.{«0·0», «1e-30», «0·01», «0·99», «1·0», «2·0», «8·0», «9·0», «10·0», «1000·0», «90000·0», «100000·0»}
 use Rattle.square_root.specs.Root.{sqrtOf}
-use Rattle.min_max.specs.MinMax.{clampOf, signumOf}
+use Rattle.min_max.specs.MinMax.{clampOf}
 use Rattle.elementary.specs.Asinh.{asinhOf}
 use Rattle.refusal.specs.Ranges.{Row, row, inRanges}
 use Rattle.electrode.specs.declared.ElectrodeParams.{ElectrodeParams}
@@ -50,6 +50,6 @@ overpotentialWith s p t h = cond (lt (exchange p) «1e-30») «0·0» («2·0» 
 unfoldable pub overpotential : SpmConfig → Float → ParticleDiffusion → Float → Float
 overpotential s j p t = overpotentialWith s p t (asinhOf (overpotentialArgument j p))
 
--- (u_pos + eta_pos) - (u_neg + eta_neg) - v_ohm * signum(I)
-abbrev pub terminalVoltage : Float → Float → Float → Float → Float → Float → Float
-terminalVoltage u_neg u_pos eta_neg eta_pos v_ohm i = (u_pos ⊕ eta_pos) ⊖ (u_neg ⊕ eta_neg) ⊖ v_ohm ⊗ signumOf i
+-- (u_pos + eta_pos) - (u_neg + eta_neg) - v_ohm
+abbrev pub terminalVoltage : Float → Float → Float → Float → Float → Float
+terminalVoltage u_neg u_pos eta_neg eta_pos v_ohm = (u_pos ⊕ eta_pos) ⊖ (u_neg ⊕ eta_neg) ⊖ v_ohm

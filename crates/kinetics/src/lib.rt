@@ -72,16 +72,10 @@ pub fn bv_overpotential(
     2.0 * config.r_gas * temp_k / config.faraday * elementary::asinh(arg)
 }
 
-// The terminal voltage from the potentials and the drop in the electrolyte, which lowers it at either sign of the current.
-pub fn terminal_voltage(
-    u_neg: f64,
-    u_pos: f64,
-    eta_neg: f64,
-    eta_pos: f64,
-    v_ohm: f64,
-    current_a: f64,
-) -> f64
-    ensures { λ r. ⌜ r ≡ terminalVoltage «u_neg» «u_pos» «eta_neg» «eta_pos» «v_ohm» «current_a» ⌝ }
+// The terminal voltage from the potentials and the drop in the electrolyte, which has the current's sign: it lowers the voltage on
+// discharge and raises it on charge.
+pub fn terminal_voltage(u_neg: f64, u_pos: f64, eta_neg: f64, eta_pos: f64, v_ohm: f64) -> f64
+    ensures { λ r. ⌜ r ≡ terminalVoltage «u_neg» «u_pos» «eta_neg» «eta_pos» «v_ohm» ⌝ }
 {
-    (u_pos + eta_pos) - (u_neg + eta_neg) - v_ohm * min_max::signum(current_a)
+    (u_pos + eta_pos) - (u_neg + eta_neg) - v_ohm
 }

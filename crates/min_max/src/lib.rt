@@ -1,8 +1,8 @@
-// Absolute value, sign, clamp, max, min and the least whole number not below a quotient, each with a result for every f64. They
-// stand in for the library's, to the last bit; none of them rounds.
+// Absolute value, clamp, max, min and the least whole number not below a quotient, each with a result for every f64. They stand
+// in for the library's, to the last bit; none of them rounds.
 ghost use mathlib.Core.Path.{_≡_};
 ghost use Rattle.binary64.specs.Operators.{negative};
-ghost use Rattle.min_max.specs.MinMax.{absOf, signumOf, clampOf, maxOf, minOf};
+ghost use Rattle.min_max.specs.MinMax.{absOf, clampOf, maxOf, minOf};
 ghost use Rattle.min_max.specs.Count.{ceilOf};
 
 // Whether the sign is negative, as it is for -0.
@@ -23,19 +23,6 @@ pub fn abs(x: f64) -> f64
         return -x;
     }
     x
-}
-
-// 1 with the sign of x.
-pub fn signum(x: f64) -> f64
-    ensures { λ r. ⌜ r ≡ signumOf x ⌝ }
-{
-    if x != x {
-        return x;
-    }
-    if is_negative(x) {
-        return -1.0;
-    }
-    1.0
 }
 
 // x, but lo where it is below lo, and then hi where that is above hi.

@@ -49,7 +49,7 @@ abbrev posWall : SpmSolver → Plan → Float → SurfaceState
 posWall s p t = surfaceState (s .config) (s .cathode) (p .«j_pos») t
 
 unfoldable pub voltageOf : SpmSolver → Plan → Float → Float → Float
-voltageOf s p i t = voltageWith (s .config) (currentDensity s i) (negWall s p t) (posWall s p t) i
+voltageOf s p i t = voltageWith (s .config) (currentDensity s i) (negWall s p t) (posWall s p t)
 
 unfoldable pub reported : SpmSolver → Plan → Float → Float → SpmState
 reported s p i t = reportAt (s .config) (negWall s p t) (posWall s p t) i (s .«time_s») (voltageOf s p i t)

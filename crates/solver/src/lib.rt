@@ -231,7 +231,7 @@ impl SpmSolver {
 
     // One step: a current in A, positive on discharge, for an interval in s at a temperature in K.
     // WARNINGS, faults of the model that the port keeps (docs/DIFFERENCES.md): a full or empty particle is clamped, charge is lost and the voltage may
-    // stay above v_min for ever; with LFP the voltage rises during most of a discharge; on charge the ohmic drop lowers the voltage.
+    // stay above v_min for ever; with LFP the voltage rises during most of a discharge.
     pub fn step(self, current_a: f64, dt: f64, temp_k: f64) -> SpmStepAnswer
         ensures { λ r. ⌜ r ≡ stepped self «current_a» dt «temp_k» ⌝ }
     {

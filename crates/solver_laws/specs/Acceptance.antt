@@ -14,7 +14,7 @@ use Rattle.fraction.specs.Field.{≤F-trans, le-of-lt}
 use Rattle.fraction.specs.Order.{lit≤F}
 use Rattle.fraction.specs.Size.{size-pos, size-wider}
 use Rattle.fraction.specs.Certificate.{quote, le-by, within-by, up, hi, num, _⊞_, _⊠_}
-use Rattle.binary64.specs.Operators.{_⊕_, _⊖_, _⊗_, f64, negative}
+use Rattle.binary64.specs.Operators.{_⊕_, _⊖_, _⊗_, f64}
 use Rattle.binary64.specs.Error.{u, rounding-error}
 use Rattle.binary64.specs.Range.{Within, Sized, sized, most-wider, neg-most}
 use Rattle.binary64.specs.RangeTests.{literal, tested-within, tested-sized, most-le, within-ge}
@@ -26,7 +26,7 @@ use Rattle.binary64.specs.Value.{val, le-val}
 use Rattle.binary64.specs.Literals.{«0·0», «1e-30», «0·00390625», «0·01», «0·015625», «0·125», «0·99», «2·0», «200·0», «400·0», «1000·0», «262144·0», «8·388608e6»}
 use Rattle.square_root.specs.Root.{sqrtOf, rounded, wholeRoot, rootBelow}
 use Rattle.square_root.proofs.Range.{sqrt-within}
-use Rattle.min_max.specs.MinMax.{clampOf, signumOf}
+use Rattle.min_max.specs.MinMax.{clampOf}
 use Rattle.min_max.proofs.ChoiceLaws.{Clamped, clamp-in}
 use Rattle.elementary.specs.Exp.{one}
 use Rattle.elementary.proofs.AsinhRange.{asinh-finite}
@@ -46,6 +46,7 @@ use Rattle.solver.specs.declared.SpmSolver.{SpmSolver}
 use Rattle.solver_step.specs.declared.plan.Plan.{Plan}
 use Rattle.solver_step.specs.Plans.{planRefusal}
 use Rattle.solver_step.specs.Moves.{finiteOn}
+use Rattle.solver_step.specs.Report.{surfaceState}
 use Rattle.solver.specs.Step.{inputRefusal, currentDensity, planOf, advanced, voltageOf, reported, finiteStep, stepped}
 use Rattle.solver_laws.specs.Electrodes.{Electrode, particleAt, config-ranges, config-passed, cell-passed, current-fits, temperature-fits, flux-range}
 use Rattle.solver_laws.specs.Closure.{next, electrode-next, accepted-where}
@@ -175,23 +176,40 @@ module _ (p : ParticleDiffusion) (h : particleRefusal p ≡ 0) where
       either (lt (exchange p) «1e-30») (literal «0·0» (2 ^ 10) 1 0 1 tt tt tt tt tt .0) (sized (mul-most scale (asinh-finite ratio) (2 ^ 10) 1 tt tt))
 
 -- ---- the voltage
-signum-sized : (i : Float) → T (finite i) → Sized (signumOf i) 1 1
-unfolding neg ofBits
-signum-sized i f = rw (number i f) (either (negative i) (literal (neg one) 1 1 1 1 tt tt tt tt tt .0) (literal one 1 1 1 1 tt tt tt tt tt .0))
+-- what the electrodes give, before the drop in the electrolyte
+abbrev pub electrodeVoltage : SpmSolver → Plan → Float → Float
+electrodeVoltage s p t =
+    let a = surfaceState (s .config) (s .anode) (p .«j_neg») t in
+    let c = surfaceState (s .config) (s .cathode) (p .«j_pos») t in
+    (c .potential ⊕ neg (c .overpotential)) ⊖ (a .potential ⊕ neg (a .overpotential))
 
-module _ (s : SpmSolver) (h : (e : Electrode) → particleRefusal (particleAt e s) ≡ 0) where
-  voltage-fine : (p : Plan) (i t : Float) → T (configFits (s .config)) → Sized (p .«j_neg») (2 ^ 100) 1 → Sized (p .«j_pos») (2 ^ 100) 1 → Sized i (2 ^ 20) 1 → T (temperatureFits t)
-      → T (finite (voltageOf s p i t))
-  unfolding voltageOf currentDensity
-  voltage-fine p i t g m n k f =
+-- I / area * R
+abbrev pub ohmicDrop : SpmSolver → Float → Float
+ohmicDrop s i = currentDensity s i ⊗ s .config .«r_electrolyte_ohm_m2»
+
+pub voltage-is : (s : SpmSolver) (p : Plan) (i t : Float) → voltageOf s p i t ≡ electrodeVoltage s p t ⊖ ohmicDrop s i
+unfolding voltageOf
+voltage-is s p i t = refl
+
+module _ (s : SpmSolver) (h : (e : Electrode) → particleRefusal (particleAt e s) ≡ 0) (g : T (configFits (s .config))) where
+  pub electrodes-sized : (p : Plan) (t : Float) → Sized (p .«j_neg») (2 ^ 100) 1 → Sized (p .«j_pos») (2 ^ 100) 1 → T (temperatureFits t) → Sized (electrodeVoltage s p t) (2 ^ 152) 1
+  electrodes-sized p t m n f =
       let a = potential-sized (s .anode) (h Electrode.anode) in
       let b = potential-sized (s .cathode) (h Electrode.cathode) in
       let x = sized (neg-most (overpotential-sized (s .anode) (h Electrode.anode) (s .config) (p .«j_neg») t g m f)) in
       let y = sized (neg-most (overpotential-sized (s .cathode) (h Electrode.cathode) (s .config) (p .«j_pos») t g n f)) in
-      let density = div-most k (sheet-ranges (s .anode .params) (sheet-passed (s .anode) (h Electrode.anode)) .plate) (2 ^ 40) 1 tt tt tt in
-      let ohm = sized (mul-most (mul-most density (config-ranges (s .config) g .resistance) (2 ^ 40) 1 tt tt) (signum-sized i (k .fine)) (2 ^ 40) 1 tt tt) in
-      sub-most (sub-most (add-most b y (2 ^ 151) 1 tt tt) (add-most a x (2 ^ 151) 1 tt tt) (2 ^ 152) 1 tt tt) ohm (2 ^ 153) 1 tt tt .fine
+      sub-most (add-most b y (2 ^ 151) 1 tt tt) (add-most a x (2 ^ 151) 1 tt tt) (2 ^ 152) 1 tt tt
 
+  pub drop-sized : (i : Float) → Sized i (2 ^ 20) 1 → Sized (ohmicDrop s i) (2 ^ 40) 1
+  unfolding currentDensity
+  drop-sized i k =
+      let density = div-most k (sheet-ranges (s .anode .params) (sheet-passed (s .anode) (h Electrode.anode)) .plate) (2 ^ 40) 1 tt tt tt in
+      sized (mul-most density (config-ranges (s .config) g .resistance) (2 ^ 40) 1 tt tt)
+
+  voltage-fine : (p : Plan) (i t : Float) → Sized (p .«j_neg») (2 ^ 100) 1 → Sized (p .«j_pos») (2 ^ 100) 1 → Sized i (2 ^ 20) 1 → T (temperatureFits t) → T (finite (voltageOf s p i t))
+  voltage-fine p i t m n k f = rw (voltage-is s p i t) (sub-most (electrodes-sized p t m n f) (drop-sized i k) (2 ^ 153) 1 tt tt .fine)
+
+module _ (s : SpmSolver) (h : (e : Electrode) → particleRefusal (particleAt e s) ≡ 0) where
   all-fine : (p : Plan) (i t : Float) → T (finite (voltageOf s p i t)) → T (finite (s .«time_s»)) → T (finiteStep s (reported s p i t))
   unfolding finiteStep finiteOn reported
   all-fine p i t v k =
@@ -214,12 +232,12 @@ module _ (s : SpmSolver) (h : (e : Electrode) → particleRefusal (particleAt e 
 
 -- ---- the step
 module _ (s : SpmSolver) (i dt t : Float) (h : inputRefusal s i dt t ≡ 0) (g : planRefusal (planOf s i dt t) ≡ 0) where
-  next-electrode : (e : Electrode) → particleRefusal (particleAt e (next s i dt t)) ≡ 0
+  pub next-electrode : (e : Electrode) → particleRefusal (particleAt e (next s i dt t)) ≡ 0
   unfolding advanced
   next-electrode Electrode.anode = electrode-next s i dt t h g Electrode.anode
   next-electrode Electrode.cathode = electrode-next s i dt t h g Electrode.cathode
 
-  next-config : T (configFits (next s i dt t .config))
+  pub next-config : T (configFits (next s i dt t .config))
   unfolding advanced
   next-config = config-passed s (cell-passed s i dt t h)
 
@@ -235,4 +253,4 @@ module _ (s : SpmSolver) (i dt t : Float) (h : inputRefusal s i dt t ≡ 0) (g :
       let flux = flux-range s p i dt t m in
       accepted-where s i dt t h g
       (all-fine (next s i dt t) next-electrode (planOf s i dt t) i t
-      (voltage-fine (next s i dt t) next-electrode (planOf s i dt t) i t next-config (flux Electrode.anode) (flux Electrode.cathode) m (temperature-fits s i dt t h)) (next-clock k))
+      (voltage-fine (next s i dt t) next-electrode next-config (planOf s i dt t) i t (flux Electrode.anode) (flux Electrode.cathode) m (temperature-fits s i dt t h)) (next-clock k))

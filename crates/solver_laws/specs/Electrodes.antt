@@ -141,7 +141,10 @@ module _ (s : SpmSolver) (h : cellRefusal s ≡ 0) where
   abbrev area-range : Within (s .anode .params .area) (2 ^ 14) 1 1 (2 ^ 20)
   area-range = sheet-ranges (s .anode .params) (sheet-at s h Electrode.anode) .plate
 
-  density-range : (i : Float) → Sized i (2 ^ 20) 1 → Sized (currentDensity s i) (2 ^ 40) 1
+  pub area-above : nat 0 <F val (s .anode .params .area)
+  area-above = size-pos (within-scaled area-range 20 14 tt tt .size)
+
+  pub density-range : (i : Float) → Sized i (2 ^ 20) 1 → Sized (currentDensity s i) (2 ^ 40) 1
   unfolding currentDensity
   density-range i m = sized (div-most m area-range (2 ^ 40) 1 tt tt tt)
 
@@ -154,7 +157,7 @@ module _ (s : SpmSolver) (h : cellRefusal s ≡ 0) where
   module _ (i i' dt dt' t t' : Float) (m : Sized i (2 ^ 20) 1) (m' : Sized i' (2 ^ 20) 1) (l : T (le i i')) where
     density-le : T (le (currentDensity s i) (currentDensity s i'))
     unfolding currentDensity
-    density-le = div-le i i' (s .anode .params .area) (m .fine) (m' .fine) l (size-pos (within-scaled area-range 20 14 tt tt .size))
+    density-le = div-le i i' (s .anode .params .area) (m .fine) (m' .fine) l area-above
 
     pub cathode-flux : val (fluxIn Electrode.cathode (planOf s i dt t)) ≤F val (fluxIn Electrode.cathode (planOf s i' dt' t'))
     unfolding planOf

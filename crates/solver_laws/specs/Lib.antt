@@ -23,8 +23,11 @@
 --               `step-count`, `step-clock`, `step-make`: what it reports, the clock, and that config, sheets and counts of nodes stay;  `Leads`: what a step answers, in two cases
 --   Acceptance  `step-accepted`: a step that neither its input nor its plan refuses is accepted, whatever the profiles, where the clock stays finite
 --   Clock       `step-number`: 8 never comes from a step of the cell;  `step-again`: a step that is accepted is accepted again by the cell that it leaves
+--   OhmicRise   `charge-rises`, `discharge-falls`: of two cells that differ in the electrolyte's resistance alone, the one with the larger has the higher voltage after an accepted step of
+--               a charge, or the same, and the lower after one of a discharge
 --   LowRates    `step-kept`: a step whose arguments of H are not below 2 ^ -10 in size is the step with H by the logarithm at every argument (`steppedByLog`)
 --   EarlierReference  `step-kept`: a step of a cell whose two sheets carry 298.15 K is the step with both diffusivities from the fixed 298.15 K (`steppedFrom298`)
+--   EarlierOhmicDrop  `step-kept`: a step at a current whose sign is not negative is the step with the ohmic drop times the current's sign (`steppedBySignum`)
 --   AcceptedLists  lists whose calls are all accepted, and one call more at their end;  ReplayTurns: where a replay stands after each turn
 --   RunEnds     `run-ends`: a run is refused before its first row or not at all
 --   Electrodes  an electrode's particle and its numbers in a plan;  `sub-step-ranged`: each sub-step of an accepted call is in its ranges;  `count-most`: at most 4,096 of them;
@@ -38,6 +41,8 @@ pub mod Demand
 pub mod Clock
 pub mod LowRates
 pub mod EarlierReference
+pub mod EarlierOhmicDrop
+pub mod OhmicRise
 pub mod Ordered
 pub mod Ranking
 pub mod AcceptedLists

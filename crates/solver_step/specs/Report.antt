@@ -27,9 +27,9 @@ surfaceState g p j t = surfaceWith p (overpotential g j p t)
 abbrev cutOff : SpmConfig → Float → Bool
 cutOff g v = lt v (g .«v_min») || lt (g .«v_max») v
 
--- from both surfaces, the current density and the current
-abbrev pub voltageWith : SpmConfig → Float → SurfaceState → SurfaceState → Float → Float
-voltageWith g density a c i = terminalVoltage (a .potential) (c .potential) (neg (a .overpotential)) (neg (c .overpotential)) (density ⊗ g .«r_electrolyte_ohm_m2») i
+-- from both surfaces and the current density
+abbrev pub voltageWith : SpmConfig → Float → SurfaceState → SurfaceState → Float
+voltageWith g density a c = terminalVoltage (a .potential) (c .potential) (neg (a .overpotential)) (neg (c .overpotential)) (density ⊗ g .«r_electrolyte_ohm_m2»)
 
 -- from both surfaces, the current, the clock and the voltage
 abbrev pub reportAt : SpmConfig → SurfaceState → SurfaceState → Float → Float → Float → SpmState
@@ -45,7 +45,7 @@ reportAt g a c i time v = record {
 }
 
 abbrev pub reportWith : SpmConfig → Float → SurfaceState → SurfaceState → Float → Float → SpmState
-reportWith g density a c i time = reportAt g a c i time (voltageWith g density a c i)
+reportWith g density a c i time = reportAt g a c i time (voltageWith g density a c)
 
 -- 8: no NaN and no infinity in the new profiles and the report (the current is the one that was given)
 abbrev pub finiteWith : Bool → SpmState → Bool

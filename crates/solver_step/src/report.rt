@@ -88,14 +88,7 @@ pub fn reported(
     let eta_neg = -neg.overpotential;
     let eta_pos = -pos.overpotential;
     let v_ohm = i_app * config.r_electrolyte_ohm_m2;
-    let voltage = terminal_voltage(
-        neg.potential,
-        pos.potential,
-        eta_neg,
-        eta_pos,
-        v_ohm,
-        current_a,
-    );
+    let voltage = terminal_voltage(neg.potential, pos.potential, eta_neg, eta_pos, v_ohm);
     SpmState {
         voltage,
         current: current_a,

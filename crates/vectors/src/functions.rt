@@ -22,7 +22,7 @@ pub(crate) fn powf_line(fd: i32, first: u64) -> bool {
     is_f64(fd, elementary::powf(words::from_bits(first), b))
 }
 
-// Powers, clamp, max, min, signum (which no NaN has) and size.
+// Powers, clamp, max, min and size.
 pub(crate) fn small_line(fd: i32, first: u64) -> bool {
     let x = words::from_bits(first);
     let low = next_f64(fd);
@@ -34,8 +34,7 @@ pub(crate) fn small_line(fd: i32, first: u64) -> bool {
     let choices = is_f64(fd, min_max::clamp(x, low, high))
         & is_f64(fd, min_max::max(x, y))
         & is_f64(fd, min_max::min(x, y));
-    let signs = is_f64(fd, min_max::signum(x)) & is_f64(fd, min_max::abs(x));
-    powers & choices & signs
+    powers & choices & is_f64(fd, min_max::abs(x))
 }
 
 pub(crate) fn count_line(fd: i32, first: u64) -> bool {

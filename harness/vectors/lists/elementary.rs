@@ -125,13 +125,13 @@ pub fn small_cases(draw: &mut Draw) -> Vec<Vec<Slot>> {
     all.into_iter().filter(|[x, _, _, y]| !opposite_zeros(*x, *y)).map(|c| c.map(float).to_vec()).collect()
 }
 
-/// The powers 2, 3 and 4 of x, x clamped, the larger and the smaller of x and y, the sign of x (but for a NaN), |x|.
+/// The powers 2, 3 and 4 of x, x clamped, the larger and the smaller of x and y, |x|.
 pub fn small(arguments: &[Slot]) -> Vec<Slot> {
     let mut reader = Reader::new(arguments);
     let [x, low, high, y] = reader.floats();
     reader.end();
     let powers = [2, 3, 4].map(|k| standins::powi(x, k));
-    let rest = [x.clamp(low, high), x.max(y), x.min(y), x.signum(), x.abs()];
+    let rest = [x.clamp(low, high), x.max(y), x.min(y), x.abs()];
     powers.iter().chain(&rest).map(|r| float(*r)).collect()
 }
 

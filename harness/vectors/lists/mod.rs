@@ -4,6 +4,7 @@ use calls::table::{range, Range};
 use calls::words::Slot;
 use oracle::standins::with_small_arguments;
 
+mod charge;
 mod dense;
 mod dfn;
 mod electrode;

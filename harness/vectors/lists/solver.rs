@@ -1,6 +1,6 @@
 //! The single-particle cell's calls and its run.
 use super::electrode::{self, random_sheet, ready_sheets};
-use super::{about_small_limit, low_current, number, particle, reference, READY_REFERENCE};
+use super::{about_small_limit, charge, low_current, number, particle, reference, READY_REFERENCE};
 use crate::cover::{arguments, one_fault, pairs, singles, Argument, Kind};
 use crate::draw::Draw;
 use calls::electrode::Sheet;
@@ -217,6 +217,7 @@ pub fn step_cases(draw: &mut Draw) -> Vec<Vec<Slot>> {
     all.extend(diffusivity_at_limits(READY_REFERENCE).iter().map(|(cell, temp_k)| stepping(cell, 3.0, 0.01, *temp_k)));
     all.extend(low_rate_steps(draw));
     all.extend(reference::cell_steps(draw));
+    all.extend(charge::cell_steps(draw));
     all
 }
 
@@ -313,6 +314,7 @@ pub fn run_cases(draw: &mut Draw) -> Vec<Vec<Slot>> {
         all.push(running(&cell, [low_current(draw, cell.anode.sheet.numbers[6]), 0.1, 298.15, 1e9], 160));
     }
     all.extend(reference::runs(draw));
+    all.extend(charge::runs());
     all
 }
 

@@ -1,0 +1,72 @@
+#!/usr/bin/env python3
+"""Says what moved from one fixed list to another, and which rows of the single-particle cell, by the sign of their current.
+
+    moved.py BEFORE NOW
+
+BEFORE and NOW are folders of lists (FORMAT.md), such as the folder that `git worktree add` makes of an earlier commit and
+crates/vectors/data. A line is known by its arguments. Of `cell_step`, `simulate_discharge` and `replay` the rows of a line are compared
+one by one, as far as both have them; a step has one row, its report.
+"""
+import os
+import sys
+from collections import Counter
+
+WITH_ROWS = ("cell_step", "simulate_discharge", "replay")
+ROW, CURRENT = 8, 1
+ZERO, MINUS_ZERO, MINUS = 16 * "0", "8" + 15 * "0", "89ABCDEF"
+
+
+def read(folder, file):
+    """The answers of a list by their arguments."""
+    try:
+        with open(os.path.join(folder, file), encoding="ascii") as lines:
+            return dict(line.rstrip("\n").rpartition("\t")[::2] for line in lines)
+    except OSError as error:
+        sys.exit(f"moved: {error.filename}: {error.strerror}")
+
+
+def rows_of(name, answer):
+    """The rows of an answer, each eight words."""
+    words = answer.split(" ")
+    if name == "cell_step":
+        return [words[1 : 1 + ROW]] if words[0] == ZERO else []
+    places = int(words[2], 16)
+    return [words[at : at + ROW] for at in range(3, 3 + places, ROW)]
+
+
+def kind_of(current):
+    if current == MINUS_ZERO:
+        return "of -0"
+    return "of a charge" if current[0] in MINUS else "of a current not negative"
+
+
+def change_of(before, now):
+    """A row's voltage is its first word, and whether it is cut off its last."""
+    if before == now:
+        return "as before"
+    return "another voltage" if before[1:-1] == now[1:-1] and before[0] != now[0] else "more than the voltage"
+
+
+def counted(name, before, now):
+    """The rows of a line by kind and change."""
+    return Counter((kind_of(new[CURRENT]), change_of(old, new)) for old, new in zip(rows_of(name, before), rows_of(name, now)))
+
+
+def main():
+    if len(sys.argv) != 3:
+        sys.exit("moved: say which folder has the list before, and which the list now")
+    folders = sys.argv[1:]
+    for file in sorted(set(os.listdir(folders[0])) | set(os.listdir(folders[1]))):
+        name = file.removesuffix(".txt")
+        before, now = (read(folder, file) for folder in folders)
+        both = before.keys() & now.keys()
+        moved = [arguments for arguments in both if before[arguments] != now[arguments]]
+        print(f"{name}: {len(both) - len(moved)} lines as before, {len(moved)} moved, {len(now.keys() - both)} new, {len(before.keys() - both)} gone")
+        if name in WITH_ROWS:
+            rows = sum((counted(name, before[arguments], now[arguments]) for arguments in both), Counter())
+            for (kind, change), count in sorted(rows.items()):
+                print(f"    {count} rows {kind}: {change}")
+
+
+if __name__ == "__main__":
+    main()
