@@ -542,6 +542,25 @@ static void single_particle_steps(void)
     EXPECT(1 <= pj_get_u64(report, PJ_AT_REPORT_SUB_STEPS) && pj_get_u64(report, PJ_AT_REPORT_SUB_STEPS) <= 4096);
 }
 
+/* The voltage of the NMC cell with this resistance after a step at this current. */
+static double voltage_at(double current_a, double resistance)
+{
+    static uint8_t given[PJ_CELL_BYTES], step[PJ_CELL_STEP_BYTES];
+    memcpy(given, cell_nmc, sizeof given);
+    pj_put_f64(given, PJ_AT_CELL_CONFIG + PJ_AT_CONFIG_R_ELECTROLYTE_OHM_M2, resistance);
+    EXPECT(pj_cell_step(given, sizeof given, current_a, 10.0, T, step, sizeof step) == PJ_REFUSAL_NONE);
+    return pj_get_f64(step + PJ_AT_CELL_REPORT, PJ_AT_REPORT_VOLTAGE);
+}
+
+/* The drop in the electrolyte lowers the voltage on discharge and raises it on charge. */
+static void ohmic_drops(void)
+{
+    const double drop = 3.0 / 0.0626 * 1e-3;
+    EXPECT(near(voltage_at(3.0, 0.0) - voltage_at(3.0, 1e-3), drop));
+    EXPECT(near(voltage_at(-3.0, 1e-3) - voltage_at(-3.0, 0.0), drop));
+    EXPECT(voltage_at(0.0, 1.0) == voltage_at(0.0, 0.0) && voltage_at(-0.0, 1.0) == voltage_at(0.0, 0.0));
+}
+
 static void dfn_steps(void)
 {
     static uint8_t salted[PJ_ELECTROLYTE_BYTES], dfn_step[PJ_DFN_STEP_BYTES];
@@ -868,6 +887,7 @@ int main(void)
     reference_temperatures();
     earlier_layout();
     single_particle_steps();
+    ohmic_drops();
     dfn_steps();
     discharges();
     galvanostatic_runs();

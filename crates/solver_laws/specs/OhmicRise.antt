@@ -99,34 +99,38 @@ module _ (s : SpmSolver) (i dt t : Float) where
         area = area-above s k;
       }
 
--- ---- the voltage at two resistances
-module _ (s : SpmSolver) (r q i dt t : Float) (R : stepped (withResistance s r) i dt t .refusal ≡ 0) (Q : stepped (withResistance s q) i dt t .refusal ≡ 0) (h : T (le r q)) where
-  abbrev voltageAt : Float → Float
-  voltageAt z = stepped (withResistance s z) i dt t .state .voltage
+-- ---- the voltage by the resistance
+module _ (s : SpmSolver) (i dt t : Float) where
+  abbrev pub acceptedAt : Float → Type 0
+  acceptedAt r = stepped (withResistance s r) i dt t .refusal ≡ 0
+
+  abbrev pub voltageAt : Float → Float
+  voltageAt r = stepped (withResistance s r) i dt t .state .voltage
 
   abbrev area : Float
   area = s .anode .params .area
 
-  -- what is taken from the electrodes' voltage decides the order
-  by-drops : (y z : Float) → stepped (withResistance s y) i dt t .refusal ≡ 0 → stepped (withResistance s z) i dt t .refusal ≡ 0 → T (le (currentDensity s i ⊗ z) (currentDensity s i ⊗ y)) → T (le (voltageAt y) (voltageAt z))
+  -- the electrodes give the same at any, so what is taken from it decides
+  by-drops : (r q : Float) → acceptedAt r → acceptedAt q → T (le (currentDensity s i ⊗ q) (currentDensity s i ⊗ r)) → T (le (voltageAt r) (voltageAt q))
   unfolding advanced planOf currentDensity overpotential
-  by-drops y z Y Z l =
-      let a = parts (withResistance s y) i dt t Y in
-      let b = parts (withResistance s z) i dt t Z in
-      subst₂ (λ (v w : Float). T (le v w)) (sym (a .voltage)) (sym (b .voltage)) (sub-ge (electrodeVoltage (next (withResistance s y) i dt t) (planOf (withResistance s y) i dt t) t) (currentDensity s i ⊗ z) (currentDensity s i ⊗ y) (a .electrodes) (b .drop) (a .drop) l)
+  by-drops r q R Q l =
+      let a = parts (withResistance s r) i dt t R in
+      let b = parts (withResistance s q) i dt t Q in
+      let v = electrodeVoltage (next (withResistance s r) i dt t) (planOf (withResistance s r) i dt t) t in
+      subst₂ (λ (y z : Float). T (le y z)) (sym (a .voltage)) (sym (b .voltage)) (sub-ge v (currentDensity s i ⊗ q) (currentDensity s i ⊗ r) (a .electrodes) (b .drop) (a .drop) l)
 
   -- ON CHARGE it rises with the resistance
-  pub charge-rises : T (le i «0·0») → T (le (voltageAt r) (voltageAt q))
+  pub charge-rises : (r q : Float) → acceptedAt r → acceptedAt q → T (le r q) → T (le i «0·0») → T (le (voltageAt r) (voltageAt q))
   unfolding currentDensity
-  charge-rises n =
+  charge-rises r q R Q h n =
       let a = parts (withResistance s r) i dt t R in
       let b = parts (withResistance s q) i dt t Q in
       by-drops r q R Q (drop-ge (currentDensity s i) r q (a .density) (a .resistance) (b .resistance) h (density-nonpos i area (a .current) (a .area) (a .density) n))
 
   -- ON DISCHARGE it falls
-  pub discharge-falls : T (le «0·0» i) → T (le (voltageAt q) (voltageAt r))
+  pub discharge-falls : (r q : Float) → acceptedAt r → acceptedAt q → T (le r q) → T (le «0·0» i) → T (le (voltageAt q) (voltageAt r))
   unfolding currentDensity
-  discharge-falls n =
+  discharge-falls r q R Q h n =
       let a = parts (withResistance s r) i dt t R in
       let b = parts (withResistance s q) i dt t Q in
       by-drops q r Q R (drop-le (currentDensity s i) r q (a .density) (a .resistance) (b .resistance) h (density-nonneg i area (a .current) (a .area) (a .density) n))
