@@ -66,6 +66,8 @@ def main():
             rows = sum((counted(name, before[arguments], now[arguments]) for arguments in both), Counter())
             for (kind, change), count in sorted(rows.items()):
                 print(f"    {count} rows {kind}: {change}")
+            other = sum(len(rows_of(name, before[arguments])) != len(rows_of(name, now[arguments])) for arguments in moved)
+            print(f"    {other} lines have another count of rows")
 
 
 if __name__ == "__main__":
