@@ -1,5 +1,5 @@
-// Absolute value, clamp, max, min and the least whole number not below a quotient, each with a result for every f64. They stand
-// in for the library's, to the last bit; none of them rounds.
+// Absolute value, sign, clamp, max, min and the least whole number not below a quotient, each with a result for every f64. They
+// stand in for the library's, to the last bit; none of them rounds.
 ghost use mathlib.Core.Path.{_≡_};
 ghost use Rattle.binary64.specs.Operators.{negative};
 ghost use Rattle.min_max.specs.MinMax.{absOf, clampOf, maxOf, minOf};
