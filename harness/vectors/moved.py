@@ -3,8 +3,8 @@
 
     moved.py BEFORE NOW
 
-BEFORE and NOW are folders of lists (FORMAT.md), such as the folder that `git worktree add` makes of an earlier commit and
-crates/vectors/data. A line is known by its arguments. Of `cell_step`, `simulate_discharge` and `replay` the rows of a line are compared
+BEFORE and NOW are folders of lists (FORMAT.md), such as crates/vectors/data of an earlier commit, in the folder that
+`git worktree add` makes, and of this one. A line is known by its arguments. Of `cell_step`, `simulate_discharge` and `replay` the rows of a line are compared
 one by one, as far as both have them; a step has one row, its report.
 """
 import os
