@@ -1,15 +1,17 @@
 -- The same for runs: the number, the rows and the answer. Definitions only.
 use Prim.Native.Nat.{ℕ}
-use mathlib.Core.Bool.{cond, _&&_}
+use mathlib.Core.Bool.{Bool, cond, _&&_}
 use mathlib.Core.List.{List}
+use lib.Dec.{eqb}
 use lib.ListN.{length}
 use lib.Ieee.{Float}
 use Rattle.refusal.specs.Numbers as N
 use Rattle.replay_run.specs.Replay.{textFits}
+use Rattle.cycle_run.specs.declared.CycleSettings.{CycleSettings}
 use Rattle.cell_calls.specs.Runs as C
 use Rattle.dfn_calls.specs.Runs as P
 use Rattle.boundary.specs.Calls.{lengths, afterLengths}
-use Rattle.image_layout.specs.Layout.{cellBytes, cellRunBytes, dfnBytes, dfnRunBytes}
+use Rattle.image_layout.specs.Layout.{cellBytes, cellRunBytes, phasesBytes, dfnBytes, dfnRunBytes}
 
 -- ---- a single-particle cell
 
@@ -33,6 +35,21 @@ replayRows s text t l answer = cond (textFits text && lengths (length s) cellByt
 
 unfoldable pub replayAfter : List ℕ → List ℕ → Float → ℕ → List ℕ → List ℕ
 replayAfter s text t places a = cond (textFits text && lengths (length s) cellBytes (length a) cellRunBytes) (C.replayAfter s text t places a) a
+
+-- ---- a cycle of phases on a single-particle cell
+
+-- whether the cell, the phases and the answer have their lengths
+abbrev pub cycleLengths : ℕ → ℕ → ℕ → Bool
+cycleLengths cell phases answer = eqb cell cellBytes && eqb phases phasesBytes && eqb answer cellRunBytes
+
+unfoldable pub cycleReturn : List ℕ → List ℕ → CycleSettings → ℕ → ℕ → ℕ
+cycleReturn s phases g places answer = afterLengths (cycleLengths (length s) (length phases) answer) (C.cycleReturn s phases g places)
+
+unfoldable pub cycleRows : List ℕ → List ℕ → CycleSettings → List Float → ℕ → List Float
+cycleRows s phases g l answer = cond (cycleLengths (length s) (length phases) answer) (C.cycleRows s phases g l) l
+
+unfoldable pub cycleAfter : List ℕ → List ℕ → CycleSettings → ℕ → List ℕ → List ℕ
+cycleAfter s phases g places a = cond (cycleLengths (length s) (length phases) (length a)) (C.cycleAfter s phases g places a) a
 
 -- ---- a Doyle-Fuller-Newman cell
 

@@ -13,6 +13,7 @@ use image_layout::DFN_STEP_BYTES;
 use image_layout::ELECTROLYTE_BYTES;
 use image_layout::NUMBER_BYTES;
 use image_layout::PARTICLE_BYTES;
+use image_layout::PHASES_BYTES;
 use image_layout::SOLUTION_BYTES;
 use image_numbers::number_length;
 use image_numbers::number_of;
@@ -20,8 +21,9 @@ use refusal::Answer;
 ghost use mathlib.Core.Path.{_≡_};
 ghost use lib.ListN.{length};
 ghost use Rattle.codec.specs.Words.{putRow};
+ghost use Rattle.cycle_run.specs.Cycle.{cycleSettings};
 ghost use Rattle.boundary.specs.Calls.{listed, lengths, numberCall, buildReturn, buildAfter, particleReturn, particleAfter, cellReturn, cellAfter, electrolyteReturn, electrolyteAfter, dfnReturn, dfnAfter, denseReturn, denseAfter};
-ghost use Rattle.boundary.specs.Runs.{dischargeReturn, dischargeRows, dischargeAfter, replayReturn, replayRows, replayAfter, galvanostaticReturn, galvanostaticRows, galvanostaticAfter};
+ghost use Rattle.boundary.specs.Runs.{dischargeReturn, dischargeRows, dischargeAfter, replayReturn, replayRows, replayAfter, cycleLengths, cycleReturn, cycleRows, cycleAfter, galvanostaticReturn, galvanostaticRows, galvanostaticAfter};
 
 // Whether a call is listed: 1 to n.
 fn is_listed(call: u64, n: u64) -> bool
@@ -196,6 +198,46 @@ pub extern "C" fn pj_replay(
         return refusal::LENGTH;
     }
     cell_calls::replay(cell, text, temp_k, rows, answer)
+}
+
+// Whether the cell, the phases and the answer of a cycle have their lengths.
+fn cycle_lengths_fit(cell: usize, phases: usize, answer: usize) -> bool
+    ensures { λ r. ⌜ r ≡ cycleLengths cell phases answer ⌝ }
+{
+    (cell == CELL_BYTES) & (phases == PHASES_BYTES) & (answer == CELL_RUN_BYTES)
+}
+
+// A cycle of phases on a single-particle cell; its answer as in a run.
+#[no_mangle]
+pub extern "C" fn pj_cycle(
+    cell: &[u8],
+    phases: &[u8],
+    count: usize,
+    repeats: usize,
+    budget: usize,
+    dt: f64,
+    temp_k: f64,
+    rows: &mut [f64],
+    answer: &mut [u8],
+) -> u64
+    ensures number { λ r. ⌜ r ≡ cycleReturn (now (cell .entry)) (now (phases .entry)) (cycleSettings count repeats budget dt «temp_k») (length (now (rows .entry))) (length (now (answer .entry))) ⌝ }
+    ensures rows { λ _. ⌜ now (rows .exit) ≡ cycleRows (now (cell .entry)) (now (phases .entry)) (cycleSettings count repeats budget dt «temp_k») (now (rows .entry)) (length (now (answer .entry))) ⌝ }
+    ensures written { λ _. ⌜ now (answer .exit) ≡ cycleAfter (now (cell .entry)) (now (phases .entry)) (cycleSettings count repeats budget dt «temp_k») (length (now (rows .entry))) (now (answer .entry)) ⌝ }
+{
+    if !cycle_lengths_fit(cell.len(), phases.len(), answer.len()) {
+        return refusal::LENGTH;
+    }
+    cell_calls::cycle(
+        cell,
+        phases,
+        count,
+        repeats,
+        budget,
+        dt,
+        temp_k,
+        rows,
+        answer,
+    )
 }
 
 // A run of a Doyle-Fuller-Newman cell; its answer as in a run of a single-particle cell.

@@ -2,7 +2,7 @@
 -- last image is the record after the same list of calls by their definitions. One law for every kind of call. Assumes nothing.
 use Prim.Native.Nat.{ℕ, _+_}
 use mathlib.Core.Path.{_≡_, refl, sym, ap, _∙_}
-use mathlib.Core.Bool.{Bool, true, false, cond}
+use mathlib.Core.Bool.{Bool, true, false, cond, _&&_}
 use mathlib.Core.Logic.{_⊎_, inl, inr, ⊎-elim}
 use mathlib.Core.List.{List, [], _∷_}
 use native.Mathlib.Nat.{zero-add}
@@ -222,3 +222,34 @@ module _ {C Q : Type 0} {size : ℕ} {read : List ℕ → C} (b : Calls size rea
 
       keeps : (s : List ℕ) (q : Q) (a : List ℕ) → length s ≡ size → b .formed q a ≡ true → b .handed s q a ≡ false → b .next (read s) q ≡ read s
       keeps s q a l e h = p .refused-keeps (read s) q (λ z. eqb-false (b .returned s q a) 0 (sym (p .handed-is s q a) ∙ h) (returns s q a l e ∙ z))
+
+-- ---- a kind of call whose answer is handed on where it is written, as that of a run that is refused after a row: what is to be shown of it
+module _ {C Q : Type 0} {size : ℕ} {read : List ℕ → C} (b : Calls size read Q) (written : C → Q → Bool) where
+  pub record WritesOn : Type 0 where
+    -- the number is `length` where the lengths are wrong
+    pub returned-is : (s : List ℕ) (q : Q) (a : List ℕ) → length s ≡ size → b .returned s q a ≡ afterLengths (b .formed q a) (b .refusal (read s) q)
+    pub handed-is : (s : List ℕ) (q : Q) (a : List ℕ) → length s ≡ size → b .handed s q a ≡ b .formed q a && written (read s) q
+    pub written-reads : (s : List ℕ) (q : Q) (a : List ℕ) → length s ≡ size → b .formed q a ≡ true → written (read s) q ≡ true → read (take size (b .left s q a)) ≡ b .next (read s) q
+    pub written-fills : (s : List ℕ) (q : Q) (a : List ℕ) → length s ≡ size → b .formed q a ≡ true → written (read s) q ≡ true → length (take size (b .left s q a)) ≡ size
+    pub unwritten-keeps : (c : C) (q : Q) → written c q ≡ false → b .next c q ≡ c
+
+  pub writes-on-implements : WritesOn → Implements b
+  writes-on-implements p = record { malformed = malformed; returns = returns; reads = reads; fills = fills; keeps = keeps }
+    where
+      malformed : (s : List ℕ) (q : Q) (a : List ℕ) → length s ≡ size → b .formed q a ≡ false → (b .returned s q a ≡ N.badLength) × (b .handed s q a ≡ false)
+      malformed s q a l e = (unfold afterLengths in rw e at (p .returned-is s q a l), rw e at (p .handed-is s q a l))
+
+      returns : (s : List ℕ) (q : Q) (a : List ℕ) → length s ≡ size → b .formed q a ≡ true → b .returned s q a ≡ b .refusal (read s) q
+      returns s q a l e = unfold afterLengths in rw e at (p .returned-is s q a l)
+
+      written-is : (s : List ℕ) (q : Q) (a : List ℕ) → length s ≡ size → b .formed q a ≡ true → b .handed s q a ≡ written (read s) q
+      written-is s q a l e = rw e at (p .handed-is s q a l)
+
+      reads : (s : List ℕ) (q : Q) (a : List ℕ) → length s ≡ size → b .formed q a ≡ true → b .handed s q a ≡ true → read (take size (b .left s q a)) ≡ b .next (read s) q
+      reads s q a l e h = p .written-reads s q a l e (sym (written-is s q a l e) ∙ h)
+
+      fills : (s : List ℕ) (q : Q) (a : List ℕ) → length s ≡ size → b .formed q a ≡ true → b .handed s q a ≡ true → length (take size (b .left s q a)) ≡ size
+      fills s q a l e h = p .written-fills s q a l e (sym (written-is s q a l e) ∙ h)
+
+      keeps : (s : List ℕ) (q : Q) (a : List ℕ) → length s ≡ size → b .formed q a ≡ true → b .handed s q a ≡ false → b .next (read s) q ≡ read s
+      keeps s q a l e h = p .unwritten-keeps (read s) q (sym (written-is s q a l e) ∙ h)

@@ -5,20 +5,21 @@
 --                     `simulates`: the record of the last image is the record after the same calls (`recordAfter`), and the calls that return 0 are those that are accepted.
 --                     One law for every kind of call (`Calls`, `Implements`), and for kinds that are mixed (`orElse`)
 --   StepLists         the four steps. `particle-simulates`, `cell-simulates`: the folds are those that theorems 1 to 3 go over; the sub-steps of the answers add up to K
---   MixedLists        `particle-calls-simulate`, `cell-calls-simulate`, `electrolyte-calls-simulate`, `dfn-calls-simulate`: lists that mix builds, steps and runs, those of the cell replays too
+--   MixedLists        `particle-calls-simulate`, `cell-calls-simulate`, `electrolyte-calls-simulate`, `dfn-calls-simulate`: lists that mix builds, steps and runs, those of the cell replays and cycles too
 --   Demand            THEOREM 1 `particle-images-near`, THEOREM 2 `cell-images-near`, THEOREM 3 `cell-images-ranked`, for the words of the last image
---   MixedDemand       theorem 2 of lists that mix builds, steps, runs and replays, `mixed-images-near`, from the cell of the last accepted build
+--   MixedDemand       theorem 2 of lists that mix builds, steps, runs, replays and cycles, `mixed-images-near`, from the cell of the last accepted build
 --   Instance          the cell of `pj_build` 8 and four calls of `pj_cell_step`, two refused and one with a short answer: `image-near`, `image-ranked`
 --   ParticleInstance  the particle of `pj_build` 7 and six calls of `pj_particle_step`: `particle-image-near`, K = 3
---   MixedInstance     two builds, three steps, a run and a replay from an image of zeros: `mixed-image-near`
+--   MixedInstance     two builds, three steps, a run, a replay and a cycle from an image of zeros: `mixed-image-near`
 --
 -- WHAT THEY STAND ON
---   BuildLists, RunLists, ReplayLists  builds, runs and replays as kinds of calls;  Nodes: the nodes as words of an image;  BuiltCells: a cell that a build answers passes the checks
+--   BuildLists, RunLists, ReplayLists, CycleLists  builds, runs, replays and cycles as kinds of calls;  Nodes: the nodes as words of an image;  BuiltCells: a cell that a build answers passes the checks
 pub mod CallLists
 pub mod StepLists
 pub mod BuildLists
 pub mod RunLists
 pub mod ReplayLists
+pub mod CycleLists
 pub mod MixedLists
 pub mod Nodes
 pub mod Demand

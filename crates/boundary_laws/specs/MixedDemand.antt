@@ -1,5 +1,5 @@
--- THEOREM 2 OF LISTS THAT MIX BUILDS, STEPS, RUNS AND REPLAYS: the cell of the last image is the cell of the last accepted build (or of the first image) after a list of
--- steps, those of the runs and replays among them, and every node is within K·M / 2 ^ 49 of the exact one. Assumes nothing.
+-- THEOREM 2 OF LISTS THAT MIX BUILDS, STEPS, RUNS, REPLAYS AND CYCLES: the cell of the last image is the cell of the last accepted build (or of the first image) after a list of
+-- steps, those of the runs, replays and cycles among them, and every node is within K·M / 2 ^ 49 of the exact one. Assumes nothing.
 use Prim.Native.Nat.{ℕ, _<_}
 use mathlib.Core.Path.{_≡_, refl, sym, ap, _∙_}
 use mathlib.Core.Bool.{Bool, true, false, cond}
@@ -18,14 +18,18 @@ use Rattle.solver_laws.specs.AcceptedLists.{after-append}
 use Rattle.solver_laws.specs.RunLists.{callsOf, run-is-list}
 use Rattle.solver_laws.specs.ReplayCalls as RC
 use Rattle.solver_laws.specs.ReplayLists.{replay-is-list}
+use Rattle.solver_laws.specs.CycleCalls as YC
 use Rattle.cell_images.specs.Images.{cellAt}
+use Rattle.cell_calls.specs.Phases.{phasesAt}
 use Rattle.image_builds.specs.Builds.{cellBuilt}
+use Rattle.image_laws.specs.CellRuns.{image-cycle-is-list}
 use Rattle.boundary_laws.specs.CallLists.{CCall, imageAfter, wellFormed, recordAfter}
 use Rattle.boundary_laws.specs.StepLists.{current}
 use Rattle.boundary_laws.specs.BuildLists.{CellBuild}
 use Rattle.boundary_laws.specs.RunLists.{CellRun}
 use Rattle.boundary_laws.specs.ReplayLists.{CellReplay, replay}
-use Rattle.boundary_laws.specs.MixedLists.{CellCall, cellCalls, cell-calls-simulate}
+use Rattle.boundary_laws.specs.CycleLists.{CellCycle, cycle}
+use Rattle.boundary_laws.specs.MixedLists.{CellRows, cellRows, CellCall, cellCalls, cell-calls-simulate}
 use Rattle.boundary_laws.specs.Nodes.{nodeAt, mostAt, cell-nodes, node-below}
 use Rattle.boundary_laws.specs.BuiltCells.{cell-build-passes}
 use Rattle.image_layout.specs.Layout.{cellBytes}
@@ -37,6 +41,20 @@ turnsOf c q = callsOf (DR.runSettings (q .current) (q .dt) (q .temp) (q .limit))
 -- a replay: one for each line that has a row
 abbrev pub linesOf : SpmSolver → CellReplay → List SD.Call
 linesOf c q = RC.callsOf (q .text) (q .temp) (replay c q .rows)
+
+-- a cycle: one for each row, of the phase then under way
+abbrev pub phasesOf : SpmSolver → CellCycle → List SD.Call
+phasesOf c q = YC.callsOf (phasesAt (q .phases)) (q .settings) c (cycle c q .rows)
+
+abbrev pub rowsOf : SpmSolver → CellRows → List SD.Call
+rowsOf c (inl q) = turnsOf c q
+rowsOf c (inr (inl q)) = linesOf c q
+rowsOf c (inr (inr q)) = phasesOf c q
+
+rows-are : (c : SpmSolver) (r : CellRows) → cellRows .next c r ≡ SD.cellAfter c (rowsOf c r)
+rows-are c (inl q) = run-is-list (DR.runSettings (q .current) (q .dt) (q .temp) (q .limit)) c (q .places)
+rows-are c (inr (inl q)) = replay-is-list (q .text) (q .temp) c (q .places)
+rows-are c (inr (inr q)) = image-cycle-is-list (q .phases) (q .settings) c (q .places)
 
 -- ---- the cell of the last accepted build, and the steps since then
 pub record SinceBuild : Type 0 where
@@ -51,8 +69,7 @@ sinceBuild z [] = z
 sinceBuild z (inl b ∷ qs) =
     cond (eqb (cellBuilt (b .call) (b .image) .refusal) 0) (sinceBuild (record { start = cellBuilt (b .call) (b .image) .solver; steps = [] }) qs) (sinceBuild z qs)
 sinceBuild z (inr (inl q) ∷ qs) = sinceBuild (record { start = z .start; steps = z .steps ++ q ∷ [] }) qs
-sinceBuild z (inr (inr (inl r)) ∷ qs) = sinceBuild (record { start = z .start; steps = z .steps ++ turnsOf (cellOf z) r }) qs
-sinceBuild z (inr (inr (inr r)) ∷ qs) = sinceBuild (record { start = z .start; steps = z .steps ++ linesOf (cellOf z) r }) qs
+sinceBuild z (inr (inr r) ∷ qs) = sinceBuild (record { start = z .start; steps = z .steps ++ rowsOf (cellOf z) r }) qs
 
 -- of calls from C on the image s
 abbrev pub sinceBuildIn : List ℕ → List (CCall CellCall) → SinceBuild
@@ -72,12 +89,9 @@ since-is (inl b ∷ qs) z =
     one-build (eqb (cellBuilt (b .call) (b .image) .refusal) 0) qs (cellBuilt (b .call) (b .image) .solver) (cellOf z) (sinceBuild new qs) (sinceBuild z qs) (since-is qs new) (since-is qs z)
 since-is (inr (inl q) ∷ qs) z =
     ap (λ (c : SpmSolver). recordAfter cellCalls c qs) (sym (after-append (z .steps) (q ∷ []) (z .start))) ∙ since-is qs (record { start = z .start; steps = z .steps ++ q ∷ [] })
-since-is (inr (inr (inl r)) ∷ qs) z =
-    ap (λ (c : SpmSolver). recordAfter cellCalls c qs) (run-is-list (DR.runSettings (r .current) (r .dt) (r .temp) (r .limit)) (cellOf z) (r .places) ∙ sym (after-append (z .steps) (turnsOf (cellOf z) r) (z .start)))
-    ∙ since-is qs (record { start = z .start; steps = z .steps ++ turnsOf (cellOf z) r })
-since-is (inr (inr (inr r)) ∷ qs) z =
-    ap (λ (c : SpmSolver). recordAfter cellCalls c qs) (replay-is-list (r .text) (r .temp) (cellOf z) (r .places) ∙ sym (after-append (z .steps) (linesOf (cellOf z) r) (z .start)))
-    ∙ since-is qs (record { start = z .start; steps = z .steps ++ linesOf (cellOf z) r })
+since-is (inr (inr r) ∷ qs) z =
+    ap (λ (c : SpmSolver). recordAfter cellCalls c qs) (rows-are (cellOf z) r ∙ sym (after-append (z .steps) (rowsOf (cellOf z) r) (z .start)))
+    ∙ since-is qs (record { start = z .start; steps = z .steps ++ rowsOf (cellOf z) r })
 
 -- THE CELL OF THE LAST IMAGE is the cell of the last accepted build after the steps since then
 pub mixed-images-are : (s : List ℕ) (qs : List (CCall CellCall)) → length s ≡ cellBytes → cellAt (imageAfter cellCalls s qs) ≡ cellOf (sinceBuildIn s qs)
@@ -98,8 +112,7 @@ start-passes (inl b ∷ qs) z h = go (eqb (cellBuilt (b .call) (b .image) .refus
     go true e f g = f (cell-build-passes (b .call) (b .image) (eqb-true (cellBuilt (b .call) (b .image) .refusal) 0 e))
     go false e f g = g
 start-passes (inr (inl q) ∷ qs) z h = start-passes qs (record { start = z .start; steps = z .steps ++ q ∷ [] }) h
-start-passes (inr (inr (inl r)) ∷ qs) z h = start-passes qs (record { start = z .start; steps = z .steps ++ turnsOf (cellOf z) r }) h
-start-passes (inr (inr (inr r)) ∷ qs) z h = start-passes qs (record { start = z .start; steps = z .steps ++ linesOf (cellOf z) r }) h
+start-passes (inr (inr r) ∷ qs) z h = start-passes qs (record { start = z .start; steps = z .steps ++ rowsOf (cellOf z) r }) h
 
 pub mixed-start-passes : (s : List ℕ) (qs : List (CCall CellCall)) → cellRefusal (cellAt s) ≡ 0 → cellRefusal (sinceBuildIn s qs .start) ≡ 0
 mixed-start-passes s qs h = start-passes (wellFormed cellCalls qs) (record { start = cellAt s; steps = [] }) h

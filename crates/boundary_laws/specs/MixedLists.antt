@@ -1,5 +1,5 @@
--- LISTS THAT MIX BUILDS, STEPS, RUNS AND REPLAYS of C. A build replaces the record; a run or a replay hands on the cell after its finished rows, also where it is refused after a
--- row; a refused call changes nothing. The record of the last image is the record after the same calls. Assumes nothing.
+-- LISTS THAT MIX BUILDS, STEPS, RUNS, REPLAYS AND CYCLES of C. A build replaces the record; a run, a replay or a cycle hands on the cell after its finished rows, also where it is
+-- refused after a row; a refused call changes nothing. The record of the last image is the record after the same calls. Assumes nothing.
 use Prim.Native.Nat.{ℕ}
 use mathlib.Core.Path.{_≡_}
 use mathlib.Core.Logic.{_⊎_}
@@ -16,18 +16,26 @@ use Rattle.boundary_laws.specs.StepLists.{ElectrolyteCall, DfnCall, part
 use Rattle.boundary_laws.specs.BuildLists.{Build, CellBuild, particleBuilds, cellBuilds, electrolyteBuilds, dfnBuilds, particle-builds-implement, cell-builds-implement, electrolyte-builds-implement, dfn-builds-implement}
 use Rattle.boundary_laws.specs.RunLists.{CellRun, DfnRun, cellRuns, dfnRuns, cell-runs-implement, dfn-runs-implement}
 use Rattle.boundary_laws.specs.ReplayLists.{CellReplay, cellReplays, cell-replays-implement}
+use Rattle.boundary_laws.specs.CycleLists.{CellCycle, cellCycles, cell-cycles-implement}
 use Rattle.image_layout.specs.Layout.{particleBytes, electrolyteBytes, cellBytes, dfnBytes}
 
 -- ---- lists of all of them
 abbrev pub particleCalls : Calls particleBytes particleIn (Build ⊎ PD.Call)
 particleCalls = orElse particleBuilds particleSteps
 
--- a call on a single-particle cell: a build, a step, a run or a replay
+-- a run of a single-particle cell, a replay or a cycle
+abbrev pub CellRows : Type 0
+CellRows = CellRun ⊎ (CellReplay ⊎ CellCycle)
+
+abbrev pub cellRows : Calls cellBytes cellAt CellRows
+cellRows = orElse cellRuns (orElse cellReplays cellCycles)
+
+-- a call on it: a build, a step or one of these
 abbrev pub CellCall : Type 0
-CellCall = CellBuild ⊎ (SD.Call ⊎ (CellRun ⊎ CellReplay))
+CellCall = CellBuild ⊎ (SD.Call ⊎ CellRows)
 
 abbrev pub cellCalls : Calls cellBytes cellAt CellCall
-cellCalls = orElse cellBuilds (orElse cellSteps (orElse cellRuns cellReplays))
+cellCalls = orElse cellBuilds (orElse cellSteps cellRows)
 
 abbrev pub electrolyteCalls : Calls electrolyteBytes electrolyteAt (Build ⊎ ElectrolyteCall)
 electrolyteCalls = orElse electrolyteBuilds electrolyteSteps
@@ -41,9 +49,8 @@ particle-calls-simulate = simulates particleCalls (both-implement particleBuilds
 
 pub cell-calls-simulate : (qs : List (CCall CellCall)) (s : List ℕ) → length s ≡ cellBytes → Simulates cellCalls s qs
 cell-calls-simulate =
-    let runs = both-implement cellRuns cellReplays cell-runs-implement cell-replays-implement in
-    let steps = both-implement cellSteps (orElse cellRuns cellReplays) cell-steps-implement runs in
-    simulates cellCalls (both-implement cellBuilds (orElse cellSteps (orElse cellRuns cellReplays)) cell-builds-implement steps)
+    let rows = both-implement cellRuns (orElse cellReplays cellCycles) cell-runs-implement (both-implement cellReplays cellCycles cell-replays-implement cell-cycles-implement) in
+    simulates cellCalls (both-implement cellBuilds (orElse cellSteps cellRows) cell-builds-implement (both-implement cellSteps cellRows cell-steps-implement rows))
 
 pub electrolyte-calls-simulate : (qs : List (CCall (Build ⊎ ElectrolyteCall))) (s : List ℕ) → length s ≡ electrolyteBytes → Simulates electrolyteCalls s qs
 electrolyte-calls-simulate = simulates electrolyteCalls (both-implement electrolyteBuilds electrolyteSteps electrolyte-builds-implement electrolyte-steps-implement)

@@ -20,8 +20,8 @@ use Rattle.boundary.specs.Runs as BR
 use Rattle.image_laws.specs.CellRuns.{replay-idle}
 use Rattle.image_laws.specs.AnswerLengths.{replay-length}
 use Rattle.image_laws.specs.ReadBack.{replay-read-back}
-use Rattle.boundary_laws.specs.CallLists.{Calls, Implements}
-use Rattle.boundary_laws.specs.RunLists.{no-row}
+use Rattle.boundary_laws.specs.CallLists.{Calls, Implements, writes-on-implements}
+use Rattle.boundary_laws.specs.RunLists.{runWrites, no-row}
 use Rattle.image_layout.specs.Layout.{cellBytes, cellRunBytes}
 
 -- ---- replays: the rows that are lent count only by their number of places
@@ -52,64 +52,43 @@ long-text : (c : SpmSolver) (q : CellReplay) → R.textFits (q .text) ≡ false 
 unfolding R.replayed R.replayRefusal N.firstRefusal N.refusalUnless
 long-text c q f = rw f
 
--- the lengths that are asked for
-formed-length : (x y : Bool) → x ≡ true → not x || y ≡ true → y ≡ true
-formed-length true y e h = h
-formed-length false y e h = absurd (subst T (sym e) tt)
-
-malformed-parts : (x y : Bool) → not x || y ≡ false → (x ≡ true) × (y ≡ false)
-malformed-parts true y h = (refl, h)
-malformed-parts false y h = absurd (subst T h tt)
-
-handed-text : (x y : Bool) → x && y ≡ true → x ≡ true
-handed-text true y h = refl
-handed-text false y h = h
-
 module _ (s : List ℕ) (q : CellReplay) (a : List ℕ) (l : length s ≡ cellBytes) where
-  replay-malformed : cellReplays .formed q a ≡ false → (cellReplays .returned s q a ≡ N.badLength) × (cellReplays .handed s q a ≡ false)
-  unfolding BR.replayReturn B.afterLengths
-  replay-malformed h =
-      let p = malformed-parts (R.textFits (q .text)) (eqb (length a) cellRunBytes) h in
-      (rw (p .0, eq-eqb (length s) cellBytes l, p .1), rw (p .0, eq-eqb (length s) cellBytes l, p .1))
+  replay-returned : cellReplays .returned s q a ≡ B.afterLengths (cellReplays .formed q a) (cellReplays .refusal (cellAt s) q)
+  unfolding BR.replayReturn CR.replayReturn B.afterLengths
+  replay-returned = go (R.textFits (q .text)) refl
+    where
+      go : (b : Bool) → R.textFits (q .text) ≡ b → cellReplays .returned s q a ≡ B.afterLengths (cellReplays .formed q a) (cellReplays .refusal (cellAt s) q)
+      go true f = rw (f, eq-eqb (length s) cellBytes l)
+      go false f = rw f (sym (ap (λ (r : RunOutcome). r .ended .refusal) (long-text (cellAt s) q f)))
 
-  module _ (h : cellReplays .formed q a ≡ true) where
-    -- with a text that is not too long the answer has its length
-    answer-long : R.textFits (q .text) ≡ true → eqb (length a) cellRunBytes ≡ true
-    answer-long f = formed-length (R.textFits (q .text)) (eqb (length a) cellRunBytes) f h
+  replay-handed : cellReplays .handed s q a ≡ cellReplays .formed q a && runWrites (replay (cellAt s) q)
+  replay-handed = go (R.textFits (q .text)) refl
+    where
+      go : (b : Bool) → R.textFits (q .text) ≡ b → cellReplays .handed s q a ≡ cellReplays .formed q a && runWrites (replay (cellAt s) q)
+      go true f = rw (f, eq-eqb (length s) cellBytes l)
+      go false f = rw f (sym (ap runWrites (long-text (cellAt s) q f)))
 
-    replay-returns : cellReplays .returned s q a ≡ cellReplays .refusal (cellAt s) q
-    unfolding BR.replayReturn CR.replayReturn B.afterLengths
-    replay-returns = go (R.textFits (q .text)) refl
+  module _ (e : cellReplays .formed q a ≡ true) (h : runWrites (replay (cellAt s) q) ≡ true) where
+    -- an answer that is written is that of a text that is not too long, so it has its length
+    answer-long : length a ≡ cellRunBytes
+    answer-long = go (R.textFits (q .text)) refl
       where
-        go : (b : Bool) → R.textFits (q .text) ≡ b → cellReplays .returned s q a ≡ cellReplays .refusal (cellAt s) q
-        go true f = rw (f, eq-eqb (length s) cellBytes l, answer-long f)
-        go false f = rw f (sym (ap (λ (r : RunOutcome). r .ended .refusal) (long-text (cellAt s) q f)))
+        go : (b : Bool) → R.textFits (q .text) ≡ b → length a ≡ cellRunBytes
+        go true f = eqb-true (length a) cellRunBytes (rw f at e)
+        go false f = absurd (subst T (sym h ∙ ap runWrites (long-text (cellAt s) q f)) tt)
 
-    replay-handed : R.textFits (q .text) ≡ true → cellReplays .handed s q a ≡ writesAnswer (replay (cellAt s) q .ended .refusal) (replay (cellAt s) q .rows)
-    replay-handed f = rw (f, eq-eqb (length s) cellBytes l, answer-long f)
+    replay-reads : cellAt (take cellBytes (cellReplays .left s q a)) ≡ cellReplays .next (cellAt s) q
+    replay-reads = replay-read-back s (q .text) (q .temp) (q .places) a l answer-long (rw h tt) .cell
 
-    module _ (w : cellReplays .handed s q a ≡ true) where
-      fits : R.textFits (q .text) ≡ true
-      fits = handed-text (R.textFits (q .text)) (B.lengths (length s) cellBytes (length a) cellRunBytes) (handed-text _ _ w)
+    replay-fills : length (take cellBytes (cellReplays .left s q a)) ≡ cellBytes
+    replay-fills =
+        let n = replay-length s (q .text) (q .temp) (q .places) a l answer-long (rw h tt) in
+        length-take-le cellBytes (cellReplays .left s q a) (rw n (lit≤ tt))
 
-      written : T (writesAnswer (replay (cellAt s) q .ended .refusal) (replay (cellAt s) q .rows))
-      written = rw (sym (replay-handed fits) ∙ w) tt
-
-      replay-reads : cellAt (take cellBytes (cellReplays .left s q a)) ≡ cellReplays .next (cellAt s) q
-      replay-reads = replay-read-back s (q .text) (q .temp) (q .places) a l (eqb-true (length a) cellRunBytes (answer-long fits)) written .cell
-
-      replay-fills : length (take cellBytes (cellReplays .left s q a)) ≡ cellBytes
-      replay-fills =
-          let n = replay-length s (q .text) (q .temp) (q .places) a l (eqb-true (length a) cellRunBytes (answer-long fits)) written in
-          length-take-le cellBytes (cellReplays .left s q a) (rw n (lit≤ tt))
-
-    replay-keeps : cellReplays .handed s q a ≡ false → cellReplays .next (cellAt s) q ≡ cellAt s
-    replay-keeps w = go (R.textFits (q .text)) refl
-      where
-        go : (b : Bool) → R.textFits (q .text) ≡ b → cellReplays .next (cellAt s) q ≡ cellAt s
-        go true f =
-            replay-idle (q .text) (q .temp) (cellAt s) (q .places) (no-row (replay (cellAt s) q .ended .refusal) (replay (cellAt s) q .rows) (sym (replay-handed f) ∙ w))
-        go false f = rw (long-text (cellAt s) q f)
+replay-keeps : (c : SpmSolver) (q : CellReplay) → runWrites (replay c q) ≡ false → cellReplays .next c q ≡ c
+replay-keeps c q h = replay-idle (q .text) (q .temp) c (q .places) (no-row (replay c q .ended .refusal) (replay c q .rows) h)
 
 pub cell-replays-implement : Implements cellReplays
-cell-replays-implement = record { malformed = replay-malformed; returns = replay-returns; reads = replay-reads; fills = replay-fills; keeps = replay-keeps }
+cell-replays-implement =
+    writes-on-implements cellReplays (λ c q. runWrites (replay c q))
+    (record { returned-is = replay-returned; handed-is = replay-handed; written-reads = replay-reads; written-fills = replay-fills; unwritten-keeps = replay-keeps })

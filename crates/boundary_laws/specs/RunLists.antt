@@ -1,6 +1,6 @@
 -- Runs of C, `pj_simulate_discharge` and `pj_run_galvanostatic`: one that returns 0 or has written a row hands on the cell after its finished rows. Assumes nothing.
 use Prim.Native.Nat.{ℕ}
-use mathlib.Core.Path.{_≡_, refl, sym, _∙_, subst}
+use mathlib.Core.Path.{_≡_, refl, subst}
 use mathlib.Core.Bool.{Bool, true, false, not, _&&_, _||_}
 use mathlib.Core.List.{List}
 use borrow.Author.Tests.{eq-eqb, eqb-true}
@@ -9,7 +9,6 @@ use lib.ListN.{length, take}
 use lib.Seq.{length-take-le}
 use lib.Ieee.{Float}
 use Rattle.binary64.specs.Operators.{f64}
-use Rattle.refusal.specs.Numbers as N
 use Rattle.runs.specs.RunAnswers.{writesAnswer}
 use Rattle.solver.specs.declared.SpmSolver.{SpmSolver}
 use Rattle.dfn.specs.declared.DfnSolver.{DfnSolver}
@@ -25,7 +24,7 @@ use Rattle.image_laws.specs.CellRuns.{run-idle}
 use Rattle.image_laws.specs.DfnRuns.{dfn-run-idle}
 use Rattle.image_laws.specs.AnswerLengths.{discharge-length, galvanostatic-length}
 use Rattle.image_laws.specs.ReadBack.{discharge-read-back, galvanostatic-read-back}
-use Rattle.boundary_laws.specs.CallLists.{Calls, Implements}
+use Rattle.boundary_laws.specs.CallLists.{Calls, Implements, writes-on-implements}
 use Rattle.image_layout.specs.Layout.{cellBytes, cellRunBytes, dfnBytes, dfnRunBytes}
 
 -- ---- runs: the rows that are lent count only by their number of places
@@ -70,6 +69,13 @@ dfnRuns = record {
 }
 
 -- ---- each run implements its definition
+-- whether a run writes its answer
+abbrev pub runWrites : DR.RunOutcome → Bool
+runWrites r = writesAnswer (r .ended .refusal) (r .rows)
+
+abbrev dfnRunWrites : GR.RunOutcome → Bool
+dfnRunWrites r = writesAnswer (r .ended .refusal) (r .rows)
+
 -- an answer that is not written is that of a run without a row
 pub no-row : (refusal rows : ℕ) → writesAnswer refusal rows ≡ false → rows ≡ 0
 no-row refusal rows h = go (eqb refusal 0) (eqb rows 0) refl h
@@ -80,62 +86,51 @@ no-row refusal rows h = go (eqb refusal 0) (eqb rows 0) refl h
     go true y e h = absurd (subst T h tt)
 
 module _ (s : List ℕ) (q : CellRun) (a : List ℕ) (l : length s ≡ cellBytes) where
-  module _ (e : eqb (length a) cellRunBytes ≡ false) where
-    cell-run-malformed : (cellRuns .returned s q a ≡ N.badLength) × (cellRuns .handed s q a ≡ false)
-    unfolding BR.dischargeReturn B.afterLengths
-    cell-run-malformed = (rw (eq-eqb (length s) cellBytes l, e), rw (eq-eqb (length s) cellBytes l, e))
+  cell-run-returned : cellRuns .returned s q a ≡ B.afterLengths (cellRuns .formed q a) (cellRuns .refusal (cellAt s) q)
+  unfolding BR.dischargeReturn CR.dischargeReturn
+  cell-run-returned = rw (eq-eqb (length s) cellBytes l)
 
-  module _ (e : eqb (length a) cellRunBytes ≡ true) where
-    cell-run-returns : cellRuns .returned s q a ≡ cellRuns .refusal (cellAt s) q
-    unfolding BR.dischargeReturn CR.dischargeReturn B.afterLengths
-    cell-run-returns = rw (eq-eqb (length s) cellBytes l, e)
+  cell-run-handed : cellRuns .handed s q a ≡ cellRuns .formed q a && runWrites (discharge (cellAt s) q)
+  cell-run-handed = rw (eq-eqb (length s) cellBytes l)
 
-    cell-run-handed : cellRuns .handed s q a ≡ writesAnswer (discharge (cellAt s) q .ended .refusal) (discharge (cellAt s) q .rows)
-    cell-run-handed = rw (eq-eqb (length s) cellBytes l, e)
+  module _ (e : cellRuns .formed q a ≡ true) (h : runWrites (discharge (cellAt s) q) ≡ true) where
+    cell-run-reads : cellAt (take cellBytes (cellRuns .left s q a)) ≡ cellRuns .next (cellAt s) q
+    cell-run-reads = discharge-read-back s (q .current) (q .dt) (q .temp) (q .limit) (q .places) a l (eqb-true (length a) cellRunBytes e) (rw h tt) .cell
 
-    cell-run-reads : cellRuns .handed s q a ≡ true → cellAt (take cellBytes (cellRuns .left s q a)) ≡ cellRuns .next (cellAt s) q
-    cell-run-reads h =
-        discharge-read-back s (q .current) (q .dt) (q .temp) (q .limit) (q .places) a l (eqb-true (length a) cellRunBytes e) (rw (sym cell-run-handed ∙ h) tt) .cell
-
-    cell-run-fills : cellRuns .handed s q a ≡ true → length (take cellBytes (cellRuns .left s q a)) ≡ cellBytes
-    cell-run-fills h =
-        let n = discharge-length s (q .current) (q .dt) (q .temp) (q .limit) (q .places) a l (eqb-true (length a) cellRunBytes e) (rw (sym cell-run-handed ∙ h) tt) in
+    cell-run-fills : length (take cellBytes (cellRuns .left s q a)) ≡ cellBytes
+    cell-run-fills =
+        let n = discharge-length s (q .current) (q .dt) (q .temp) (q .limit) (q .places) a l (eqb-true (length a) cellRunBytes e) (rw h tt) in
         length-take-le cellBytes (cellRuns .left s q a) (rw n (lit≤ tt))
 
-    cell-run-keeps : cellRuns .handed s q a ≡ false → cellRuns .next (cellAt s) q ≡ cellAt s
-    cell-run-keeps h =
-        run-idle (DR.runSettings (q .current) (q .dt) (q .temp) (q .limit)) (cellAt s) (q .places)
-        (no-row (discharge (cellAt s) q .ended .refusal) (discharge (cellAt s) q .rows) (sym cell-run-handed ∙ h))
+cell-run-keeps : (c : SpmSolver) (q : CellRun) → runWrites (discharge c q) ≡ false → cellRuns .next c q ≡ c
+cell-run-keeps c q h = run-idle (DR.runSettings (q .current) (q .dt) (q .temp) (q .limit)) c (q .places) (no-row (discharge c q .ended .refusal) (discharge c q .rows) h)
 
 pub cell-runs-implement : Implements cellRuns
-cell-runs-implement = record { malformed = cell-run-malformed; returns = cell-run-returns; reads = cell-run-reads; fills = cell-run-fills; keeps = cell-run-keeps }
+cell-runs-implement =
+    writes-on-implements cellRuns (λ c q. runWrites (discharge c q))
+    (record { returned-is = cell-run-returned; handed-is = cell-run-handed; written-reads = cell-run-reads; written-fills = cell-run-fills; unwritten-keeps = cell-run-keeps })
 
 module _ (s : List ℕ) (q : DfnRun) (a : List ℕ) (l : length s ≡ dfnBytes) where
-  module _ (e : eqb (length a) dfnRunBytes ≡ false) where
-    dfn-run-malformed : (dfnRuns .returned s q a ≡ N.badLength) × (dfnRuns .handed s q a ≡ false)
-    unfolding BR.galvanostaticReturn B.afterLengths
-    dfn-run-malformed = (rw (eq-eqb (length s) dfnBytes l, e), rw (eq-eqb (length s) dfnBytes l, e))
+  dfn-run-returned : dfnRuns .returned s q a ≡ B.afterLengths (dfnRuns .formed q a) (dfnRuns .refusal (I.cellAt s) q)
+  unfolding BR.galvanostaticReturn PR.galvanostaticReturn
+  dfn-run-returned = rw (eq-eqb (length s) dfnBytes l)
 
-  module _ (e : eqb (length a) dfnRunBytes ≡ true) where
-    dfn-run-returns : dfnRuns .returned s q a ≡ dfnRuns .refusal (I.cellAt s) q
-    unfolding BR.galvanostaticReturn PR.galvanostaticReturn B.afterLengths
-    dfn-run-returns = rw (eq-eqb (length s) dfnBytes l, e)
+  dfn-run-handed : dfnRuns .handed s q a ≡ dfnRuns .formed q a && dfnRunWrites (galvanostatic (I.cellAt s) q)
+  dfn-run-handed = rw (eq-eqb (length s) dfnBytes l)
 
-    dfn-run-handed : dfnRuns .handed s q a ≡ writesAnswer (galvanostatic (I.cellAt s) q .ended .refusal) (galvanostatic (I.cellAt s) q .rows)
-    dfn-run-handed = rw (eq-eqb (length s) dfnBytes l, e)
+  module _ (e : dfnRuns .formed q a ≡ true) (h : dfnRunWrites (galvanostatic (I.cellAt s) q) ≡ true) where
+    dfn-run-reads : I.cellAt (take dfnBytes (dfnRuns .left s q a)) ≡ dfnRuns .next (I.cellAt s) q
+    dfn-run-reads = galvanostatic-read-back s (q .bits) (q .dt) (q .limit) (q .places) a l (eqb-true (length a) dfnRunBytes e) (rw h tt) .cell
 
-    dfn-run-reads : dfnRuns .handed s q a ≡ true → I.cellAt (take dfnBytes (dfnRuns .left s q a)) ≡ dfnRuns .next (I.cellAt s) q
-    dfn-run-reads h = galvanostatic-read-back s (q .bits) (q .dt) (q .limit) (q .places) a l (eqb-true (length a) dfnRunBytes e) (rw (sym dfn-run-handed ∙ h) tt) .cell
-
-    dfn-run-fills : dfnRuns .handed s q a ≡ true → length (take dfnBytes (dfnRuns .left s q a)) ≡ dfnBytes
-    dfn-run-fills h =
-        let n = galvanostatic-length s (q .bits) (q .dt) (q .limit) (q .places) a l (eqb-true (length a) dfnRunBytes e) (rw (sym dfn-run-handed ∙ h) tt) in
+    dfn-run-fills : length (take dfnBytes (dfnRuns .left s q a)) ≡ dfnBytes
+    dfn-run-fills =
+        let n = galvanostatic-length s (q .bits) (q .dt) (q .limit) (q .places) a l (eqb-true (length a) dfnRunBytes e) (rw h tt) in
         length-take-le dfnBytes (dfnRuns .left s q a) (rw n (lit≤ tt))
 
-    dfn-run-keeps : dfnRuns .handed s q a ≡ false → dfnRuns .next (I.cellAt s) q ≡ I.cellAt s
-    dfn-run-keeps h =
-        dfn-run-idle (I.cellAt s) (f64 (q .bits)) (q .dt) (q .limit) (q .places)
-        (no-row (galvanostatic (I.cellAt s) q .ended .refusal) (galvanostatic (I.cellAt s) q .rows) (sym dfn-run-handed ∙ h))
+dfn-run-keeps : (d : DfnSolver) (q : DfnRun) → dfnRunWrites (galvanostatic d q) ≡ false → dfnRuns .next d q ≡ d
+dfn-run-keeps d q h = dfn-run-idle d (f64 (q .bits)) (q .dt) (q .limit) (q .places) (no-row (galvanostatic d q .ended .refusal) (galvanostatic d q .rows) h)
 
 pub dfn-runs-implement : Implements dfnRuns
-dfn-runs-implement = record { malformed = dfn-run-malformed; returns = dfn-run-returns; reads = dfn-run-reads; fills = dfn-run-fills; keeps = dfn-run-keeps }
+dfn-runs-implement =
+    writes-on-implements dfnRuns (λ d q. dfnRunWrites (galvanostatic d q))
+    (record { returned-is = dfn-run-returned; handed-is = dfn-run-handed; written-reads = dfn-run-reads; written-fills = dfn-run-fills; unwritten-keeps = dfn-run-keeps })

@@ -1,5 +1,8 @@
 // Steps and runs of a particle and of a single-particle cell on their images: each writes its answer's image and returns 0
 // or the number of a refusal.
+mod phases;
+
+use cycle_run::CycleSettings;
 use discharge_run::CellRun;
 use image_layout::CELL_ANODE;
 use image_layout::CELL_ANODE_PROFILE;
@@ -17,7 +20,8 @@ ghost use mathlib.Core.Path.{_≡_};
 ghost use lib.ListN.{length};
 ghost use Rattle.cell_calls.specs.Steps.{particleReturn, particleAfter, putStepped, cellReturn, cellAfter};
 ghost use Rattle.discharge_run.specs.Discharge.{runOutcome};
-ghost use Rattle.cell_calls.specs.Runs.{runWritten, dischargeReturn, dischargeRows, dischargeAfter, replayReturn, replayRows, replayAfter};
+ghost use Rattle.cycle_run.specs.Cycle.{cycleSettings};
+ghost use Rattle.cell_calls.specs.Runs.{runWritten, dischargeReturn, dischargeRows, dischargeAfter, replayReturn, replayRows, replayAfter, cycleReturn, cycleRows, cycleAfter};
 
 // A step of a particle.
 pub fn particle_step(particle: &[u8], j_n: f64, dt: f64, temp_k: f64, answer: &mut [u8]) -> u64
@@ -128,4 +132,36 @@ pub fn replay(cell: &[u8], text: &[u8], temp_k: f64, rows: &mut [f64], answer: &
 {
     let run = replay_run::replay(cell_images::cell_at(cell), text, temp_k, rows);
     put_run(answer, run)
+}
+
+// A cycle of phases on a single-particle cell; its answer as in a run. A kind of phase that is not listed is 2, after 1 and the rows' 10.
+pub fn cycle(
+    cell: &[u8],
+    phases: &[u8],
+    count: usize,
+    repeats: usize,
+    budget: usize,
+    dt: f64,
+    temp_k: f64,
+    rows: &mut [f64],
+    answer: &mut [u8],
+) -> u64
+    ensures number { λ r. ⌜ r ≡ cycleReturn (now (cell .entry)) (now (phases .entry)) (cycleSettings count repeats budget dt «temp_k») (length (now (rows .entry))) ⌝ }
+    ensures rows { λ _. ⌜ now (rows .exit) ≡ cycleRows (now (cell .entry)) (now (phases .entry)) (cycleSettings count repeats budget dt «temp_k») (now (rows .entry)) ⌝ }
+    ensures written { λ _. ⌜ now (answer .exit) ≡ cycleAfter (now (cell .entry)) (now (phases .entry)) (cycleSettings count repeats budget dt «temp_k») (length (now (rows .entry))) (now (answer .entry)) ⌝ }
+{
+    let s = cell_images::cell_at(cell);
+    if phases::kinds_fit(phases, count) {
+        let list = phases::phases_at(phases);
+        let run = cycle_run::cycle(s, list, count, repeats, budget, dt, temp_k, rows);
+        return put_run(answer, run);
+    }
+    let g = CycleSettings {
+        count,
+        repeats,
+        budget,
+        dt,
+        temp_k,
+    };
+    refusal::first_refusal(cycle_run::counts_refusal(g, s, rows.len()), refusal::SHEET)
 }

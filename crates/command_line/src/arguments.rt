@@ -100,6 +100,17 @@ pub fn first_place(first: &[u8]) -> usize
     plain_text::either(names_cell(first), 2, 1)
 }
 
+// Says what is wrong with an argument, and gives numbers that no other argument changes.
+pub fn refused(st: Settings, word: &[u8], fault: &[u8]) -> Settings {
+    say(ERR, b"'");
+    say(ERR, word);
+    say(ERR, b"': ");
+    say(ERR, fault);
+    say(ERR, b"\n");
+    let values = st.values;
+    fresh(values, OTHER_FAULT)
+}
+
 // Takes argument i, unless a fault was met before; an empty one, or one that is too long, is a fault too.
 pub fn take_argument(st: Settings, i: usize, word: &[u8], program: &[u8]) -> Settings {
     if st.fault != 0 {

@@ -58,7 +58,11 @@ pub fn write_limits(v: [f64; NONE]) {
 pub fn write_ending(ending: Ending) {
     say(OUT, b"# ended by ");
     let number = runs::ending_number(ending);
-    entry(OUT, b"|voltage|time|a full table||done|", number as usize);
+    entry(
+        OUT,
+        b"|voltage|time|a full table||done|a spent budget|",
+        number as usize,
+    );
     if number == runs::REFUSED {
         say_refusal(OUT, runs::ending_refusal(ending));
     }

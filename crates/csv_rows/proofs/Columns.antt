@@ -8,13 +8,13 @@ use Rattle.decimal_spelling.proofs.Turns.{put-append}
 use Rattle.csv_rows.specs.Row.{numberAt, separatorOf, columnsBy}
 
 pub column-turn :
-    (w w1 w2 w3 : Written) (rows : List Float) (row k : ℕ)
-    → w1 ≡ putAll w (columnsBy k rows row) → w2 ≡ putAll w1 (spelling (numberAt rows row k)) → w3 ≡ putByte w2 (separatorOf k)
-    → w3 ≡ putAll w (columnsBy (suc k) rows row)
+    (w w1 w2 w3 : Written) (rows : List Float) (row last k : ℕ)
+    → w1 ≡ putAll w (columnsBy k rows row last) → w2 ≡ putAll w1 (spelling (numberAt rows row k)) → w3 ≡ putByte w2 (separatorOf last k)
+    → w3 ≡ putAll w (columnsBy (suc k) rows row last)
 unfolding columnsBy putAll
-column-turn w w1 w2 w3 rows row k e1 e2 e3 =
+column-turn w w1 w2 w3 rows row last k e1 e2 e3 =
     e3
     ∙ rw (e2, e1)
     (sym
-    (put-append w (columnsBy k rows row) (spelling (numberAt rows row k) ++ separatorOf k ∷ [])
-    ∙ put-append (putAll w (columnsBy k rows row)) (spelling (numberAt rows row k)) (separatorOf k ∷ [])))
+    (put-append w (columnsBy k rows row last) (spelling (numberAt rows row k) ++ separatorOf last k ∷ [])
+    ∙ put-append (putAll w (columnsBy k rows row last)) (spelling (numberAt rows row k)) (separatorOf last k ∷ [])))

@@ -22,31 +22,31 @@ fn field(k: usize) -> usize
     k - 1
 }
 
-fn number_at(rows: &[f64; 80000], row: usize, k: usize) -> f64
+fn number_at(rows: &[f64], row: usize, k: usize) -> f64
     requires { ⌜ k < 8 ⌝ }
     ensures { λ r. ⌜ r ≡ numberAt (now (rows .entry)) row k ⌝ }
 {
     let f = field(k);
-    if row < 10000 {
+    if row < rows.len() / 8 {
         return rows[row * 8 + f];
     }
     0.0
 }
 
-fn separator(k: usize) -> u8
-    ensures { λ r. ⌜ r ≡ separatorOf k ⌝ }
+fn separator(k: usize, last: u8) -> u8
+    ensures { λ r. ⌜ r ≡ separatorOf last k ⌝ }
 {
-    if k == 7 { b'\n' } else { b',' }
+    if k == 7 { last } else { b',' }
 }
 
-// Puts the line of a row, with its end, and says how many bytes it has.
-pub fn put_row(line: &mut [u8; 4096], rows: &[f64; 80000], row: usize) -> usize
-    ensures { λ r. ⌜ written (now (line .exit)) r ≡ putAll (written (now (line .entry)) 0) (columnsBy 8 (now (rows .entry)) row) ⌝ }
+// Puts the line of a row, with the byte behind its last column, and says how many bytes it has.
+pub fn put_row(line: &mut [u8; 4096], rows: &[f64], row: usize, last: u8) -> usize
+    ensures { λ r. ⌜ written (now (line .exit)) r ≡ putAll (written (now (line .entry)) 0) (columnsBy 8 (now (rows .entry)) row last) ⌝ }
 {
     let mut used: usize = 0;
     for k in 0..8 {
         let end = decimal_spelling::put_number(line, used, number_at(rows, row, k));
-        used = decimal_spelling::put(line, end, separator(k));
+        used = decimal_spelling::put(line, end, separator(k, last));
     }
     used
 }
@@ -70,18 +70,24 @@ pub fn write_line(fd: i32, line: &[u8; 4096], used: usize) {
     }
 }
 
-fn write_row(rows: &[f64; 80000], row: usize) {
+fn write_row(rows: &[f64], row: usize) {
     let mut line = [0u8; 4096];
-    let used = put_row(&mut line, rows, row);
+    let used = put_row(&mut line, rows, row, b'\n');
     write_line(OUT, &line, used);
 }
 
-// Writes the names of the columns with their units, and a line for each row, to standard output.
-pub fn write_rows(rows: &[f64; 80000], count: usize) {
+// Writes the names of the columns with their units, and what follows in that line, to standard output.
+pub fn write_header(end: &[u8]) {
     io::write_all(
         OUT,
-        b"time [s],voltage [V],current [A],theta_neg [1],theta_pos [1],theta_neg_avg [1],theta_pos_avg [1],cutoff [1]\n",
+        b"time [s],voltage [V],current [A],theta_neg [1],theta_pos [1],theta_neg_avg [1],theta_pos_avg [1],cutoff [1]",
     );
+    io::write_all(OUT, end);
+}
+
+// Writes the names of the columns, and a line for each row.
+pub fn write_rows(rows: &[f64], count: usize) {
+    write_header(b"\n");
     for i in 0..count {
         write_row(rows, i);
     }

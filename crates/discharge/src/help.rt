@@ -11,5 +11,5 @@ pub(crate) fn write_help() {
         OUT,
         b"Discharges a cell at a constant current and writes its rows as CSV. The names, what each starts from for nmc, and its range:\n\n",
     );
-    setting_messages::write_names(false);
+    setting_messages::write_names(false, false);
 }

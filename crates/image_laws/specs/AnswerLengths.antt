@@ -11,10 +11,12 @@ use Rattle.binary64.specs.Operators.{f64}
 use Rattle.runs.specs.RunAnswers.{writesAnswer}
 use Rattle.discharge_run.specs.Discharge as DR
 use Rattle.replay_run.specs.Replay as R
+use Rattle.cycle_run.specs.declared.CycleSettings.{CycleSettings}
 use Rattle.galvanostatic_run.specs.Galvanostatic as GR
 use Rattle.cell_images.specs.Images.{cellAt}
 use Rattle.dfn_images.specs.Images as I
 use Rattle.cell_calls.specs.Steps as CS
+use Rattle.cell_calls.specs.Runs as CR
 use Rattle.dfn_calls.specs.Steps as PS
 use Rattle.image_builds.specs.Builds.{newReturn, newAfter, buildLength, builtLength}
 use Rattle.boundary.specs.Calls as B
@@ -22,13 +24,13 @@ use Rattle.boundary.specs.Runs as BR
 use Rattle.image_laws.specs.Accepted.{accepted}
 use Rattle.image_laws.specs.Encodable.{literal}
 use Rattle.image_laws.specs.CellSteps.{particle-answer, cell-answer}
-use Rattle.image_laws.specs.CellRuns.{discharge-held, replay-held}
+use Rattle.image_laws.specs.CellRuns.{discharge-held, replay-held, cycle-held}
 use Rattle.image_laws.specs.CellBuilds.{particle-built, cell-build-return, cell-build-after, cell-built}
 use Rattle.image_laws.specs.ElectrolyteSteps.{electrolyte-answer}
 use Rattle.image_laws.specs.DfnSteps.{dfn-answer}
 use Rattle.image_laws.specs.DfnRuns.{dfn-run-answer}
 use Rattle.image_laws.specs.DfnBuilds.{electrolyte-built, dfn-built}
-use Rattle.image_layout.specs.Layout.{particleBytes, electrolyteBytes, cellBytes, cellRunBytes, cellStepBytes, dfnBytes, dfnRunBytes, dfnStepBytes, newParticleBytes, regionsBytes, newDfnBytes}
+use Rattle.image_layout.specs.Layout.{particleBytes, electrolyteBytes, cellBytes, cellRunBytes, cellStepBytes, phasesBytes, dfnBytes, dfnRunBytes, dfnStepBytes, newParticleBytes, regionsBytes, newDfnBytes}
 
 -- ---- steps
 pub particle-step-length : (s : List ℕ) (j dt t : Float) (a : List ℕ) → B.particleReturn s j dt t (length a) ≡ 0 → length (B.particleAfter s j dt t a) ≡ particleBytes
@@ -65,6 +67,10 @@ discharge-length s i dt t limit places a m n h = discharge-held s i dt t limit p
 pub replay-length : (s text : List ℕ) (t : Float) (places : ℕ) (a : List ℕ) → length s ≡ cellBytes → length a ≡ cellRunBytes
     → T (writesAnswer (R.replayed text t (cellAt s) places .ended .refusal) (R.replayed text t (cellAt s) places .rows)) → length (BR.replayAfter s text t places a) ≡ cellRunBytes
 replay-length s text t places a m n h = replay-held s text t places a m n h .cell .size ∙ n
+
+pub cycle-length : (s phases : List ℕ) (g : CycleSettings) (places : ℕ) (a : List ℕ) → length s ≡ cellBytes → length phases ≡ phasesBytes → length a ≡ cellRunBytes
+    → T (writesAnswer (CR.cycledFrom phases g (cellAt s) places .ended .refusal) (CR.cycledFrom phases g (cellAt s) places .rows)) → length (BR.cycleAfter s phases g places a) ≡ cellRunBytes
+cycle-length s phases g places a m p n h = cycle-held s phases g places a m p n h .cell .size ∙ n
 
 pub galvanostatic-length : (s : List ℕ) (bits : ℕ) (dt limit : Float) (places : ℕ) (a : List ℕ) → length s ≡ dfnBytes → length a ≡ dfnRunBytes
     → T (writesAnswer (GR.galvanostatic (I.cellAt s) (f64 bits) dt limit places .ended .refusal) (GR.galvanostatic (I.cellAt s) (f64 bits) dt limit places .rows))

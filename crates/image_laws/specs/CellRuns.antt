@@ -1,33 +1,40 @@
--- The answer of a run of a single-particle cell, or of the replay of a recorded load on it, where it is written, is read back as the cell after the run, its ending and its
--- count of rows. Assumes nothing.
+-- The answer of a run of a single-particle cell, of the replay of a recorded load or of a cycle of phases on it, where it is written, is read back as the cell after the run, its
+-- ending and its count of rows. Assumes nothing.
 use Prim.Native.Nat.{ℕ, zero, suc, _≤_, _<_, _+_, _/_, _^_}
 use mathlib.Core.Path.{_≡_, refl, ap, _∙_}
 use mathlib.Core.Bool.{true, cond}
 use mathlib.Core.List.{List, [], _∷_}
 use native.Mathlib.Omega.{arith}
 use native.Mathlib.Nat.{zero-lt-suc, le-refl}
-use borrow.Author.Tests.{eq-eqb}
+use borrow.Author.Tests.{eq-eqb, ne-eqb}
 use lib.Dec.{T, lit≤, eqb, eqb·suc-zero}
 use lib.ListN.{length, replicate}
 use lib.Ieee.{Float}
 use lib.Ieee.Bits.{is-true}
 use Rattle.matrix_rows.specs.Loops.{either}
-use Rattle.refusal.specs.Numbers.{file, neither-refused, passed}
+use Rattle.refusal.specs.Numbers.{sheet, file, firstRefusal, neither-refused, passed}
 use Rattle.runs.specs.RunAnswers.{writesAnswer}
 use Rattle.runs.specs.Rows.{runAfter}
 use Rattle.solver.specs.declared.SpmSolver.{SpmSolver}
+use Rattle.solver.specs.Cell.{cellRefusal}
 use Rattle.solver.specs.Step.{stepped}
 use Rattle.solver_laws.specs.Demand.{Call, answer, cellAfter}
 use Rattle.solver_laws.specs.RunLists.{callOf, callsOf, run-is-list, run-passes}
 use Rattle.solver_laws.specs.ReplayCalls as RC
 use Rattle.solver_laws.specs.ReplayLists.{replay-is-list, replay-room, replay-passes}
+use Rattle.solver_laws.specs.CycleCalls as YC
+use Rattle.solver_laws.specs.CycleLists.{cycle-is-list, cycle-room, cycle-passes}
 use Rattle.discharge_run.specs.declared.RunSettings.{RunSettings}
 use Rattle.discharge_run.specs.declared.RunState.{RunState}
 use Rattle.discharge_run.specs.Discharge.{RunOutcome, runSettings, started, followed, turned, overOf, lastRow, finishedRun, allTurns, runRefusal, refusedRun, discharged}
 use Rattle.replay_run.specs.Replay as R
+use Rattle.cycle_run.specs.declared.phases.Phase.{Phase}
+use Rattle.cycle_run.specs.declared.CycleSettings.{CycleSettings}
+use Rattle.cycle_run.specs.Cycle as Y
 use Rattle.codec.specs.Words.{wordAt}
 use Rattle.image_rows.specs.Written.{putEnding}
 use Rattle.cell_images.specs.Images.{cellAt, putCell}
+use Rattle.cell_calls.specs.Phases.{kindsFit, phasesAt}
 use Rattle.cell_calls.specs.Runs as CR
 use Rattle.cell_calls.specs.Runs.{runWritten}
 use Rattle.boundary.specs.Runs as BR
@@ -36,7 +43,7 @@ use Rattle.image_laws.specs.CellImages.{EncodableCell, writes-cell, cell
 use Rattle.image_laws.specs.Reports.{writes-ending, ending-read-back, rows-read-back}
 use Rattle.image_laws.specs.CellEncodable.{cellAt-encodable, step-encodable}
 use Rattle.image_laws.specs.Turns.{run-rows, ending-most}
-use Rattle.image_layout.specs.Layout.{cellBytes, cellRunBytes, cellEnding}
+use Rattle.image_layout.specs.Layout.{cellBytes, cellRunBytes, phasesBytes, cellEnding}
 
 -- ---- what a run makes of its cell: it is a list of calls
 after-encodable : (qs : List Call) (s : SpmSolver) → EncodableCell s → EncodableCell (cellAfter s qs)
@@ -49,11 +56,22 @@ inputs-passed : (k : ℕ) (x : RunOutcome) (s : SpmSolver) → T (writesAnswer (
 inputs-passed zero x s t = refl
 inputs-passed (suc k) x s t = absurd (rw (eqb·suc-zero k, eqb·suc-zero k) at t)
 
--- what can be written: a cell that can be encoded, an ending, and no more rows than places
-record Writable (r : RunOutcome) (places : ℕ) : Type 0 where
-  cell : EncodableCell (r .solver)
-  ending : r .ended .ending ≤ 5
+-- and its ending is that of a refusal, else that of its turns
+whole-ending : (k : ℕ) (x : RunOutcome) (s : SpmSolver) → x .ended .ending ≤ 6 → cond (eqb k 0) x (refusedRun k s) .ended .ending ≤ 6
+whole-ending k x s h = either (λ (y : RunOutcome). y .ended .ending ≤ 6) (eqb k 0) x (refusedRun k s) h (lit≤ tt)
+
+-- what is to be shown of a run r on the cell c: it is a list of calls, on a cell that passes the checks where its answer is written, and has no more rows than places
+record RunOn (c : SpmSolver) (r : RunOutcome) (places : ℕ) : Type 0 where
+  calls : List Call
+  is-list : r .solver ≡ cellAfter c calls
+  passes : T (writesAnswer (r .ended .refusal) (r .rows)) → cellRefusal c ≡ 0
+  ending : r .ended .ending ≤ 6
   rows : r .rows ≤ places
+
+-- one that is refused as a whole
+refused-on : (k : ℕ) (c : SpmSolver) (places : ℕ) → (k ≡ 0 → ⊥) → RunOn c (refusedRun k c) places
+unfolding cellAfter
+refused-on k c places n = record { calls = []; is-list = refl; passes = λ t. absurd (rw (ne-eqb k 0 n) at t); ending = lit≤ tt; rows = omega arith }
 
 -- ---- a constant current
 module _ (w : RunSettings) where
@@ -72,20 +90,14 @@ module _ (w : RunSettings) where
       let n : runAfter overOf (turned w) lastRow (places / 8) (started w s) .rows ≤ 0 + places / 8 = run-rows overOf (turned w) lastRow (λ (r : RunState). r .rows) turned-rows (places / 8) (started w s) in
       either (λ (x : RunOutcome). x .rows ≤ places) (eqb (runRefusal w s places) 0) (allTurns w (started w s) (places / 8)) (refusedRun (runRefusal w s places) s) (omega (arith, n)) (omega arith)
 
-  run-ending : (s : SpmSolver) (places : ℕ) → discharged w s places .ended .ending ≤ 5
+  run-on : (s : SpmSolver) (places : ℕ) → RunOn s (discharged w s places) places
   unfolding discharged allTurns finishedRun
-  run-ending s places =
-      either (λ (x : RunOutcome). x .ended .ending ≤ 5) (eqb (runRefusal w s places) 0) (allTurns w (started w s) (places / 8)) (refusedRun (runRefusal w s places) s) (ending-most _ _) (lit≤ tt)
-
-  run-inputs : (s : SpmSolver) (places : ℕ) → T (writesAnswer (discharged w s places .ended .refusal) (discharged w s places .rows)) → runRefusal w s places ≡ 0
-  unfolding discharged
-  run-inputs s places h = inputs-passed (runRefusal w s places) (allTurns w (started w s) (places / 8)) s h
-
-  run-writable : (s : List ℕ) (places : ℕ) → T (writesAnswer (discharged w (cellAt s) places .ended .refusal) (discharged w (cellAt s) places .rows)) → Writable (discharged w (cellAt s) places) places
-  run-writable s places h = record {
-    cell = rw (run-is-list w (cellAt s) places) (after-encodable (callsOf w (cellAt s) places) (cellAt s) (cellAt-encodable s (run-passes w (cellAt s) places (run-inputs (cellAt s) places h))));
-    ending = run-ending (cellAt s) places;
-    rows = rows-most (cellAt s) places;
+  run-on s places = record {
+    calls = callsOf w s places;
+    is-list = run-is-list w s places;
+    passes = λ t. run-passes w s places (inputs-passed (runRefusal w s places) (allTurns w (started w s) (places / 8)) s t);
+    ending = whole-ending (runRefusal w s places) (allTurns w (started w s) (places / 8)) s (ending-most _ _);
+    rows = rows-most s places;
   }
 
 -- ---- a recorded load
@@ -95,12 +107,6 @@ module _ (text : List ℕ) (t : Float) where
   unfolding cellAfter RC.callsOf
   replay-idle s places h = replay-is-list text t s places ∙ ap (λ (k : ℕ). cellAfter s (RC.callsOf text t k)) h
 
-  replay-ending : (s : SpmSolver) (places : ℕ) → R.replayed text t s places .ended .ending ≤ 5
-  unfolding R.replayed R.allTurns R.finishedReplay
-  replay-ending s places =
-      either (λ (x : RunOutcome). x .ended .ending ≤ 5) (eqb (R.replayRefusal text s t places) 0) (R.allTurns text t (R.started text s) (places / 8)) (refusedRun (R.replayRefusal text s t places) s)
-      (ending-most _ _) (lit≤ tt)
-
   replay-inputs : (s : SpmSolver) (places : ℕ) → T (writesAnswer (R.replayed text t s places .ended .refusal) (R.replayed text t s places .rows)) → R.replayRefusal text s t places ≡ 0
   unfolding R.replayed
   replay-inputs s places h = inputs-passed (R.replayRefusal text s t places) (R.allTurns text t (R.started text s) (places / 8)) s h
@@ -109,15 +115,50 @@ module _ (text : List ℕ) (t : Float) where
   unfolding R.replayRefusal
   replay-text s places h = is-true (R.textFits text) (passed (R.textFits text) file (zero-lt-suc 11) (neither-refused _ _ h .0))
 
-  replay-writable : (s : List ℕ) (places : ℕ) → T (writesAnswer (R.replayed text t (cellAt s) places .ended .refusal) (R.replayed text t (cellAt s) places .rows))
-      → Writable (R.replayed text t (cellAt s) places) places
-  replay-writable s places h = record {
-    cell =
-        rw (replay-is-list text t (cellAt s) places)
-        (after-encodable (RC.callsOf text t (R.replayed text t (cellAt s) places .rows)) (cellAt s) (cellAt-encodable s (replay-passes text t (cellAt s) places (replay-inputs (cellAt s) places h))));
-    ending = replay-ending (cellAt s) places;
-    rows = let n = replay-room text t (cellAt s) places in omega (arith, n);
+  replay-on : (s : SpmSolver) (places : ℕ) → RunOn s (R.replayed text t s places) places
+  unfolding R.replayed R.allTurns R.finishedReplay
+  replay-on s places = record {
+    calls = RC.callsOf text t (R.replayed text t s places .rows);
+    is-list = replay-is-list text t s places;
+    passes = λ h. replay-passes text t s places (replay-inputs s places h);
+    ending = whole-ending (R.replayRefusal text s t places) (R.allTurns text t (R.started text s) (places / 8)) s (ending-most _ _);
+    rows = let n = replay-room text t s places in omega (arith, n);
   }
+
+-- ---- phases
+cycled-on : (l : List Phase) (g : CycleSettings) (c : SpmSolver) (places : ℕ) → RunOn c (Y.cycled l g c places) places
+unfolding Y.cycled Y.allTurns Y.finishedCycle
+cycled-on l g c places = record {
+  calls = YC.callsOf l g c (Y.cycled l g c places .rows);
+  is-list = cycle-is-list l g c places;
+  passes = λ t. cycle-passes l g c places (inputs-passed (Y.cycleRefusal l g c places) (Y.allTurns g (Y.startOf l g c)) c t);
+  ending = whole-ending (Y.cycleRefusal l g c places) (Y.allTurns g (Y.startOf l g c)) c (ending-most _ _);
+  rows = let n = cycle-room l g c places in omega (arith, n);
+}
+
+-- in an image, where a kind that is not listed refuses the whole
+module _ (phases : List ℕ) (g : CycleSettings) (c : SpmSolver) (places : ℕ) where
+  abbrev kindRefusal : ℕ
+  kindRefusal = firstRefusal (Y.countsRefusal g c places) sheet
+
+  either-cycle : (P : RunOutcome → Type 0) → P (Y.cycled (phasesAt phases) g c places) → P (refusedRun kindRefusal c) → P (CR.cycledFrom phases g c places)
+  unfolding CR.cycledFrom
+  either-cycle P = either P (kindsFit phases (g .count)) (Y.cycled (phasesAt phases) g c places) (refusedRun kindRefusal c)
+
+  -- THE CELL THAT A CYCLE LEAVES is the cell after one call of `step` for each row, as that of the phases in the image
+  pub image-cycle-is-list : CR.cycledFrom phases g c places .solver ≡ cellAfter c (YC.callsOf (phasesAt phases) g c (CR.cycledFrom phases g c places .rows))
+  unfolding cellAfter YC.madeBy
+  image-cycle-is-list = either-cycle (λ (r : RunOutcome). r .solver ≡ cellAfter c (YC.callsOf (phasesAt phases) g c (r .rows))) (cycle-is-list (phasesAt phases) g c places) refl
+
+  -- a cycle without a row leaves the cell
+  pub cycle-idle : CR.cycledFrom phases g c places .rows ≡ 0 → CR.cycledFrom phases g c places .solver ≡ c
+  unfolding cellAfter YC.madeBy
+  cycle-idle h = image-cycle-is-list ∙ ap (λ (k : ℕ). cellAfter c (YC.callsOf (phasesAt phases) g c k)) h
+
+  cycle-on : RunOn c (CR.cycledFrom phases g c places) places
+  cycle-on =
+      let n : kindRefusal ≡ 0 → ⊥ = λ z. (let y = neither-refused _ _ z .1 in omega (arith, y)) in
+      either-cycle (λ (r : RunOutcome). RunOn c r places) (cycled-on (phasesAt phases) g c places) (refused-on kindRefusal c places n)
 
 -- ---- the answer
 -- what bytes after the answer a hold of a run
@@ -126,22 +167,25 @@ pub record RunHeld (b a : List ℕ) (r : RunOutcome) (places : ℕ) : Type 0 whe
   pub ending : wordAt b cellEnding ≡ r .ended .ending
   pub rows : places < 2 ^ 64 → wordAt b (cellEnding + 1) ≡ r .rows
 
-module _ (r : RunOutcome) (places : ℕ) (a : List ℕ) (l : length a ≡ cellRunBytes) (h : T (writesAnswer (r .ended .refusal) (r .rows))) (w : Writable r places) where
+module _ (s : List ℕ) (r : RunOutcome) (places : ℕ) (d : RunOn (cellAt s) r places) (a : List ℕ) (l : length a ≡ cellRunBytes) (h : T (writesAnswer (r .ended .refusal) (r .rows))) where
   abbrev new : List ℕ
   new = putCell a (r .solver)
+
+  encodable : EncodableCell (r .solver)
+  encodable = rw (d .is-list) (after-encodable (d .calls) (cellAt s) (cellAt-encodable s (d .passes h)))
 
   answer-is : runWritten r a ≡ putEnding new cellEnding (r .ended .ending) (r .rows)
   unfolding runWritten
   answer-is = rw (is-true (writesAnswer (r .ended .refusal) (r .rows)) h)
 
   room : cellRunBytes ≤ length new
-  room = rw (writes-cell a (r .solver) (w .cell) .size ∙ l) (lit≤ tt)
+  room = rw (writes-cell a (r .solver) encodable .size ∙ l) (lit≤ tt)
 
   run-held : RunHeld (runWritten r a) a r places
   run-held = rw answer-is (record {
-    cell = holds cell-layout a (r .solver) (w .cell) (rw l (lit≤ tt)) (putEnding new cellEnding (r .ended .ending) (r .rows)) (cellEnding + 2) (writes-ending new cellEnding (r .ended .ending) (r .rows));
-    ending = let m = w .ending in ending-read-back new cellEnding (r .ended .ending) (r .rows) room (omega (arith, m));
-    rows = λ n. let m = w .rows in rows-read-back new cellEnding (r .ended .ending) (r .rows) room (omega (arith, m, n));
+    cell = holds cell-layout a (r .solver) encodable (rw l (lit≤ tt)) (putEnding new cellEnding (r .ended .ending) (r .rows)) (cellEnding + 2) (writes-ending new cellEnding (r .ended .ending) (r .rows));
+    ending = let m = d .ending in ending-read-back new cellEnding (r .ended .ending) (r .rows) room (omega (arith, m));
+    rows = λ n. let m = d .rows in rows-read-back new cellEnding (r .ended .ending) (r .rows) room (omega (arith, m, n));
   })
 
 -- of `pj_simulate_discharge`
@@ -151,7 +195,7 @@ pub discharge-held : (s : List ℕ) (i dt t limit : Float) (places : ℕ) (a : L
 unfolding BR.dischargeAfter CR.dischargeAfter
 discharge-held s i dt t limit places a m n h =
     rw (eq-eqb (length s) cellBytes m, eq-eqb (length a) cellRunBytes n)
-    (run-held (discharged (runSettings i dt t limit) (cellAt s) places) places a n h (run-writable (runSettings i dt t limit) s places h))
+    (run-held s (discharged (runSettings i dt t limit) (cellAt s) places) places (run-on (runSettings i dt t limit) (cellAt s) places) a n h)
 
 -- of `pj_replay`
 pub replay-held : (s text : List ℕ) (t : Float) (places : ℕ) (a : List ℕ) → length s ≡ cellBytes → length a ≡ cellRunBytes
@@ -160,4 +204,13 @@ pub replay-held : (s text : List ℕ) (t : Float) (places : ℕ) (a : List ℕ) 
 unfolding BR.replayAfter CR.replayAfter
 replay-held s text t places a m n h =
     rw (replay-text text t (cellAt s) places (replay-inputs text t (cellAt s) places h), eq-eqb (length s) cellBytes m, eq-eqb (length a) cellRunBytes n)
-    (run-held (R.replayed text t (cellAt s) places) places a n h (replay-writable text t s places h))
+    (run-held s (R.replayed text t (cellAt s) places) places (replay-on text t (cellAt s) places) a n h)
+
+-- of `pj_cycle`
+pub cycle-held : (s phases : List ℕ) (g : CycleSettings) (places : ℕ) (a : List ℕ) → length s ≡ cellBytes → length phases ≡ phasesBytes → length a ≡ cellRunBytes
+    → T (writesAnswer (CR.cycledFrom phases g (cellAt s) places .ended .refusal) (CR.cycledFrom phases g (cellAt s) places .rows))
+    → RunHeld (BR.cycleAfter s phases g places a) a (CR.cycledFrom phases g (cellAt s) places) places
+unfolding BR.cycleAfter CR.cycleAfter
+cycle-held s phases g places a m p n h =
+    rw (eq-eqb (length s) cellBytes m, eq-eqb (length phases) phasesBytes p, eq-eqb (length a) cellRunBytes n)
+    (run-held s (CR.cycledFrom phases g (cellAt s) places) places (cycle-on phases g (cellAt s) places) a n h)

@@ -95,9 +95,9 @@ module _ (d : DfnSolver) (i dt limit : Float) (places : ℕ) where
       run-rows overOf (turned (runSettings i dt limit)) lastRow (λ (c : RunState). c .rows) (turned-rows (runSettings i dt limit)) (places / 8) (started d) in
       either (λ (x : RunOutcome). x .rows ≤ places) (eqb (runRefusal d (runSettings i dt limit) places) 0) over none (omega (arith, n)) (omega arith)
 
-  dfn-run-ending : galvanostatic d i dt limit places .ended .ending ≤ 5
+  dfn-run-ending : galvanostatic d i dt limit places .ended .ending ≤ 6
   unfolding galvanostatic allTurns finishedRun
-  dfn-run-ending = either (λ (x : RunOutcome). x .ended .ending ≤ 5) (eqb (runRefusal d (runSettings i dt limit) places) 0) over none (ending-most _ _) (lit≤ tt)
+  dfn-run-ending = either (λ (x : RunOutcome). x .ended .ending ≤ 6) (eqb (runRefusal d (runSettings i dt limit) places) 0) over none (ending-most _ _) (lit≤ tt)
 
   -- an answer that is written comes from a cell that passes the checks
   written-run : T (writesAnswer (galvanostatic d i dt limit places .ended .refusal) (galvanostatic d i dt limit places .rows)) → runRefusal d (runSettings i dt limit) places ≡ 0

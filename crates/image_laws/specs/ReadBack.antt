@@ -21,6 +21,7 @@ use Rattle.electrolyte.specs.Calls as E
 use Rattle.dfn.specs.Step as D
 use Rattle.discharge_run.specs.Discharge as DR
 use Rattle.replay_run.specs.Replay as R
+use Rattle.cycle_run.specs.declared.CycleSettings.{CycleSettings}
 use Rattle.galvanostatic_run.specs.Galvanostatic as GR
 use Rattle.dense.specs.Solve.{solved}
 use Rattle.codec.specs.Words.{wordAt, placesAt, putRow}
@@ -44,7 +45,7 @@ use Rattle.image_laws.specs.Rows.{row-read-back}
 use Rattle.image_laws.specs.CellImages.{particleIn}
 use Rattle.image_laws.specs.Reports.{cellReportAt, dfnReportAt}
 use Rattle.image_laws.specs.CellSteps.{particle-answer, cell-answer, sub-steps-answer, report-answer}
-use Rattle.image_laws.specs.CellRuns.{discharge-held, replay-held}
+use Rattle.image_laws.specs.CellRuns.{RunHeld, discharge-held, replay-held, cycle-held}
 use Rattle.image_laws.specs.CellBuilds.{particle-built, cell-build-return, cell-build-after, cell-built}
 use Rattle.image_laws.specs.ElectrolyteSteps.{electrolyte-answer}
 use Rattle.image_laws.specs.DfnSteps.{dfn-answer, dfn-report-answer}
@@ -53,7 +54,7 @@ use Rattle.image_laws.specs.DfnBuilds.{electrolyte-built, dfn-built}
 use Rattle.image_laws.specs.ReadyRecords.{sheet-ready, electrolyte-params-ready, params-ready}
 use Rattle.image_laws.specs.Numbers.{number-answered}
 use Rattle.image_laws.specs.Dense.{solved-encodable, doubles-encodable}
-use Rattle.image_layout.specs.Layout.{cellSubSteps, particleBytes, electrolyteBytes, cellBytes, cellRunBytes, cellStepBytes, dfnBytes, dfnRunBytes, dfnStepBytes, cellEnding, newParticleBytes, regionsBytes, newDfnBytes, sheetBytes, electrolyteParamsBytes}
+use Rattle.image_layout.specs.Layout.{cellSubSteps, particleBytes, electrolyteBytes, cellBytes, cellRunBytes, cellStepBytes, phasesBytes, dfnBytes, dfnRunBytes, dfnStepBytes, cellEnding, newParticleBytes, regionsBytes, newDfnBytes, sheetBytes, electrolyteParamsBytes}
 
 -- ---- steps
 pub particle-step-read-back : (s : List ℕ) (j dt t : Float) (a : List ℕ) → B.particleReturn s j dt t (length a) ≡ 0
@@ -111,15 +112,16 @@ pub record CellRunReadBack (b : List ℕ) (r : DR.RunOutcome) (places : ℕ) : T
   pub ending : wordAt b cellEnding ≡ r .ended .ending
   pub rows : places < 2 ^ 64 → wordAt b (cellEnding + 1) ≡ r .rows
 
+held-read-back : (b a : List ℕ) (r : DR.RunOutcome) (places : ℕ) → RunHeld b a r places → CellRunReadBack b r places
+held-read-back b a r places d = record { cell = d .cell .first; ending = d .ending; rows = d .rows }
+
 abbrev pub DischargeReadBack : List ℕ → Float → Float → Float → Float → ℕ → List ℕ → Type 0
 DischargeReadBack s i dt t limit places a = CellRunReadBack (BR.dischargeAfter s i dt t limit places a) (DR.discharged (DR.runSettings i dt t limit) (cellAt s) places) places
 
 pub discharge-read-back : (s : List ℕ) (i dt t limit : Float) (places : ℕ) (a : List ℕ) → length s ≡ cellBytes → length a ≡ cellRunBytes
     → T (writesAnswer (DR.discharged (DR.runSettings i dt t limit) (cellAt s) places .ended .refusal) (DR.discharged (DR.runSettings i dt t limit) (cellAt s) places .rows))
     → DischargeReadBack s i dt t limit places a
-discharge-read-back s i dt t limit places a m n h =
-    let d = discharge-held s i dt t limit places a m n h in
-    record { cell = d .cell .first; ending = d .ending; rows = d .rows }
+discharge-read-back s i dt t limit places a m n h = held-read-back _ a _ places (discharge-held s i dt t limit places a m n h)
 
 pub accepted-discharge-read-back : (s : List ℕ) (i dt t limit : Float) (places : ℕ) (a : List ℕ) → BR.dischargeReturn s i dt t limit places (length a) ≡ 0
     → DischargeReadBack s i dt t limit places a
@@ -134,9 +136,7 @@ ReplayReadBack s text t places a = CellRunReadBack (BR.replayAfter s text t plac
 
 pub replay-read-back : (s text : List ℕ) (t : Float) (places : ℕ) (a : List ℕ) → length s ≡ cellBytes → length a ≡ cellRunBytes
     → T (writesAnswer (R.replayed text t (cellAt s) places .ended .refusal) (R.replayed text t (cellAt s) places .rows)) → ReplayReadBack s text t places a
-replay-read-back s text t places a m n h =
-    let d = replay-held s text t places a m n h in
-    record { cell = d .cell .first; ending = d .ending; rows = d .rows }
+replay-read-back s text t places a m n h = held-read-back _ a _ places (replay-held s text t places a m n h)
 
 pub accepted-replay-read-back : (s text : List ℕ) (t : Float) (places : ℕ) (a : List ℕ) → BR.replayReturn s text t places (length a) ≡ 0 → ReplayReadBack s text t places a
 unfolding BR.replayReturn CR.replayReturn
@@ -148,6 +148,23 @@ accepted-replay-read-back s text t places a h =
     text-taken : (b : Bool) (k : ℕ) → cond b k N.file ≡ 0 → k ≡ 0
     text-taken true k h = h
     text-taken false k h = absurd (omega (arith, h))
+
+abbrev pub CycleReadBack : List ℕ → List ℕ → CycleSettings → ℕ → List ℕ → Type 0
+CycleReadBack s phases g places a = CellRunReadBack (BR.cycleAfter s phases g places a) (CR.cycledFrom phases g (cellAt s) places) places
+
+pub cycle-read-back : (s phases : List ℕ) (g : CycleSettings) (places : ℕ) (a : List ℕ) → length s ≡ cellBytes → length phases ≡ phasesBytes → length a ≡ cellRunBytes
+    → T (writesAnswer (CR.cycledFrom phases g (cellAt s) places .ended .refusal) (CR.cycledFrom phases g (cellAt s) places .rows)) → CycleReadBack s phases g places a
+cycle-read-back s phases g places a m p n h = held-read-back _ a _ places (cycle-held s phases g places a m p n h)
+
+pub accepted-cycle-read-back : (s phases : List ℕ) (g : CycleSettings) (places : ℕ) (a : List ℕ) → BR.cycleReturn s phases g places (length a) ≡ 0 → CycleReadBack s phases g places a
+unfolding BR.cycleReturn CR.cycleReturn
+accepted-cycle-read-back s phases g places a h =
+    let r = CR.cycledFrom phases g (cellAt s) places in
+    let c = after-lengths (BR.cycleLengths (length s) (length phases) (length a)) (r .ended .refusal) h in
+    let d = and-eq-true-iff _ _ .0 (c .0) in
+    let e = and-eq-true-iff _ _ .0 (d .0) in
+    cycle-read-back s phases g places a (eqb-true (length s) cellBytes (e .0)) (eqb-true (length phases) phasesBytes (e .1)) (eqb-true (length a) cellRunBytes (d .1))
+    (no-refusal (r .ended .refusal) (r .rows) (c .1))
 
 pub record GalvanostaticReadBack (s : List ℕ) (i dt limit : Float) (places : ℕ) (a : List ℕ) : Type 0 where
   pub cell : I.cellAt (take dfnBytes (BR.galvanostaticAfter s i dt limit places a)) ≡ GR.galvanostatic (I.cellAt s) i dt limit places .cell

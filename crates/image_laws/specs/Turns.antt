@@ -1,4 +1,4 @@
--- A run of k turns writes at most k rows, and an ending is a number up to 5. Assumes nothing.
+-- A run of k turns writes at most k rows, and an ending is a number up to 6. Assumes nothing.
 use Prim.Native.Nat.{ℕ, zero, suc, _≤_, _+_}
 use mathlib.Core.List.{List}
 use native.Mathlib.Omega.{arith}
@@ -20,8 +20,8 @@ module _ {S : Type 0} (over : S → ℕ) (turned : S → S) (row : S → List Fl
       either (λ (x : S). rows x ≤ rows s + suc k) (eqb (over r) 0) (turned r) r (omega (arith, m, n)) (omega (arith, m))
 
 -- the number of an ending
-pub ending-most : (over k : ℕ) → endingOf over k .ending ≤ 5
+pub ending-most : (over k : ℕ) → endingOf over k .ending ≤ 6
 unfolding endingOf
 ending-most over k =
-    let P : Ended → Type 0 = λ e. e .ending ≤ 5 in
-    either P (eqb over 0) _ _ (lit≤ tt) (either P (eqb over 1) _ _ (lit≤ tt) (either P (eqb over 2) _ _ (lit≤ tt) (either P (eqb over 5) _ _ (le-refl 5) (lit≤ tt))))
+    let P : Ended → Type 0 = λ e. e .ending ≤ 6 in
+    either P (eqb over 0) _ _ (lit≤ tt) (either P (eqb over 1) _ _ (lit≤ tt) (either P (eqb over 2) _ _ (lit≤ tt) (either P (eqb over 5) _ _ (lit≤ tt) (either P (eqb over 6) _ _ (le-refl 6) (lit≤ tt)))))

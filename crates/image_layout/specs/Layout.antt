@@ -71,6 +71,20 @@ newCellAnode = 6
 abbrev pub newCellCathode : ℕ
 newCellCathode = 17
 
+-- ---- a phase of a cycle
+
+-- its kind
+abbrev pub phaseKind : ℕ
+phaseKind = 0
+
+-- its number
+abbrev pub phaseNumber : ℕ
+phaseNumber = 1
+
+-- how many words it has; the eight phases of a cycle stand one after the other
+abbrev pub phaseWords : ℕ
+phaseWords = 2
+
 -- ---- an electrolyte: its parameters, then
 
 -- lengths and porosities
@@ -202,6 +216,12 @@ cellStepBytes = 1344
 abbrev pub cellRunBytes : ℕ
 cellRunBytes = 1288
 
+abbrev pub phaseBytes : ℕ
+phaseBytes = 16
+
+abbrev pub phasesBytes : ℕ
+phasesBytes = 128
+
 abbrev pub electrolyteParamsBytes : ℕ
 electrolyteParamsBytes = 64
 
@@ -241,6 +261,8 @@ pub record Layout : Type 0 where
   pub cell-step : (cellBytes ≡ 8 * cellReport) × ((cellCutoff ≡ cellReport + 7) × (cellStepBytes ≡ 8 * (cellSubSteps + 1)))
   pub cell-run : (cellBytes ≡ 8 * cellEnding) × (cellRunBytes ≡ 8 * (cellEnding + 2))
   pub new-cell : (newCellCathode ≡ newCellAnode + particleNodes) × (newCellBytes ≡ 8 * (newCellCathode + particleNodes))
+  pub phase : (phaseNumber ≡ phaseKind + 1) × ((phaseWords ≡ phaseNumber + 1) × (phaseBytes ≡ 8 * phaseWords))
+  pub phases : phasesBytes ≡ 8 * phaseBytes
   pub electrolyte : (electrolyteParamsBytes ≡ 8 * electrolyteRegions) × ((regionsBytes ≡ 8 * electrolyteProfile) × (electrolyteBytes ≡ 8 * (electrolyteProfile + 96)))
   pub coefficients : (dfnCountPos ≡ dfnCoefficientsNeg + 16) × (dfnNodesNeg ≡ dfnCoefficientsPos + 16)
   pub dfn-new : (dfnParamsBytes ≡ 8 * dfnNodesNeg) × (newDfnBytes ≡ 8 * (dfnVMax + 1))
@@ -262,6 +284,8 @@ layout = record {
   cell-step = (refl, (refl, refl));
   cell-run = (refl, refl);
   new-cell = (refl, refl);
+  phase = (refl, (refl, refl));
+  phases = refl;
   electrolyte = (refl, (refl, refl));
   coefficients = (refl, refl);
   dfn-new = (refl, refl);

@@ -46,6 +46,15 @@ pub const NEW_CELL_ANODE: usize = 6;
 // The cathode's sheet.
 pub const NEW_CELL_CATHODE: usize = 17;
 
+// Of a phase: its kind.
+pub const PHASE_KIND: usize = 0;
+
+// Its number.
+pub const PHASE_NUMBER: usize = 1;
+
+// How many words it has; the eight phases of a cycle stand one after the other.
+pub const PHASE_WORDS: usize = 2;
+
 // Of an electrolyte: lengths and porosities.
 pub const ELECTROLYTE_REGIONS: usize = 8;
 
@@ -133,6 +142,10 @@ pub const CELL_BYTES: usize = 1272;
 pub const CELL_STEP_BYTES: usize = 1344;
 
 pub const CELL_RUN_BYTES: usize = 1288;
+
+pub const PHASE_BYTES: usize = 16;
+
+pub const PHASES_BYTES: usize = 128;
 
 pub const ELECTROLYTE_PARAMS_BYTES: usize = 64;
 

@@ -1,24 +1,12 @@
 // The arguments: the first may name the cell, one is load=FILE, each other one is NAME=VALUE.
 use cell_file::Settings;
 use command_line::arguments;
-use setting_messages::ERR;
-use setting_messages::say;
+use command_line::arguments::refused;
 
 // The numbers, and which argument names the load file, 0 for none.
 pub(crate) struct Arguments {
     pub(crate) settings: Settings,
     pub(crate) load: usize,
-}
-
-// Says what is wrong with an argument, and gives numbers that no other argument changes.
-fn refused(st: Settings, word: &[u8], fault: &[u8]) -> Settings {
-    say(ERR, b"'");
-    say(ERR, word);
-    say(ERR, b"': ");
-    say(ERR, fault);
-    say(ERR, b"\n");
-    let values = st.values;
-    arguments::fresh(values, arguments::OTHER_FAULT)
 }
 
 // Takes an argument that sets a number.

@@ -27,7 +27,7 @@ pub(crate) fn write_help() {
         OUT,
         b"\nThe names, what each starts from for nmc, and its range:\n\n",
     );
-    setting_messages::write_names(true);
+    setting_messages::write_names(true, false);
     say(
         OUT,
         b"What it sets for current, dt or time is taken and has no effect: the load file has them.\n",

@@ -39,7 +39,7 @@ fn write_ending(e: Ending, rows: usize) {
     ending::write_count(rows);
 }
 
-// Replays the file at a path. It has at most 1,927 lines, so that the rows, 10,000 as csv_rows writes them, always have room.
+// Replays the file at a path. It has at most 1,927 lines, so that 10,000 rows always have room.
 fn replay(v: [f64; NONE], cell: SpmSolver, named: &[u8], path: &[u8]) {
     let mut text = load_buffer();
     let got = command_line::arguments::read_file(path, &mut text);

@@ -5,8 +5,12 @@
 -- RunAnswers: when the answer of a run is written.
 -- Laws: how a turn goes on or ends; a run's loop keeps `Going` and leaves by `ends-refused`, `ends-stopped` or `ends-full`.
 -- RowPlaces: each row stands at its eight places, and the places after the last one are as they were.
+-- Simulation: a run that simulates another gives what the other gives.
+-- Causes: what has ended a run, its rows or the step after them.
 pub mod Endings
 pub mod Rows
 pub mod RunAnswers
 pub mod Laws
 pub mod RowPlaces
+pub mod Simulation
+pub mod Causes

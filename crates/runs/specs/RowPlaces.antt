@@ -60,18 +60,18 @@ module _ {S : Type 0} (over : S → ℕ) (turned : S → S) (row : S → List Fl
       go (Turn.refused a b o g) h = ap length (b l) ∙ h
       go (Turn.written a b o g) h = ap length (b l) ∙ places-length (k * 8) (rowAt k) (rows k l) 8 ∙ h
 
-  -- ---- a count of the rows: none at the start, one more after a turn that writes a row, the same after one that is refused
+  -- ---- a count of the run's rows: none at the start, one more after a turn that writes a row, the same after one that is refused
   pub record CountsRows (count : S → ℕ) : Type 0 where
     pub start : count s ≡ 0
-    pub written : (x : S) → (over (turned x) ≡ byRefusal → ⊥) → count (turned x) ≡ count x + 1
-    pub refused : (x : S) → over (turned x) ≡ byRefusal → count (turned x) ≡ count x
+    pub written : (k : ℕ) → over (after k) ≡ 0 → (over (turned (after k)) ≡ byRefusal → ⊥) → count (turned (after k)) ≡ count (after k) + 1
+    pub refused : (k : ℕ) → over (after k) ≡ 0 → over (turned (after k)) ≡ byRefusal → count (turned (after k)) ≡ count (after k)
 
   module _ (count : S → ℕ) (c : CountsRows count) where
-    written-count : (k : ℕ) → after (suc k) ≡ turned (after k) → (over (after (suc k)) ≡ byRefusal → ⊥) → count (after (suc k)) ≡ suc (count (after k))
-    written-count k a g = ap count a ∙ c .written (after k) (λ e. g (ap over a ∙ e)) ∙ add-one (count (after k))
+    written-count : (k : ℕ) → after (suc k) ≡ turned (after k) → over (after k) ≡ 0 → (over (after (suc k)) ≡ byRefusal → ⊥) → count (after (suc k)) ≡ suc (count (after k))
+    written-count k a o g = ap count a ∙ c .written k o (λ e. g (ap over a ∙ e)) ∙ add-one (count (after k))
 
-    refused-count : (k : ℕ) → after (suc k) ≡ turned (after k) → over (after (suc k)) ≡ byRefusal → count (after (suc k)) ≡ count (after k)
-    refused-count k a g = ap count a ∙ c .refused (after k) (ap over (sym a) ∙ g)
+    refused-count : (k : ℕ) → after (suc k) ≡ turned (after k) → over (after k) ≡ 0 → over (after (suc k)) ≡ byRefusal → count (after (suc k)) ≡ count (after k)
+    refused-count k a o g = ap count a ∙ c .refused k o (ap over (sym a) ∙ g)
 
     -- while the run goes on, each turn has written its row
     pub count-on : (k : ℕ) → over (after k) ≡ 0 → count (after k) ≡ k
@@ -82,7 +82,7 @@ module _ {S : Type 0} (over : S → ℕ) (turned : S → S) (row : S → List Fl
         go : Turn k → (over (after k) ≡ 0 → count (after k) ≡ k) → count (after (suc k)) ≡ suc k
         go (Turn.idle a b n) ih = absurd (n (ap over (sym a) ∙ h))
         go (Turn.refused a b o g) ih = absurd (omega (arith, h, g))
-        go (Turn.written a b o g) ih = written-count k a g ∙ ap suc (ih o)
+        go (Turn.written a b o g) ih = written-count k a o g ∙ ap suc (ih o)
 
     -- no more rows than turns
     pub count-most : (k : ℕ) → count (after k) ≤ k
@@ -92,8 +92,8 @@ module _ {S : Type 0} (over : S → ℕ) (turned : S → S) (row : S → List Fl
       where
         go : Turn k → count (after k) ≤ k → count (after (suc k)) ≤ suc k
         go (Turn.idle a b n) ih = omega (arith, ap count a, ih)
-        go (Turn.refused a b o g) ih = omega (arith, refused-count k a g, ih)
-        go (Turn.written a b o g) ih = omega (arith, written-count k a g, ih)
+        go (Turn.refused a b o g) ih = omega (arith, refused-count k a o g, ih)
+        go (Turn.written a b o g) ih = omega (arith, written-count k a o g, ih)
 
     -- the run was going on before each row, and its step was not refused
     abbrev Made : ℕ → Type 0
@@ -106,10 +106,10 @@ module _ {S : Type 0} (over : S → ℕ) (turned : S → S) (row : S → List Fl
       where
         go : Turn k → (j < count (after k) → Made j) → Made j
         go (Turn.idle a b n) ih = ih (omega (arith, ap count a, m))
-        go (Turn.refused a b o g) ih = ih (omega (arith, refused-count k a g, m))
+        go (Turn.refused a b o g) ih = ih (omega (arith, refused-count k a o g, m))
         go (Turn.written a b o g) ih =
             ⊎-elim (λ (e : j ≡ k). subst Made (sym e) (o, g)) (λ (l : j < k). ih (omega (arith, count-on k o, l)))
-            (eq-or-lt-of-le (omega (arith, written-count k a g, count-on k o, m)))
+            (eq-or-lt-of-le (omega (arith, written-count k a o g, count-on k o, m)))
 
     pub row-count : (k j : ℕ) → j < count (after k) → count (after (suc j)) ≡ suc j
     row-count k j m = go (turn j) (row-made k j m)
@@ -117,7 +117,7 @@ module _ {S : Type 0} (over : S → ℕ) (turned : S → S) (row : S → List Fl
         go : Turn j → Made j → count (after (suc j)) ≡ suc j
         go (Turn.idle a b n) h = absurd (n (h .0))
         go (Turn.refused a b o g) h = absurd (h .1 g)
-        go (Turn.written a b o g) h = written-count j a g ∙ ap suc (count-on j o)
+        go (Turn.written a b o g) h = written-count j a o g ∙ ap suc (count-on j o)
 
     -- a run that ends refused had room for a row more
     pub refused-room : (over s ≡ byRefusal → ⊥) → (k : ℕ) → over (after k) ≡ byRefusal → count (after k) < k
@@ -127,7 +127,7 @@ module _ {S : Type 0} (over : S → ℕ) (turned : S → S) (row : S → List Fl
       where
         go : Turn k → (over (after k) ≡ byRefusal → count (after k) < k) → count (after (suc k)) < suc k
         go (Turn.idle a b o) ih = omega (arith, ap count a, ih (ap over (sym a) ∙ h))
-        go (Turn.refused a b o g) ih = omega (arith, refused-count k a g, count-on k o)
+        go (Turn.refused a b o g) ih = omega (arith, refused-count k a o g, count-on k o)
         go (Turn.written a b o g) ih = absurd (g h)
 
     -- EACH ROW STANDS at its eight places
@@ -139,12 +139,12 @@ module _ {S : Type 0} (over : S → ℕ) (turned : S → S) (row : S → List Fl
       where
         go : Turn k → (j < count (after k) → getD (rows k l) (j * 8 + m) d ≡ rowAt j m) → getD (rows (suc k) l) (j * 8 + m) d ≡ rowAt j m
         go (Turn.idle a b o) ih = ap (λ (x : List Float). getD x (j * 8 + m) d) (b l) ∙ ih (omega (arith, ap count a, p))
-        go (Turn.refused a b o g) ih = ap (λ (x : List Float). getD x (j * 8 + m) d) (b l) ∙ ih (omega (arith, refused-count k a g, p))
+        go (Turn.refused a b o g) ih = ap (λ (x : List Float). getD x (j * 8 + m) d) (b l) ∙ ih (omega (arith, refused-count k a o g, p))
         go (Turn.written a b o g) ih =
             ap (λ (x : List Float). getD x (j * 8 + m) d) (b l) ∙ ⊎-elim
             (λ (z : j ≡ k). rw z (places-inside (k * 8) (rowAt k) (rows k l) 8 m d q (omega (arith, rows-length k l, n))))
             (λ (z : j < k). places-before (k * 8) (rowAt k) (rows k l) 8 (j * 8 + m) d (omega (arith, z, q)) ∙ ih (omega (arith, count-on k o, z)))
-            (eq-or-lt-of-le (omega (arith, written-count k a g, count-on k o, p)))
+            (eq-or-lt-of-le (omega (arith, written-count k a o g, count-on k o, p)))
 
     -- and the places after the last row are as they were
     pub rows-kept : (k i : ℕ) (l : List Float) (d : Float) → count (after k) * 8 ≤ i → getD (rows k l) i d ≡ getD l i d
@@ -154,8 +154,8 @@ module _ {S : Type 0} (over : S → ℕ) (turned : S → S) (row : S → List Fl
       where
         go : Turn k → (count (after k) * 8 ≤ i → getD (rows k l) i d ≡ getD l i d) → getD (rows (suc k) l) i d ≡ getD l i d
         go (Turn.idle a b o) ih = ap (λ (x : List Float). getD x i d) (b l) ∙ ih (omega (arith, ap count a, p))
-        go (Turn.refused a b o g) ih = ap (λ (x : List Float). getD x i d) (b l) ∙ ih (omega (arith, refused-count k a g, p))
+        go (Turn.refused a b o g) ih = ap (λ (x : List Float). getD x i d) (b l) ∙ ih (omega (arith, refused-count k a o g, p))
         go (Turn.written a b o g) ih =
             let e = count-on k o in
-            let w = written-count k a g in
+            let w = written-count k a o g in
             ap (λ (x : List Float). getD x i d) (b l) ∙ places-after (k * 8) (rowAt k) (rows k l) 8 i d (omega (arith, e, w, p)) ∙ ih (omega (arith, e, w, p))

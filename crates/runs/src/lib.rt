@@ -7,16 +7,17 @@ ghost use lib.Ieee.{nan};
 ghost use Rattle.array_update.specs.ArrayUpdate.{placesBy};
 ghost use Rattle.runs.specs.Endings.{endedBy, endingOf};
 
-// How a run ends: by the voltage, by the time, with every whole row written, by a refusal and its number, or with nothing left to do.
+// How a run ends: by the voltage, by the time, with every whole row written, by a refusal and its number, with nothing left to do, or with what it was allowed spent.
 pub enum Ending {
     Voltage,
     Time,
     Full,
     Refused(u64),
     Done,
+    Spent,
 }
 
-// What has ended a run so far: nothing, the voltage, the time, a refusal, nothing left to do. A run that nothing ended is full.
+// What has ended a run so far: nothing, the voltage, the time, a refusal, nothing left to do, a spent budget. A run that nothing ended is full.
 pub const GOING: u64 = 0;
 
 pub const VOLTAGE: u64 = 1;
@@ -27,6 +28,8 @@ pub const REFUSED: u64 = 4;
 
 pub const DONE: u64 = 5;
 
+pub const SPENT: u64 = 6;
+
 // The ending of a run that has stopped.
 pub fn ending_of(over: u64, refusal: u64) -> Ending
     ensures { λ r. ⌜ endedBy r ≡ endingOf over refusal ⌝ }
@@ -36,11 +39,12 @@ pub fn ending_of(over: u64, refusal: u64) -> Ending
         1 => Ending::Voltage,
         2 => Ending::Time,
         5 => Ending::Done,
+        6 => Ending::Spent,
         _ => Ending::Refused(refusal),
     }
 }
 
-// The number of an ending: 1 voltage, 2 time, 3 full, 4 refused, 5 done.
+// The number of an ending: 1 voltage, 2 time, 3 full, 4 refused, 5 done, 6 spent.
 pub fn ending_number(e: Ending) -> u64
     ensures { λ r. ⌜ r ≡ endedBy e .ending ⌝ }
 {
@@ -50,6 +54,7 @@ pub fn ending_number(e: Ending) -> u64
         Ending::Full => 3,
         Ending::Refused(_) => 4,
         Ending::Done => 5,
+        Ending::Spent => 6,
     }
 }
 
@@ -63,6 +68,7 @@ pub fn ending_refusal(e: Ending) -> u64
         Ending::Full => 0,
         Ending::Refused(k) => k,
         Ending::Done => 0,
+        Ending::Spent => 0,
     }
 }
 

@@ -8,6 +8,7 @@ use csv_rows::OUT;
 use electrode::ElectrodeParams;
 use setting_table::names::NONE;
 use setting_table::names::in_load;
+use setting_table::names::in_phases;
 use setting_table::names::part_of;
 use setting_table::names::row_of;
 
@@ -160,11 +161,11 @@ pub fn write_name(v: &[f64; NONE], k: usize) {
     say(OUT, b")\n");
 }
 
-// Writes the list of names with what each is for nmc, without those that a load file stands for where there is one, and what a cell file is.
-pub fn write_names(load: bool) {
+// Writes the list of names with what each is for nmc, without those that a load file or phases stand for where there are any, and what a cell file is.
+pub fn write_names(load: bool, phases: bool) {
     let v = ready(ElectrodeParams::nmc_cathode());
     for k in 0..NONE {
-        if !(load & in_load(k)) {
+        if !((load & in_load(k)) | (phases & in_phases(k))) {
             write_name(&v, k);
         }
     }

@@ -71,6 +71,10 @@ placeOf s =
     cond (startsWith s (bytesOf "anode.")) (placeBy sheetCount anode (drop 6 s))
     (cond (startsWith s (bytesOf "cathode.")) (placeBy sheetCount cathode (drop 8 s)) (placeBy anode 0 s))
 
+-- current and time: the phases of a cycle have the currents, and the last of them ends it
+abbrev pub inPhases : ℕ → Bool
+inPhases k = eqb k 0 || eqb k 3
+
 -- current, dt and time: a load file has a current and an interval in each line, and its last line ends a replay
 abbrev pub inLoad : ℕ → Bool
 inLoad k = eqb k 0 || eqb k 1 || eqb k 3

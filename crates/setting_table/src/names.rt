@@ -1,7 +1,7 @@
 // The names of the numbers that a run is set by: one table for reading a name and for writing it.
 ghost use mathlib.Core.Path.{_≡_};
 ghost use Prim.Native.Nat.{_+_, _<_, _≤_};
-ghost use Rattle.setting_table.specs.Names.{none, rows, rowOf, partOf, letterOf, paddedAt, isNamed, placeBy, placeOf, inLoad};
+ghost use Rattle.setting_table.specs.Names.{none, rows, rowOf, partOf, letterOf, paddedAt, isNamed, placeBy, placeOf, inPhases, inLoad};
 
 // Where each sheet begins, with its chemistry; run and config begin at 0.
 pub const ANODE: usize = 10;
@@ -87,6 +87,13 @@ pub fn place_of(s: &[u8]) -> usize
         return place_among(CATHODE, SHEET, &s[8..]);
     }
     place_among(0, ANODE, s)
+}
+
+// Whether the phases of a cycle stand for the number at place k: they have the currents, and the last of them ends a cycle.
+pub fn in_phases(k: usize) -> bool
+    ensures { λ r. ⌜ r ≡ inPhases k ⌝ }
+{
+    (k == 0) | (k == 3)
 }
 
 // Whether a load file stands for the number at place k: it has a current and an interval in each line, and its last line ends a replay.

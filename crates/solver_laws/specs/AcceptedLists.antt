@@ -2,6 +2,7 @@
 use mathlib.Core.Path.{_≡_, refl, sym, ap, _∙_}
 use mathlib.Core.List.{List, [], _∷_, _++_}
 use borrow.Author.Tests.{eq-eqb}
+use Rattle.diffusion.specs.Run.{Each}
 use Rattle.solver.specs.declared.SpmSolver.{SpmSolver}
 use Rattle.solver_laws.specs.Demand.{Call, answer, cellAfter, taken}
 
@@ -16,6 +17,10 @@ all-taken AllAccepted.none = refl
 all-taken (AllAccepted.more {s = s} {q = q} h hs) = rw (eq-eqb (answer s q .refusal) 0 h) (ap (λ (l : List Call). q ∷ l) (all-taken hs))
 
 -- ---- two lists, one after the other
+pub each-append : {A : Type 0} {P : A → Type 0} {xs ys : List A} → Each P xs → Each P ys → Each P (xs ++ ys)
+each-append Each.none qs = qs
+each-append (Each.more p ps) qs = Each.more p (each-append ps qs)
+
 pub after-append : (xs ys : List Call) (s : SpmSolver) → cellAfter s (xs ++ ys) ≡ cellAfter (cellAfter s xs) ys
 unfolding cellAfter
 after-append [] ys s = refl

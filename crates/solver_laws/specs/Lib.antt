@@ -12,10 +12,18 @@
 --               solver's own step with line j on the cell that the lines above left, `replay-line`: and that line is of its form and accepted;  `replay-kept`: the places after the last
 --               row are as they were;  `replay-ends`: how it ends, `replay-done`, `replay-all-read`: done exactly where no byte is left and the last row did not cut off
 --   ReplayDemand  `replay-near`, `replay-ranked`: theorems 2 and 3 for the cells that replays leave, the premises line by line
+--   CycleLists  `cycle-is-list`, `cycle-accepted`: the same for a cycle of phases, whose calls are those of the phases under way in order (`CycleCalls: callsOf`);  `cycle-row`: row j is the
+--               row of the solver's own step with the current of the phase then under way on the cell that the rows before left, `cycle-taken`: and that step is accepted;  `cycle-kept`: the
+--               places after the last row are as they were;  `rows-most`, `cycle-room`: no more rows than the budget, and room for them;  `cycle-ends`: how it ends, `cycle-done`,
+--               `cycle-done-only`: done exactly where no phase is left, `cycle-spent`, `cycle-spent-only`: spent exactly where the budget is made and a phase is left, `cycle-refused`,
+--               `cycle-refused-step`: refused with which number, `cycle-no-row`: a cycle without a row is refused
+--   CycleDemand  `cycle-near`, `cycle-ranked`: theorems 2 and 3 for the cells that cycles leave; the two conditions are asked of each phase, wherever the phases end
 --   Instance    the ready cell of graphite and lithium iron phosphate, 11 nodes: `discharge-near`, theorem 2 for a call of two sub-steps and one on what it leaves, refused calls before,
 --               between and after them, K = 3;  `discharge-ranked`, theorem 3 for that list and one at 4 A with its refused calls elsewhere, from a cell of another clock.
 --               Every premise is computed or proved, that the cells accept the calls too
 --   ReplayInstance  that cell and a text of three lines, the third in lower case: `text-near`, theorem 2 for what the replay leaves, with one row or two
+--   CycleInstance  that cell, a discharge and a rest, twice, four steps at most: `phases-unrefused`, the cycle is not refused;  `phases-near`, theorem 2 for what it leaves, wherever the
+--               discharge ends
 --
 -- WHAT ELSE IS PROVED
 --   Build       `build-passes`: an accepted build gives a cell that passes the checks;  `build-refused`: a refused one the record of zeros
@@ -28,8 +36,11 @@
 --   LowRates    `step-kept`: a step whose arguments of H are not below 2 ^ -10 in size is the step with H by the logarithm at every argument (`steppedByLog`)
 --   EarlierReference  `step-kept`: a step of a cell whose two sheets carry 298.15 K is the step with both diffusivities from the fixed 298.15 K (`steppedFrom298`)
 --   EarlierOhmicDrop  `step-kept`: a step at a current whose sign is not negative is the step with the ohmic drop times the current's sign (`steppedBySignum`)
---   AcceptedLists  lists whose calls are all accepted, and one call more at their end;  ReplayTurns: where a replay stands after each turn
+--   AcceptedLists  lists whose calls are all accepted, and one call more at their end;  ListedDemand: theorems 2 and 3 for them;  ReplayTurns, CycleTurns: where a replay or a cycle stands
+--               after each turn
 --   RunEnds     `run-ends`: a run is refused before its first row or not at all
+--   CycleEnds   `cycle-refused-first`, `cycle-unrefused`: so is a cycle;  `cycle-number`: one that is not refused as a whole is refused with 6 or 7 only
+--   CyclePhases  `cycle-calls`: each call of a cycle is that of one of its phases;  `done-rows`: a cycle that is done has a row for each phase of each repeat, or more
 --   Electrodes  an electrode's particle and its numbers in a plan;  `sub-step-ranged`: each sub-step of an accepted call is in its ranges;  `count-most`: at most 4,096 of them;
 --               `cathode-flux`, `anode-flux`: with the current the flux grows at the cathode and falls at the anode
 --   Ordered     the exact scheme keeps the order of two profiles over two lists of calls
@@ -46,11 +57,19 @@ pub mod OhmicRise
 pub mod Ordered
 pub mod Ranking
 pub mod AcceptedLists
+pub mod ListedDemand
 pub mod RunLists
 pub mod ReplayCalls
 pub mod ReplayTurns
 pub mod ReplayLists
 pub mod ReplayDemand
+pub mod CycleCalls
+pub mod CycleTurns
+pub mod CycleLists
+pub mod CyclePhases
+pub mod CycleDemand
 pub mod RunEnds
+pub mod CycleEnds
 pub mod Instance
 pub mod ReplayInstance
+pub mod CycleInstance

@@ -5,7 +5,7 @@ use mathlib.Core.Path.{_≡_}
 use mathlib.Core.List.{List, [], _∷_, _++_}
 use native.Mathlib.Omega.{arith}
 use lib.Ieee.{Float}
-use Rattle.fraction.specs.Fraction.{nat, pow2, _+F_, _-F_, _*F_, _/F_, _≤F_, _within_}
+use Rattle.fraction.specs.Fraction.{nat, pow2, _-F_, _*F_, _/F_, _within_}
 use Rattle.binary64.specs.Value.{val}
 use Rattle.diffusion.specs.Premises.{StepConditions}
 use Rattle.diffusion.specs.Run.{Each, Both}
@@ -14,16 +14,14 @@ use Rattle.solver.specs.declared.SpmSolver.{SpmSolver}
 use Rattle.solver.specs.Cell.{cellRefusal}
 use Rattle.replay_run.specs.Replay.{replayed}
 use Rattle.solver_laws.specs.Electrodes.{Electrode, particleAt}
-use Rattle.solver_laws.specs.Demand.{Call, taken, K, numbersAt, exactPlace, StepConditionsAt, solver-near}
-use Rattle.solver_laws.specs.Ranking.{Paired, Twins, solver-ranking}
+use Rattle.solver_laws.specs.Demand.{Call, K, numbersAt, exactPlace}
+use Rattle.solver_laws.specs.Ranking.{Paired, Twins}
+use Rattle.solver_laws.specs.AcceptedLists.{each-append}
+use Rattle.solver_laws.specs.ListedDemand.{AllKept, listed-near, CellsRanked, listed-ranked}
 use Rattle.solver_laws.specs.ReplayCalls.{callAt, callsOf}
-use Rattle.solver_laws.specs.ReplayLists.{replay-is-list, replay-accepted}
+use Rattle.solver_laws.specs.ReplayLists.{replayed-listed}
 
 -- ---- what holds of each line holds of the list
-each-append : {A : Type 0} {P : A → Type 0} {xs : List A} {x : A} → Each P xs → P x → Each P (xs ++ x ∷ [])
-each-append Each.none p = Each.more p Each.none
-each-append (Each.more q qs) p = Each.more q (each-append qs p)
-
 both-append : {A : Type 0} {R : A → A → Type 0} {xs ys : List A} {x y : A} → Both R xs ys → R x y → Both R (xs ++ x ∷ []) (ys ++ y ∷ [])
 both-append Both.none p = Both.more p Both.none
 both-append (Both.more q qs) p = Both.more q (both-append qs p)
@@ -31,7 +29,7 @@ both-append (Both.more q qs) p = Both.more q (both-append qs p)
 each-line : (P : Call → Type 0) (text : List ℕ) (temp : Float) (n : ℕ) → ((j : ℕ) → j < n → P (callAt text temp j)) → Each P (callsOf text temp n)
 unfolding callsOf
 each-line P text temp zero h = Each.none
-each-line P text temp (suc n) h = each-append (each-line P text temp n (λ j l. h j (omega (arith, l)))) (h n (omega arith))
+each-line P text temp (suc n) h = each-append (each-line P text temp n (λ j l. h j (omega (arith, l)))) (Each.more (h n (omega arith)) Each.none)
 
 both-lines : (R : Call → Call → Type 0) (text text' : List ℕ) (temp : Float) (n : ℕ) → ((j : ℕ) → j < n → R (callAt text temp j) (callAt text' temp j))
     → Both R (callsOf text temp n) (callsOf text' temp n)
@@ -43,10 +41,9 @@ both-lines R text text' temp (suc n) h = both-append (both-lines R text text' te
 abbrev pub LineConditions : Electrode → List ℕ → Float → SpmSolver → ℕ → Type 0
 LineConditions e text temp s places = (j : ℕ) → j < replayed text temp s places .rows → StepConditions (numbersAt e s (callAt text temp j))
 
-list-conditions : (e : Electrode) (text : List ℕ) (temp : Float) (s : SpmSolver) (places : ℕ) → LineConditions e text temp s places
-    → StepConditionsAt e s (callsOf text temp (replayed text temp s places .rows))
-list-conditions e text temp s places h =
-    rw (replay-accepted text temp s places) (each-line (λ q. StepConditions (numbersAt e s q)) text temp (replayed text temp s places .rows) h)
+lines-kept : (e : Electrode) (text : List ℕ) (temp : Float) (s : SpmSolver) (places : ℕ) → LineConditions e text temp s places
+    → AllKept e s (callsOf text temp (replayed text temp s places .rows))
+lines-kept e text temp s places h = each-line (λ q. StepConditions (numbersAt e s q)) text temp (replayed text temp s places .rows) h
 
 -- THEOREM 2 for a replay. The cell passes the checks; at the electrode e each line that has a row keeps the two conditions. Then every node of e in the cell that the replay leaves is
 -- within K·M / 2 ^ 49 of the exact scheme from the same start over these lines, K the sub-steps that their steps report.
@@ -55,12 +52,7 @@ pub replay-near : (e : Electrode) (text : List ℕ) (temp : Float) (s : SpmSolve
     → val (placeOf (particleAt e (replayed text temp s places .solver)) i) -F exactPlace e s (callsOf text temp (replayed text temp s places .rows)) i
     within nat (K s (callsOf text temp (replayed text temp s places .rows))) *F val (particleAt e s .params .«c_s_max») /F pow2 49
 replay-near e text temp s places h k i l =
-    rw (replay-is-list text temp s places) (solver-near e s (callsOf text temp (replayed text temp s places .rows)) h (list-conditions e text temp s places k) i l)
-
--- what ranks two cells r and r' after k sub-steps from twins of s: at no place of the cathode is the second more than 2·k·M / 2 ^ 49 below, and at no place of the anode more than that above
-pub record CellsRanked (s r r' : SpmSolver) (k : ℕ) : Type 0 where
-  pub cathode : (i : ℕ) → i < s .config .«n_nodes» → val (placeOf (r .cathode) i) -F nat 2 *F nat k *F val (s .cathode .params .«c_s_max») /F pow2 49 ≤F val (placeOf (r' .cathode) i)
-  pub anode : (i : ℕ) → i < s .config .«n_nodes» → val (placeOf (r' .anode) i) ≤F val (placeOf (r .anode) i) +F nat 2 *F nat k *F val (s .anode .params .«c_s_max») /F pow2 49
+    listed-near e s (replayed text temp s places .solver) (callsOf text temp (replayed text temp s places .rows)) (replayed-listed text temp s places) h (lines-kept e text temp s places k) i l
 
 -- THEOREM 3 for two replays at one temperature. Two cells of one make with equal profiles pass the checks; the replays have equally many rows, their lines keep the two conditions at both
 -- electrodes and are paired: alike in interval, the second's current no less.
@@ -73,9 +65,5 @@ replay-ranked text text' temp s s' places places' h h' w ks ks' n ps =
     let qs = callsOf text temp (replayed text temp s places .rows) in
     let qs' = callsOf text' temp (replayed text' temp s' places' .rows) in
     let pairs : Both Paired qs qs' = rw n (both-lines Paired text text' temp (replayed text temp s places .rows) ps) in
-    let pairs' : Both Paired (taken s qs) (taken s' qs') = rw (replay-accepted text temp s places, replay-accepted text' temp s' places') pairs in
-    let r = solver-ranking s s' qs qs' h h' w (λ e. list-conditions e text temp s places (ks e)) (λ e. list-conditions e text' temp s' places' (ks' e)) pairs' in
-    record {
-      cathode = λ i l. rw (replay-is-list text temp s places, replay-is-list text' temp s' places') (r .cathode i l);
-      anode = λ i l. rw (replay-is-list text temp s places, replay-is-list text' temp s' places') (r .anode i l);
-    }
+    listed-ranked s s' (replayed text temp s places .solver) (replayed text' temp s' places' .solver) qs qs' (replayed-listed text temp s places) (replayed-listed text' temp s' places') h h' w
+    (λ e. lines-kept e text temp s places (ks e)) (λ e. lines-kept e text' temp s' places' (ks' e)) pairs

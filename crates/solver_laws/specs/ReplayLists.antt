@@ -25,7 +25,7 @@ use Rattle.solver_laws.specs.ReplayCalls.{callsOf, lineStep, lineRefusal
 use Rattle.solver_laws.specs.ReplayTurns.{after-standing, counts, row-by, line-taken, ended-is, refused-number}
 
 module _ (text : List ℕ) (temp : Float) (s : SpmSolver) where
-  replayed-listed : (places : ℕ) → Listed s (replayed text temp s places .solver) (callsOf text temp (replayed text temp s places .rows))
+  pub replayed-listed : (places : ℕ) → Listed s (replayed text temp s places .solver) (callsOf text temp (replayed text temp s places .rows))
   unfolding replayed allTurns finishedReplay callsOf
   replayed-listed places = go (eqb (replayRefusal text s temp places) 0)
     where

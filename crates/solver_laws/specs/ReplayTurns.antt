@@ -14,6 +14,7 @@ use Rattle.runs.specs.Endings.{endingOf, goingOn, byVoltage, byRefusal, byDone}
 use Rattle.runs.specs.Rows.{runAfter}
 use Rattle.runs.specs.Laws.{run-keeps}
 use Rattle.runs.specs.RowPlaces.{CountsRows, count-on, row-made, row-count, refused-room}
+use Rattle.runs.specs.Causes.{Cause, rows-go-on, cause-number}
 use Rattle.solver.specs.declared.SpmSolver.{SpmSolver}
 use Rattle.solver.specs.declared.SpmStepAnswer.{SpmStepAnswer}
 use Rattle.solver_step.specs.declared.report.SpmState.{SpmState}
@@ -26,11 +27,13 @@ use Rattle.solver_laws.specs.AcceptedLists.{Listed, listed-none, listed-
 use Rattle.solver_laws.specs.ReplayCalls.{callAt, callsOf, lineStep, lineRefusal, cutoffAfter, firstEnding, endedAfter, TakenLine}
 
 module _ (text : List ℕ) (temp : Float) (s : SpmSolver) where
+  -- what n rows make of it
+  abbrev pub overAt : ℕ → ℕ
+  overAt n = overAfter text (cutoffAfter text temp s n) n
+
   -- what has ended it so far: its rows, or the line after them, which is refused
-  pub data OverBy (r : ReplayState) : Type 0 where
-    rows : r .over ≡ overAfter text (cutoffAfter text temp s (r .rows)) (r .rows) → OverBy r
-    line : r .over ≡ byRefusal → overAfter text (cutoffAfter text temp s (r .rows)) (r .rows) ≡ goingOn → r .refusal ≡ lineRefusal text temp s (r .rows)
-        → (r .refusal ≡ 0 → ⊥) → OverBy r
+  abbrev pub OverBy : ReplayState → Type 0
+  OverBy r = Cause overAt (lineRefusal text temp s) (r .rows) (r .over) (r .refusal)
 
   -- line k was well formed and accepted, and this is its report
   pub record RowBy (x : SpmState) (k : ℕ) : Type 0 where
@@ -45,13 +48,12 @@ module _ (text : List ℕ) (temp : Float) (s : SpmSolver) where
     pub over : OverBy r
 
   -- while it goes on, no row cut off and a byte is left
-  going : (r : ReplayState) → r .over ≡ 0 → OverBy r → overAfter text (cutoffAfter text temp s (r .rows)) (r .rows) ≡ goingOn
-  going r o (OverBy.rows e) = sym e ∙ o
-  going r o (OverBy.line e h k n) = absurd (omega (arith, o, e))
+  going : (r : ReplayState) → r .over ≡ 0 → OverBy r → overAt (r .rows) ≡ goingOn
+  going r o c = rows-go-on overAt (lineRefusal text temp s) (r .rows) (r .over) (r .refusal) o c
 
   refused-standing : (r : ReplayState) (k : ℕ) → r .over ≡ 0 → Standing r → k ≡ lineRefusal text temp s (r .rows) → (k ≡ 0 → ⊥) → Standing (refusedLine r k)
   unfolding refusedLine
-  refused-standing r k o c e n = record { listed = c .listed; last = c .last; over = OverBy.line refl (going r o (c .over)) e n }
+  refused-standing r k o c e n = record { listed = c .listed; last = c .last; over = Cause.step refl (going r o (c .over)) e n }
 
   followed-standing : (r : ReplayState) (b : Bool) → r .over ≡ 0 → Standing r → lineAt text (r .rows) .«well_formed» ≡ true
       → eqb (answer (r .solver) (callAt text temp (r .rows)) .refusal) 0 ≡ b → Standing (followed text r (answer (r .solver) (callAt text temp (r .rows))))
@@ -65,7 +67,7 @@ module _ (text : List ℕ) (temp : Float) (s : SpmSolver) where
         last = λ k z.
             let y : r .rows ≡ k = omega (arith, z) in
             subst (RowBy (answer (r .solver) q .state)) y (record { report = ap (λ (x : SpmStepAnswer). x .state) a; form = w; accepted = ap (λ (x : SpmStepAnswer). x .refusal) (sym a) ∙ h });
-        over = OverBy.rows (ap (λ (x : SpmStepAnswer). overAfter text (x .state .cutoff) (suc (r .rows))) a);
+        over = Cause.rows (ap (λ (x : SpmStepAnswer). overAfter text (x .state .cutoff) (suc (r .rows))) a);
       })
   followed-standing r false o c w e =
       let q = callAt text temp (r .rows) in
@@ -81,7 +83,7 @@ module _ (text : List ℕ) (temp : Float) (s : SpmSolver) where
 
   start-standing : Standing (started text s)
   unfolding started callsOf cutoffAfter
-  start-standing = record { listed = listed-none s; last = λ k e. absurd (omega (arith, e)); over = OverBy.rows refl }
+  start-standing = record { listed = listed-none s; last = λ k e. absurd (omega (arith, e)); over = Cause.rows refl }
 
   pub after-standing : (k : ℕ) → Standing (runAfter overOf (turned text temp) lastRow k (started text s))
   after-standing = run-keeps overOf (turned text temp) lastRow (started text s) Standing turned-standing start-standing
@@ -111,7 +113,7 @@ module _ (text : List ℕ) (temp : Float) (s : SpmSolver) where
 
   pub counts : CountsRows overOf (turned text temp) lastRow (started text s) (λ r. r .rows)
   unfolding started
-  counts = record { start = refl; written = turned-rows text temp; refused = turned-refused }
+  counts = record { start = refl; written = λ k o. turned-rows text temp _; refused = λ k o. turned-refused _ }
 
   -- ---- the lines that have a row
   line-bytes : (k : ℕ) → lineAt text k .«well_formed» ≡ true → k * 34 + 34 ≤ length text
@@ -122,7 +124,7 @@ module _ (text : List ℕ) (temp : Float) (s : SpmSolver) where
       go true e w = leb-true _ _ e
       go false e w = absurd (subst T (sym w) tt)
 
-  goes-on : (n : ℕ) → overAfter text (cutoffAfter text temp s n) n ≡ goingOn → (cutoffAfter text temp s n ≡ false) × (noneLeft text n ≡ false)
+  goes-on : (n : ℕ) → overAt n ≡ goingOn → (cutoffAfter text temp s n ≡ false) × (noneLeft text n ≡ false)
   unfolding overAfter
   goes-on n = go (cutoffAfter text temp s n) (noneLeft text n)
     where
@@ -134,24 +136,23 @@ module _ (text : List ℕ) (temp : Float) (s : SpmSolver) where
   ended-of : (r : ReplayState) (total : ℕ) → OverBy r → (r .over ≡ 0 → leb total (r .rows) ≡ true) → (r .over ≡ byRefusal → leb total (r .rows) ≡ false)
       → endingOf (r .over) (r .refusal) ≡ endedAfter text temp s total (r .rows)
   unfolding endingOf endedAfter overAfter
-  ended-of r total (OverBy.rows e) f g = rw e (by-rows (cutoffAfter text temp s (r .rows)) (noneLeft text (r .rows)) (leb total (r .rows)) (r .refusal) (λ z. f (e ∙ z)))
+  ended-of r total (Cause.rows e) f g = rw e (by-rows (cutoffAfter text temp s (r .rows)) (noneLeft text (r .rows)) (leb total (r .rows)) (r .refusal) (λ z. f (e ∙ z)))
     where
       by-rows : (b d f : Bool) (k : ℕ) → (cond b byVoltage (cond d byDone goingOn) ≡ 0 → f ≡ true)
           → endingOf (cond b byVoltage (cond d byDone goingOn)) k ≡ firstEnding b d f (lineRefusal text temp s (r .rows))
       by-rows true d f k h = refl
       by-rows false true f k h = refl
       by-rows false false f k h = rw (h refl)
-  ended-of r total (OverBy.line o h k n) f g = rw (o, k, goes-on (r .rows) h .0, goes-on (r .rows) h .1, g o)
+  ended-of r total (Cause.step o h k n) f g = rw (o, k, goes-on (r .rows) h .0, goes-on (r .rows) h .1, g o)
 
-  refused-of : (r : ReplayState) → OverBy r → endingOf (r .over) (r .refusal) .ending ≡ byRefusal → endingOf (r .over) (r .refusal) .refusal ≡ 0 → ⊥
+  rows-refuse-not : (n k : ℕ) → endingOf (overAt n) k .ending ≡ byRefusal → ⊥
   unfolding endingOf overAfter
-  refused-of r (OverBy.rows e) f z = by-rows (cutoffAfter text temp s (r .rows)) (noneLeft text (r .rows)) (rw e at f)
+  rows-refuse-not n k = go (cutoffAfter text temp s n) (noneLeft text n)
     where
-      by-rows : (b d : Bool) → endingOf (cond b byVoltage (cond d byDone goingOn)) (r .refusal) .ending ≡ byRefusal → ⊥
-      by-rows true d f = omega (arith, f)
-      by-rows false true f = omega (arith, f)
-      by-rows false false f = omega (arith, f)
-  refused-of r (OverBy.line o h k n) f z = n (rw o at z)
+      go : (b d : Bool) → endingOf (cond b byVoltage (cond d byDone goingOn)) k .ending ≡ byRefusal → ⊥
+      go true d f = omega (arith, f)
+      go false true f = omega (arith, f)
+      go false false f = omega (arith, f)
 
   start-on : started text s .over ≡ byRefusal → ⊥
   unfolding started
@@ -169,7 +170,7 @@ module _ (text : List ℕ) (temp : Float) (s : SpmSolver) where
       line-taken =
           let o = row-made overOf (turned text temp) lastRow (started text s) (λ r. r .rows) counts total j m .0 in
           let e : after j .rows ≡ j = count-on overOf (turned text temp) lastRow (started text s) (λ r. r .rows) counts j o in
-          let g : overAfter text (cutoffAfter text temp s j) j ≡ goingOn = rw e at (going (after j) o (after-standing j .over)) in
+          let g : overAt j ≡ goingOn = rw e at (going (after j) o (after-standing j .over)) in
           record { bytes = line-bytes j (row-by .form); window = goes-on j g .0; form = row-by .form; accepted = row-by .accepted }
 
     pub ended-is : endingOf (after total .over) (after total .refusal) ≡ endedAfter text temp s total (after total .rows)
@@ -179,4 +180,4 @@ module _ (text : List ℕ) (temp : Float) (s : SpmSolver) where
         (λ o. lt-leb total (after total .rows) (refused-room overOf (turned text temp) lastRow (started text s) (λ r. r .rows) counts start-on total o))
 
     pub refused-number : endingOf (after total .over) (after total .refusal) .ending ≡ byRefusal → endingOf (after total .over) (after total .refusal) .refusal ≡ 0 → ⊥
-    refused-number = refused-of (after total) (after-standing total .over)
+    refused-number = let r = after total in cause-number overAt (lineRefusal text temp s) (r .rows) (r .over) (r .refusal) (rows-refuse-not (r .rows) (r .refusal)) (after-standing total .over)

@@ -22,8 +22,9 @@ use Rattle.discharge_run.specs.declared.RunState.{RunState}
 use Rattle.discharge_run.specs.Discharge.{overOf, lastRow, started, followed, turned, finishedRun, allTurns, runRefusal, refusedRun, discharged}
 use Rattle.solver_laws.specs.Electrodes.{Electrode, particleAt}
 use Rattle.solver_laws.specs.Closure.{step-refused, step-count}
-use Rattle.solver_laws.specs.Demand.{Call, answer, cellAfter, taken, K, planFor, numbersAt, exactPlace, Inv, itself, stays, same-plan, solver-near}
+use Rattle.solver_laws.specs.Demand.{Call, answer, cellAfter, taken, K, planFor, numbersAt, exactPlace, Inv, itself, stays, same-plan}
 use Rattle.solver_laws.specs.AcceptedLists.{AllAccepted, all-taken, Listed, listed-none, listed-more}
+use Rattle.solver_laws.specs.ListedDemand.{listed-near}
 
 -- ---- what a run gives each step, and its list of calls: one for each row. A step that is refused ends the run without a row: it leaves the cell as it was, and adds no call.
 abbrev pub callOf : RunSettings → Call
@@ -98,5 +99,5 @@ run-near e w s places h k i l =
     let c = run-passes w s places h in
     let n = discharged w s places .rows in
     let k' = each-copies (λ q. StepConditions (numbersAt e s q)) (callOf w) n k in
-    let near = solver-near e s (callsOf w s places) c (rw (run-accepted w s places) k') i l in
-    rw (run-is-list w s places) (rw (all-counted s (callOf w) n s (itself s c) (discharged-listed w s places .accepted)) at near)
+    let near = listed-near e s (discharged w s places .solver) (callsOf w s places) (discharged-listed w s places) c k' i l in
+    rw (all-counted s (callOf w) n s (itself s c) (discharged-listed w s places .accepted)) at near

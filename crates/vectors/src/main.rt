@@ -2,6 +2,7 @@
 // they hold; then runs the worked examples that are run only. The lists stand in data/; a line is words of 16 hexadecimal digits, arguments
 // and answer, with a tab between the two. Each argument names a list: the calls that it has an answer of in every line, '|' after each, and its file.
 mod cells;
+mod cycles;
 mod dfn_cells;
 mod discharges;
 mod electrolytes;
@@ -83,6 +84,8 @@ const EXP: u64 = 29;
 
 const REPLAY: u64 = 30;
 
+const CYCLE: u64 = 31;
+
 // Whether a line agrees, whose first word is read already: of the inner parts, the sheet and the particle.
 fn small_line(which: u64, fd: i32, first: u64) -> bool {
     match which {
@@ -104,7 +107,7 @@ fn small_line(which: u64, fd: i32, first: u64) -> bool {
     }
 }
 
-// The same of the cells, the electrolyte, the equations, E where it is largest and least, and recorded loads.
+// The same of the cells, the electrolyte, the equations, E where it is largest and least, recorded loads and phases.
 fn large_line(which: u64, fd: i32, first: u64) -> bool {
     match which {
         READY_CELLS => cells::ready_line(fd, first),
@@ -124,6 +127,7 @@ fn large_line(which: u64, fd: i32, first: u64) -> bool {
         RUN_GALVANOSTATIC => dfn_cells::run_line(fd, first),
         EXP => functions::exp_line(fd, first),
         REPLAY => replays::run_line(fd, first),
+        CYCLE => cycles::run_line(fd, first),
         _ => false,
     }
 }
@@ -210,7 +214,7 @@ fn replay_argument(which: usize) -> u64 {
 
 fn replay_all() -> u64 {
     let mut answers: u64 = 0;
-    for which in 0..31 {
+    for which in 0..32 {
         answers = std::num::wrapping_add_u64(answers, replay_argument(which));
     }
     answers

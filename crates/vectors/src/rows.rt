@@ -40,5 +40,6 @@ pub(crate) fn is_ending(ending: Ending, number: u64, refusal: u64) -> bool {
         Ending::Full => (number == 3) & (refusal == 0),
         Ending::Refused(k) => (number == 4) & (refusal == k),
         Ending::Done => (number == 5) & (refusal == 0),
+        Ending::Spent => (number == 6) & (refusal == 0),
     }
 }

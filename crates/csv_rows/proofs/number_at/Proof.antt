@@ -17,8 +17,8 @@ add-result c = search needs
 mul-result-2 : tie.Need-mul-result-2
 mul-result-2 c = search needs
 
-element-copy-out-result : tie.Need-element-copy-out-result
-element-copy-out-result c = search needs
+shared-slice-read-result : tie.Need-shared-slice-read-result
+shared-slice-read-result c = search needs
 
 returns : tie.Need-returns
 unfolding numberAt
@@ -36,6 +36,6 @@ number-at-spec =
     mul-result
     add-result
     mul-result-2
-    element-copy-out-result
+    shared-slice-read-result
     returns
     returns-2)

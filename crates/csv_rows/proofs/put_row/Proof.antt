@@ -11,10 +11,10 @@ use Rattle.csv_rows.proofs.put_row.Statement.{statement}
 use Rattle.csv_rows.proofs.put_row.Tie as tie
 
 abbrev Inv-loop : tie.InvT-loop
-Inv-loop line₀ rows row used₀ k₀ line used k = (k ≤ 8) × (written line used ≡ putAll (written line₀ 0) (columnsBy k rows row))
+Inv-loop line₀ rows row last used₀ k₀ line used k = (k ≤ 8) × (written line used ≡ putAll (written line₀ 0) (columnsBy k rows row last))
 
 abbrev μ-loop : tie.MeasureT-loop
-μ-loop line₀ rows row used₀ k₀ line used k = 8 - k
+μ-loop line₀ rows row last used₀ k₀ line used k = 8 - k
 
 loop-holds : tie.Need-loop-holds Inv-loop μ-loop
 unfolding columnsBy putAll
@@ -44,10 +44,10 @@ loop-again c =
     let put-number = c .before .before .before .put-number in
     let number-at = c .before .before .before .before .number-at in
     let loop = c .before .before .before .before .before .before .before .loop in
-    let args = c .before .before .before .before .before .before .before .before .args in (
+    let args = c .before .before .before .before .before .before .before .before .before .args in (
       search needs,
       rw (add-one (loop .k)) (column-turn (written (args .line .now) 0) (written (loop .line) (loop .used)) (written (put-number .last .0) (put-number .result))
-          (written (c .put .last .0) (c .put .result)) (args .rows .now) (args .row) (loop .k) (loop .inv .1) (put-number .ensures ∙ rw (number-at .ensures)) (c .put .ensures ∙ rw
+          (written (c .put .last .0) (c .put .result)) (args .rows .now) (args .row) (args .last) (loop .k) (loop .inv .1) (put-number .ensures ∙ rw (number-at .ensures)) (c .put .ensures ∙ rw
           (separator .ensures))),
     )
 

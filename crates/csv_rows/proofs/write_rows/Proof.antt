@@ -10,11 +10,11 @@ Inv-loop rows count i₀ i = i ≤ count
 abbrev μ-loop : tie.MeasureT-loop
 μ-loop rows count i₀ i = count - i
 
-slice-aggregate-write-all : tie.Need-slice-aggregate-write-all Inv-loop μ-loop
-slice-aggregate-write-all c = search needs
+slice-aggregate-write-header : tie.Need-slice-aggregate-write-header Inv-loop μ-loop
+slice-aggregate-write-header c = search needs
 
-write-all-requires : tie.Need-write-all-requires Inv-loop μ-loop
-write-all-requires c κs = search needs
+write-header-requires : tie.Need-write-header-requires Inv-loop μ-loop
+write-header-requires c κs = search needs
 
 loop-holds : tie.Need-loop-holds Inv-loop μ-loop
 loop-holds c = search needs
@@ -40,8 +40,8 @@ write-rows-spec =
     (tie.spec
     Inv-loop
     μ-loop
-    slice-aggregate-write-all
-    write-all-requires
+    slice-aggregate-write-header
+    write-header-requires
     loop-holds
     write-row-requires
     add-i

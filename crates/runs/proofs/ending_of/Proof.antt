@@ -22,8 +22,13 @@ returns-4 c = rw (c .match .keys4)
 
 returns-5 : tie.Need-returns-5
 unfolding endingOf
-returns-5 c =
+returns-5 c = rw (c .match .keys5)
+
+returns-6 : tie.Need-returns-6
+unfolding endingOf
+returns-6 c =
     rw (
+      ne-eqb _ _ (c .match .rest .0 .0 .0 .0 .1),
       ne-eqb _ _ (c .match .rest .0 .0 .0 .1),
       ne-eqb _ _ (c .match .rest .0 .0 .1),
       ne-eqb _ _ (c .match .rest .0 .1),
@@ -31,4 +36,4 @@ returns-5 c =
     )
 
 pub ending-of-spec : {M : Type 1} → statement M
-ending-of-spec = tie.close (tie.spec returns returns-2 returns-3 returns-4 returns-5)
+ending-of-spec = tie.close (tie.spec returns returns-2 returns-3 returns-4 returns-5 returns-6)

@@ -6,10 +6,10 @@ use Rattle.setting_messages.proofs.write_names.Statement.{statement}
 use Rattle.setting_messages.proofs.write_names.Tie as tie
 
 abbrev Inv-loop : tie.InvT-loop
-Inv-loop load v k₀ t4 k = k ≤ none
+Inv-loop load phases v k₀ t4 k = k ≤ none
 
 abbrev μ-loop : tie.MeasureT-loop
-μ-loop load v k₀ t4 k = none - k
+μ-loop load phases v k₀ t4 k = none - k
 
 nmc-cathode-requires : tie.Need-nmc-cathode-requires Inv-loop μ-loop
 nmc-cathode-requires c κs = search needs
@@ -22,6 +22,9 @@ loop-holds c = search needs
 
 in-load-requires : tie.Need-in-load-requires Inv-loop μ-loop
 in-load-requires c κs = search needs
+
+in-phases-requires : tie.Need-in-phases-requires Inv-loop μ-loop
+in-phases-requires c κs = search needs
 
 write-name-requires : tie.Need-write-name-requires Inv-loop μ-loop
 write-name-requires c κs = search needs
@@ -54,6 +57,7 @@ write-names-spec =
     ready-requires
     loop-holds
     in-load-requires
+    in-phases-requires
     write-name-requires
     add-k
     loop-less

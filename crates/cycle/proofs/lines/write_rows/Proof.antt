@@ -1,0 +1,62 @@
+-- `cycle::lines::write_rows` meets its contract. Assumes nothing.
+use Prim.Native.Nat.{_≤_, _-_}
+use borrow.Author.Needs.{needs}
+use Rattle.cycle.proofs.lines.write_rows.Statement.{statement}
+use Rattle.cycle.proofs.lines.write_rows.Tie as tie
+
+abbrev Inv-loop : tie.InvT-loop
+Inv-loop phases g rows count q₀ i₀ q i = i ≤ count
+
+abbrev μ-loop : tie.MeasureT-loop
+μ-loop phases g rows count q₀ i₀ q i = count - i
+
+slice-aggregate-write-header : tie.Need-slice-aggregate-write-header Inv-loop μ-loop
+slice-aggregate-write-header c = search needs
+
+write-header-requires : tie.Need-write-header-requires Inv-loop μ-loop
+write-header-requires c κs = search needs
+
+first-position-requires : tie.Need-first-position-requires Inv-loop μ-loop
+first-position-requires c κs = search needs
+
+loop-holds : tie.Need-loop-holds Inv-loop μ-loop
+loop-holds c = search needs
+
+write-row-requires : tie.Need-write-row-requires Inv-loop μ-loop
+write-row-requires c κs = search needs
+
+cutoff-at-requires : tie.Need-cutoff-at-requires Inv-loop μ-loop
+cutoff-at-requires c κs = search needs
+
+position-after-requires : tie.Need-position-after-requires Inv-loop μ-loop
+position-after-requires c κs = search needs
+
+add-i : tie.Need-add-i Inv-loop μ-loop
+add-i c = search needs
+
+loop-less : tie.Need-loop-less Inv-loop μ-loop
+loop-less c = search needs
+
+loop-again : tie.Need-loop-again Inv-loop μ-loop
+loop-again c = search needs
+
+returns : tie.Need-returns Inv-loop μ-loop
+returns c = search needs
+
+pub write-rows-spec : {M : Type 1} → statement M
+write-rows-spec =
+    tie.close
+    (tie.spec
+    Inv-loop
+    μ-loop
+    slice-aggregate-write-header
+    write-header-requires
+    first-position-requires
+    loop-holds
+    write-row-requires
+    cutoff-at-requires
+    position-after-requires
+    add-i
+    loop-less
+    loop-again
+    returns)
