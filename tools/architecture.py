@@ -24,7 +24,7 @@ GROUPS = {
     "model": ("the cells: single-particle, electrolyte, Doyle-Fuller-Newman, their runs", "#eef8ee", "#7fb583", "#22642a"),
     "boundary": ("the calls from C, on images of the records", "#fdf4e7", "#d6a55c", "#7d4e09"),
     "laws": ("what is proved beyond the contracts; no code", "#f6effa", "#ab86c6", "#5d2f80"),
-    "programs": ("a discharge or a recorded load as rows, with their libraries; the replay of the oracle's list", "#fbeeee", "#cf8b8b", "#8a2b2b"),
+    "programs": ("a discharge, a recorded load or a charger's phases as rows, with their libraries; the replay of the oracle's list", "#fbeeee", "#cf8b8b", "#8a2b2b"),
 }
 BEGIN, END = "<!-- made by tools/architecture.py -->", "<!-- end -->"
 

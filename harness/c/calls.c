@@ -76,6 +76,13 @@ struct solution {
 struct ending {
     uint64_t how, rows;
 };
+struct phase {
+    uint64_t kind;
+    double number;
+};
+struct phases {
+    struct phase places[PJ_PHASE_PLACES];
+};
 struct new_particle {
     struct sheet sheet;
     uint64_t n_nodes;
@@ -119,6 +126,8 @@ SIZE(dfn_cell, PJ_DFN_CELL_BYTES);
 SIZE(dfn_report, PJ_DFN_REPORT_BYTES);
 SIZE(solution, PJ_SOLUTION_BYTES);
 SIZE(ending, PJ_ENDING_BYTES);
+SIZE(phase, PJ_PHASE_BYTES);
+SIZE(phases, PJ_PHASES_BYTES);
 SIZE(new_particle, PJ_NEW_PARTICLE_BYTES);
 SIZE(new_cell, PJ_NEW_CELL_BYTES);
 SIZE(new_dfn, PJ_NEW_DFN_BYTES);
@@ -239,6 +248,8 @@ OFFSET(dfn_report, cutoff, PJ_AT_DFN_REPORT_CUTOFF);
 OFFSET(dfn_report, newton_iter, PJ_AT_DFN_REPORT_NEWTON_ITER);
 OFFSET(ending, how, PJ_AT_ENDING_HOW);
 OFFSET(ending, rows, PJ_AT_ENDING_ROWS);
+OFFSET(phase, kind, PJ_AT_PHASE_KIND);
+OFFSET(phase, number, PJ_AT_PHASE_NUMBER);
 OFFSET(new_particle, sheet, PJ_AT_NEW_PARTICLE_SHEET);
 OFFSET(new_particle, n_nodes, PJ_AT_NEW_PARTICLE_N_NODES);
 OFFSET(new_cell, config, PJ_AT_NEW_CELL_CONFIG);
@@ -474,7 +485,7 @@ static void numbers(void)
     EXPECT(NUMBER(PJ_NUMBER_ELECTROLYTE_DT_STABLE, electrolyte, sizeof electrolyte, T, 0) > 0.0);
 }
 
-/* An image of layout version 1, which had no t_ref, is not taken for one of version 2, even where its length is that of another record. */
+/* An image of layout version 1, which had no t_ref, is not taken for one of this version, even where its length is that of another record. */
 static void earlier_layout(void)
 {
     enum { SHEET = PJ_AT_SHEET_T_REF, PROFILE = PJ_PARTICLE_BYTES - PJ_SHEET_BYTES, PARTICLE = SHEET + PROFILE };
@@ -823,6 +834,219 @@ static void refused_replays(void)
     memcpy(cell_nmc, cell_of, sizeof cell_nmc);
 }
 
+/* ---- cycles: phases on cell_nmc ---- */
+static uint8_t phases[PJ_PHASES_BYTES];
+
+/* A cycle of the first phases, from rows that hold -7 and an ending of 0. */
+static uint64_t cycle(size_t count, size_t repeats, size_t budget, double dt, double temp_k, size_t rows_len)
+{
+    size_t i;
+    for (i = 0; i < PJ_ROW_DOUBLES * ROWS; i++)
+        rows[i] = -7.0;
+    pj_put_u64(run, PJ_AT_CELL_ENDING + PJ_AT_ENDING_HOW, 0);
+    return pj_cycle(cell_nmc, sizeof cell_nmc, phases, sizeof phases, count, repeats, budget, dt, temp_k, rows, rows_len, run, sizeof run);
+}
+
+/* One that is accepted, in a slice of just the budget's rows: how it ended and after how many rows, behind which nothing is written. */
+static void cycle_ends(int line, size_t count, size_t repeats, size_t budget, double dt, uint64_t how, uint64_t made)
+{
+    expect(line, cycle(count, repeats, budget, dt, T, PJ_ROW_DOUBLES * budget) == PJ_REFUSAL_NONE, "the cycle is not refused");
+    expect(line, pj_get_u64(run, PJ_AT_CELL_ENDING + PJ_AT_ENDING_HOW) == how, "how it ended");
+    expect(line, pj_get_u64(run, PJ_AT_CELL_ENDING + PJ_AT_ENDING_ROWS) == made, "how many rows it made");
+    expect(line, kept_from(made) && rows[PJ_ROW_DOUBLES * made - 1] != -7.0, "the rows that are written");
+}
+
+#define EXPECT_CYCLE(count, repeats, budget, dt, how, made) cycle_ends(__LINE__, count, repeats, budget, dt, how, made)
+
+/* 5 A out, a rest of 100 s, 5 A in, a rest of 0 s. */
+static void four_phases(void)
+{
+    pj_put_phase(phases, 0, PJ_PHASE_DISCHARGE, 5.0);
+    pj_put_phase(phases, 1, PJ_PHASE_REST, 100.0);
+    pj_put_phase(phases, 2, PJ_PHASE_CHARGE, 5.0);
+    pj_put_phase(phases, 3, PJ_PHASE_REST, 0.0);
+}
+
+/* Whether a row is that of a step from the cell of the answer before, whose answer stands here after it. */
+static int row_is_step(const double *row, double current_a, double dt, uint8_t *step)
+{
+    memcpy(cell_of, step, sizeof cell_of);
+    return pj_cell_step(cell_of, sizeof cell_of, current_a, dt, T, step, PJ_CELL_STEP_BYTES) == PJ_REFUSAL_NONE
+        && memcmp(row, step + PJ_AT_CELL_REPORT, PJ_AT_REPORT_CUTOFF) == 0
+        && row[PJ_CELL_ROW_CUTOFF] == (double)pj_get_u64(step, PJ_AT_CELL_REPORT + PJ_AT_REPORT_CUTOFF);
+}
+
+/* The rows are those of separate steps, phase by phase, bit for bit; so is the cell. */
+static void cycled_rows(void)
+{
+    static const double current[4] = {5.0, 0.0, -5.0, 0.0};
+    static const size_t rest[4] = {0, 2, 0, 1}; /* steps of 60 s in a rest */
+    static uint8_t step[PJ_CELL_STEP_BYTES];
+    size_t row, in_phase = 0, ended = 0, made;
+    four_phases();
+    EXPECT(cycle(4, 2, ROWS, 60.0, T, PJ_ROW_DOUBLES * ROWS) == PJ_REFUSAL_NONE);
+    EXPECT_U64(run, PJ_AT_CELL_ENDING + PJ_AT_ENDING_HOW, PJ_ENDED_DONE);
+    made = (size_t)pj_get_u64(run, PJ_AT_CELL_ENDING + PJ_AT_ENDING_ROWS);
+    EXPECT(made <= ROWS && kept_from(made));
+    memcpy(step, cell_nmc, sizeof cell_nmc);
+    for (row = 0; row < made; row++) {
+        const double *at = rows + PJ_ROW_DOUBLES * row;
+        EXPECT(ended < 8 && row_is_step(at, current[ended % 4], 60.0, step));
+        in_phase++;
+        if (rest[ended % 4] == 0 ? at[PJ_CELL_ROW_CUTOFF] == 1.0 : in_phase == rest[ended % 4]) {
+            in_phase = 0;
+            ended++;
+        }
+    }
+    EXPECT(ended == 8 && in_phase == 0 && made > 16);
+    EXPECT(memcmp(run, step, PJ_CELL_BYTES) == 0);
+    /* the last phase may end on the budget's last step; one step fewer is spent, with the same rows */
+    EXPECT_CYCLE(4, 2, made, 60.0, PJ_ENDED_DONE, made);
+    EXPECT_CYCLE(4, 2, made - 1, 60.0, PJ_ENDED_SPENT, made - 1);
+    EXPECT_F64(run, PJ_AT_CELL_TIME_S, 60.0 * (double)(made - 1));
+    /* the discharge alone, whose row with cutoff is the last */
+    EXPECT_CYCLE(1, 1, ROWS, 10.0, PJ_ENDED_DONE, 156);
+    EXPECT(rows[PJ_ROW_DOUBLES * 155 + PJ_CELL_ROW_CUTOFF] == 1.0);
+    EXPECT_CYCLE(1, 1, 155, 10.0, PJ_ENDED_SPENT, 155);
+}
+
+/* Where every row has cutoff, a charge and a discharge take one step each, and a rest what its time takes. */
+static void cycles_of_cutoffs(void)
+{
+    static uint8_t kept[PJ_CELL_BYTES];
+    size_t i;
+    memcpy(kept, cell_nmc, sizeof kept);
+    pj_put_f64(cell_nmc, PJ_AT_CELL_CONFIG + PJ_AT_CONFIG_V_MIN, 10.0);
+    four_phases();
+    EXPECT_CYCLE(4, 1, 6, 60.0, PJ_ENDED_DONE, 5);
+    EXPECT_CYCLE(4, 20, 100, 60.0, PJ_ENDED_DONE, 100);
+    EXPECT_CYCLE(4, 20, 99, 60.0, PJ_ENDED_SPENT, 99);
+    EXPECT_CYCLE(4, 20, 1, 60.0, PJ_ENDED_SPENT, 1);
+    EXPECT_CYCLE(3, 1000, ROWS, 60.0, PJ_ENDED_SPENT, ROWS);
+    for (i = 0; i < ROWS; i++) {
+        const double *row = rows + PJ_ROW_DOUBLES * i;
+        EXPECT(row[PJ_CELL_ROW_CUTOFF] == 1.0 && row[PJ_CELL_ROW_CURRENT] == (i % 4 == 0 ? 5.0 : i % 4 == 3 ? -5.0 : 0.0));
+    }
+    /* all eight places */
+    for (i = 0; i < PJ_PHASE_PLACES; i++)
+        pj_put_phase(phases, i, i % 2 == 0 ? PJ_PHASE_CHARGE : PJ_PHASE_DISCHARGE, (double)(i + 1));
+    EXPECT_CYCLE(PJ_PHASE_PLACES, 2, 16, 1.0, PJ_ENDED_DONE, 16);
+    for (i = 0; i < 16; i++)
+        EXPECT(rows[PJ_ROW_DOUBLES * i + PJ_CELL_ROW_CURRENT] == (i % 2 == 0 ? -1.0 : 1.0) * (double)(i % PJ_PHASE_PLACES + 1));
+    memcpy(cell_nmc, kept, sizeof kept);
+}
+
+/* A rest's clock is a sum, begins at 0 with each rest, and is compared after the step. Its current is +0. */
+static void rest_clocks(void)
+{
+    size_t i;
+    for (i = 0; i < 3; i++)
+        pj_put_phase(phases, i, PJ_PHASE_REST, 1.0);
+    EXPECT_CYCLE(1, 1, ROWS, 0.1, PJ_ENDED_DONE, 11);
+    EXPECT_U64((const uint8_t *)rows, 8 * PJ_CELL_ROW_CURRENT, 0);
+    EXPECT_CYCLE(3, 1, ROWS, 0.1, PJ_ENDED_DONE, 33);
+    EXPECT_CYCLE(1, 3, ROWS, 0.1, PJ_ENDED_DONE, 33);
+    EXPECT_CYCLE(1, 1, ROWS, 0.125, PJ_ENDED_DONE, 8);
+    EXPECT_CYCLE(1, 1, ROWS, 0.5, PJ_ENDED_DONE, 2);
+    EXPECT_CYCLE(1, 1, ROWS, 1.0, PJ_ENDED_DONE, 1);
+    pj_put_phase(phases, 0, PJ_PHASE_REST, -0.0);
+    EXPECT_CYCLE(1, 1, ROWS, 60.0, PJ_ENDED_DONE, 1);
+    pj_put_phase(phases, 0, PJ_PHASE_REST, 1e9);
+    EXPECT_CYCLE(1, 1, ROWS, 60.0, PJ_ENDED_SPENT, ROWS);
+}
+
+/* What stands behind the first phases is not looked at; among them a kind that is none is refused. */
+static void places_beyond_count(void)
+{
+    static const uint64_t kinds[3] = {0, 4, UINT64_C(1) << 63};
+    static const double numbers[3] = {-1.0, 0.0, 1e300};
+    static double first[PJ_ROW_DOUBLES * ROWS];
+    size_t i;
+    four_phases();
+    EXPECT_CYCLE(4, 1, 30, 60.0, PJ_ENDED_SPENT, 30);
+    memcpy(first, rows, sizeof rows);
+    for (i = 0; i < 3; i++) {
+        pj_put_phase(phases, 4, kinds[i], numbers[i]);
+        pj_put_phase(phases, 7, PJ_PHASE_CHARGE, numbers[i]);
+        EXPECT_CYCLE(4, 1, 30, 60.0, PJ_ENDED_SPENT, 30);
+        EXPECT(memcmp(rows, first, sizeof rows) == 0);
+        EXPECT(cycle(5, 1, 30, 60.0, T, PJ_ROW_DOUBLES * ROWS) == PJ_REFUSAL_SHEET);
+        EXPECT_U64(run, PJ_AT_CELL_ENDING + PJ_AT_ENDING_HOW, 0);
+        EXPECT(kept_from(0));
+    }
+    memset(phases, 0, sizeof phases);
+}
+
+/* ---- cycles that are refused: each number against those that come after it; nothing is written ---- */
+enum { FIVE_ROWS = 5 * PJ_ROW_DOUBLES };
+
+static void cycle_refused(int line, size_t count, double dt, double temp_k, size_t rows_len, uint64_t refusal)
+{
+    expect(line, cycle(count, 1, 5, dt, temp_k, rows_len) == refusal, "the cycle's refusal");
+    expect(line, pj_get_u64(run, PJ_AT_CELL_ENDING + PJ_AT_ENDING_HOW) == 0 && kept_from(0), "nothing is written");
+}
+
+#define EXPECT_REFUSED(count, dt, temp_k, rows_len, refusal) cycle_refused(__LINE__, count, dt, temp_k, rows_len, refusal)
+
+/* From the last to the first: 7, 6, 5, 4, 3, 2, 10 of the rows, 1. */
+static void refused_cycles(void)
+{
+    static uint8_t kept[PJ_CELL_BYTES];
+    memcpy(kept, cell_nmc, sizeof kept);
+    four_phases();
+    /* a small particle needs many sub-steps */
+    pj_put_f64(cell_nmc, PJ_AT_CELL_ANODE + PJ_AT_SHEET_R_PARTICLE, 1e-7);
+    EXPECT_REFUSED(4, 86400.0, T, FIVE_ROWS, PJ_REFUSAL_SUB_STEPS);
+    pj_put_f64(cell_nmc, PJ_AT_CELL_ANODE + PJ_AT_SHEET_D_S_REF, 1e-8);
+    pj_put_f64(cell_nmc, PJ_AT_CELL_ANODE + PJ_AT_SHEET_E_A_DS, 5e4);
+    EXPECT_REFUSED(4, 86400.0, 350.0, FIVE_ROWS, PJ_REFUSAL_DIFFUSIVITY);
+    EXPECT_REFUSED(4, 86400.0, 500.0, FIVE_ROWS, PJ_REFUSAL_TEMPERATURE);
+    EXPECT_REFUSED(4, 0.0, 500.0, FIVE_ROWS, PJ_REFUSAL_INTERVAL);
+    pj_put_phase(phases, 3, PJ_PHASE_REST, -1.0);
+    EXPECT_REFUSED(4, 1.0, 500.0, FIVE_ROWS, PJ_REFUSAL_INTERVAL);
+    EXPECT_REFUSED(3, 1.0, 500.0, FIVE_ROWS, PJ_REFUSAL_TEMPERATURE);
+    pj_put_phase(phases, 2, PJ_PHASE_CHARGE, -5.0);
+    EXPECT_REFUSED(4, 0.0, 500.0, FIVE_ROWS, PJ_REFUSAL_LOAD);
+    EXPECT_REFUSED(2, 0.0, 500.0, FIVE_ROWS, PJ_REFUSAL_INTERVAL);
+    pj_put_phase(phases, 3, 4, -1.0);
+    EXPECT_REFUSED(4, 0.0, 500.0, FIVE_ROWS, PJ_REFUSAL_SHEET);
+    EXPECT_REFUSED(3, 0.0, 500.0, FIVE_ROWS, PJ_REFUSAL_LOAD);
+    pj_put_f64(cell_nmc, PJ_AT_CELL_TIME_S, -1.0);
+    EXPECT_REFUSED(3, 0.0, 500.0, FIVE_ROWS, PJ_REFUSAL_SHEET);
+    EXPECT_REFUSED(4, 0.0, 500.0, FIVE_ROWS - 1, PJ_REFUSAL_LENGTH);
+    EXPECT_REFUSED(4, 0.0, 500.0, 0, PJ_REFUSAL_LENGTH);
+    EXPECT_REFUSED(0, 0.0, 500.0, 0, PJ_REFUSAL_GRID);
+    EXPECT_REFUSED(9, 0.0, 500.0, 0, PJ_REFUSAL_GRID);
+    pj_put_u64(cell_nmc, PJ_AT_CELL_CONFIG + PJ_AT_CONFIG_N_NODES, 2);
+    EXPECT_REFUSED(4, 0.0, 500.0, 0, PJ_REFUSAL_GRID);
+    memcpy(cell_nmc, kept, sizeof kept);
+}
+
+/* The other two counts; then the lengths of images, whatever else is wrong. */
+static void refused_counts(void)
+{
+    static const size_t counts[4][2] = {{0, 5}, {1001, 5}, {1, 0}, {1, 100001}};
+    static uint8_t kept[PJ_CELL_RUN_BYTES], nine[PJ_PHASES_BYTES + PJ_PHASE_BYTES];
+    const size_t cell = sizeof cell_nmc, image = sizeof phases, answer = sizeof run;
+    size_t i;
+    for (i = 0; i < 4; i++) {
+        EXPECT(cycle(4, counts[i][0], counts[i][1], 0.0, 500.0, 0) == PJ_REFUSAL_GRID);
+        EXPECT_U64(run, PJ_AT_CELL_ENDING + PJ_AT_ENDING_HOW, 0);
+    }
+    memcpy(kept, run, sizeof run);
+    four_phases();
+    memcpy(nine, phases, sizeof phases);
+    for (i = 0; i < 2; i++) {
+        EXPECT(pj_cycle(cell_nmc, cell - 8, phases, image, i, 1, 5, 1.0, T, rows, FIVE_ROWS, run, answer) == PJ_REFUSAL_LENGTH);
+        EXPECT(pj_cycle(cell_nmc, cell, phases, image - 1, i, 1, 5, 1.0, T, rows, FIVE_ROWS, run, answer) == PJ_REFUSAL_LENGTH);
+        EXPECT(pj_cycle(cell_nmc, cell, phases, PJ_PHASE_BYTES, i, 1, 5, 1.0, T, rows, FIVE_ROWS, run, answer) == PJ_REFUSAL_LENGTH);
+        EXPECT(pj_cycle(cell_nmc, cell, phases, 0, i, 1, 5, 1.0, T, rows, FIVE_ROWS, run, answer) == PJ_REFUSAL_LENGTH);
+        EXPECT(pj_cycle(cell_nmc, cell, nine, sizeof nine, i, 1, 5, 1.0, T, rows, FIVE_ROWS, run, answer) == PJ_REFUSAL_LENGTH);
+        EXPECT(pj_cycle(cell_nmc, cell, phases, image, i, 1, 5, 1.0, T, rows, FIVE_ROWS, run, answer - 1) == PJ_REFUSAL_LENGTH);
+    }
+    EXPECT(memcmp(run, kept, sizeof run) == 0 && kept_from(0));
+}
+
 /* The input that docs/REFERENCE.md names for each refusal. */
 static void refusals(void)
 {
@@ -896,6 +1120,12 @@ int main(void)
     wrong_lines();
     refused_steps();
     refused_replays();
+    cycled_rows();
+    cycles_of_cutoffs();
+    rest_clocks();
+    places_beyond_count();
+    refused_cycles();
+    refused_counts();
     refusals();
     if (failures != 0) {
         fprintf(stderr, "calls.c: %d of %d do not hold\n", failures, checks);

@@ -16,13 +16,13 @@
  *
  * RANGES are closed, and no NaN and no infinity lies in one. A whole record is checked by every call.
  *
- * PLATFORM. The archive is for x86-64 (System V calling convention) and holds about 111 kB of code and tables. It leaves memcpy
+ * PLATFORM. The archive is for x86-64 (System V calling convention) and holds about 117 kB of code and tables. It leaves memcpy
  * and memset undefined, which the C library or the firmware has to supply, and needs nothing else: no heap, no file, no clock, no
  * C library beyond these two, no thread. Calls keep no state, so that they may run on several threads at once, each on memory of its own.
  *
  * FLOATING POINT. A call must find the processor as the System V convention has it at a program's start: round to nearest, all
  * floating-point exceptions masked, and neither flush-to-zero nor denormals-are-zero (MXCSR = 0x1F80). With both of the last on,
- * 1.9 in 100 drawn calls give other bits or another refusal (in 6.4 of 100 drawn lists of calls; harness/flush/run counts them), and
+ * 1.9 in 100 drawn calls give other bits or another refusal (in 6.2 of 100 drawn lists of calls; harness/flush/run counts them), and
  * no proof covers that. A program that gcc links with -ffast-math starts with both on: turn them off around the calls.
  *
  * STACK. A call needs at most PJ_STACK_..._BYTES of it, whatever it is handed, and what memcpy and memset need besides.
@@ -47,22 +47,22 @@ extern "C" {
 
 enum pj_refusal {
     PJ_REFUSAL_NONE = 0,
-    PJ_REFUSAL_GRID = 1,        /* a count of nodes or a matrix's order out of its limits */
-    PJ_REFUSAL_SHEET = 2,       /* any other field, argument, place or clock out of range; a call number that is not listed */
-    PJ_REFUSAL_LOAD = 3,        /* a current, flux or source not finite or too large */
-    PJ_REFUSAL_INTERVAL = 4,    /* dt not above 0 or above 86,400 s; a time limit that is not finite */
+    PJ_REFUSAL_GRID = 1,        /* a count of nodes, a matrix's order or a cycle's count of phases, repeats or steps out of its limits */
+    PJ_REFUSAL_SHEET = 2,       /* any other field, argument, place or clock out of range; a call number or kind of phase that is not listed */
+    PJ_REFUSAL_LOAD = 3,        /* a current, flux or source not finite or too large; a phase's current not above 0 */
+    PJ_REFUSAL_INTERVAL = 4,    /* dt not above 0 or above 86,400 s; a time limit that is not finite; a rest's time out of 0 to 1e9 s */
     PJ_REFUSAL_TEMPERATURE = 5, /* temp_k out of 200 to 400 K */
     PJ_REFUSAL_DIFFUSIVITY = 6, /* single-particle cell: diffusivity at temp_k out of 1e-20 to 1e-8 m^2/s */
     PJ_REFUSAL_SUB_STEPS = 7,   /* single-particle cell: dt needs more than 4,096 sub-steps */
     PJ_REFUSAL_NOT_FINITE = 8,  /* the result would hold a NaN or an infinity */
     PJ_REFUSAL_SINGULAR = 9,    /* pj_solve_dense: the largest pivot of a column is below 1e-14 */
-    PJ_REFUSAL_LENGTH = 10,     /* a wrong length of image or answer, rows_len under 8, a_len not n*n, b_len not n */
+    PJ_REFUSAL_LENGTH = 10,     /* a wrong length of image or answer, rows_len under 8, in a cycle under 8 * budget, a_len not n*n, b_len not n */
     PJ_REFUSAL_LINE = 11,       /* pj_replay: the next bytes of the text are not a line */
     PJ_REFUSAL_FILE = 12        /* pj_replay: a text longer than PJ_MOST_TEXT_BYTES */
 };
 /* Where several are met, one is returned: a call number that is not listed (2) or a text that is too long (12), then a wrong length of
  * image or answer (10), then the first of 1, 10, 2, 3, 4, 5, 6, 7, 8, 9. A replay tests 1, 10, 2, 5 before its first line, and then of each
- * line 11, 3, 4, 6, 7, 8. */
+ * line 11, 3, 4, 6, 7, 8. A cycle tests 1, 10, 2, 3, 4, 5, each of all its phases, before its first step. */
 
 /* How a run ended: the first word after the cell in its answer. No ending is 0. */
 enum pj_ending {
@@ -70,7 +70,8 @@ enum pj_ending {
     PJ_ENDED_TIME = 2,    /* the time limit */
     PJ_ENDED_FULL = 3,    /* every whole row is written: hand the answer's cell in again, with the time that is left, to go on */
     PJ_ENDED_REFUSED = 4, /* a step or a line was refused; the call returned its number */
-    PJ_ENDED_DONE = 5     /* pj_replay: no line is left */
+    PJ_ENDED_DONE = 5,    /* pj_replay: no line is left; pj_cycle: the last phase has ended */
+    PJ_ENDED_SPENT = 6    /* pj_cycle: the budget of steps is made and the last phase has not ended */
 };
 
 /* ---- sizes of images, in bytes -------------------------------------------------------------------------------------------- */
@@ -90,6 +91,8 @@ enum pj_bytes {
     PJ_DFN_REPORT_BYTES = 64,
     PJ_SOLUTION_BYTES = 256,
     PJ_ENDING_BYTES = 16,
+    PJ_PHASE_BYTES = 16,
+    PJ_PHASES_BYTES = 128, /* PJ_PHASE_PLACES phases, one after the other */
 
     /* joined: what a call takes */
     PJ_NEW_PARTICLE_BYTES = 96, /* sheet, n_nodes */
@@ -110,12 +113,15 @@ enum pj_places {
     PJ_DFN_SOLID_PLACES = 512,
     PJ_DFN_ELECTROLYTE_PLACES = 33,
     PJ_COEFFICIENT_PLACES = 16,
-    PJ_SOLUTION_PLACES = 32
+    PJ_SOLUTION_PLACES = 32,
+    PJ_PHASE_PLACES = 8
 };
 
 /* ---- fields, by the byte of their record at which they begin -------------------------------------------------------------- */
 
 enum pj_chemistry { PJ_CHEMISTRY_GRAPHITE = 1, PJ_CHEMISTRY_LFP = 2, PJ_CHEMISTRY_NMC = 3 };
+
+enum pj_phase { PJ_PHASE_CHARGE = 1, PJ_PHASE_REST = 2, PJ_PHASE_DISCHARGE = 3 };
 
 /* One enumeration, so that the offset of a record and of a field in it may be added. */
 enum pj_at {
@@ -150,7 +156,7 @@ enum pj_at {
     PJ_AT_CELL_ANODE = 48,    /* particle; its n_nodes is the config's, else PJ_REFUSAL_GRID */
     PJ_AT_CELL_CATHODE = 656, /* particle; likewise */
     PJ_AT_CELL_TIME_S = 1264, /* s, the cell's clock: finite, not below 0 */
-    /* after the cell, in the answers of pj_cell_step, pj_simulate_discharge and pj_replay */
+    /* after the cell, in the answers of pj_cell_step, pj_simulate_discharge, pj_replay and pj_cycle */
     PJ_AT_CELL_REPORT = 1272,
     PJ_AT_CELL_ENDING = 1272,
 
@@ -259,6 +265,10 @@ enum pj_at {
     PJ_AT_ENDING_HOW = 0,  /* whole: PJ_ENDED_... */
     PJ_AT_ENDING_ROWS = 8, /* whole: how many rows were written */
 
+    /* a phase of pj_cycle */
+    PJ_AT_PHASE_KIND = 0,   /* whole: PJ_PHASE_CHARGE, PJ_PHASE_REST or PJ_PHASE_DISCHARGE */
+    PJ_AT_PHASE_NUMBER = 8, /* A, above 0 to 1e6, of a charge too, else PJ_REFUSAL_LOAD; of a rest s, 0 to 1e9, else PJ_REFUSAL_INTERVAL */
+
     /* the joined records that a build takes */
     PJ_AT_NEW_PARTICLE_SHEET = 0,
     PJ_AT_NEW_PARTICLE_N_NODES = 88,
@@ -281,6 +291,7 @@ enum pj_stack {
     PJ_STACK_SIMULATE_DISCHARGE_BYTES = 16384,
     PJ_STACK_RUN_GALVANOSTATIC_BYTES = 65536,
     PJ_STACK_REPLAY_BYTES = 16384,
+    PJ_STACK_CYCLE_BYTES = 16384,
     PJ_STACK_SOLVE_DENSE_BYTES = 16384
 };
 
@@ -430,7 +441,7 @@ uint64_t pj_dfn_step(const uint8_t *cell, size_t cell_len, double current_a, dou
 /* ---- runs ------------------------------------------------------------------------------------------------------------------- */
 
 /* The width of a row. rows_len counts doubles: PJ_ROW_DOUBLES for each row, never sizeof rows, which counts bytes and would have the
- * run write over what lies behind. Under 8 is refused with 10; of other lengths the whole rows are used. */
+ * run write over what lies behind. Under 8 is refused with 10, in a cycle under 8 * budget; of other lengths the whole rows are used. */
 #define PJ_ROW_DOUBLES 8
 
 /* The places of a row; all are doubles. */
@@ -457,7 +468,8 @@ enum pj_dfn_row {
 };
 
 /* A run steps until the voltage, the time limit, the end of a replay's text or the room for rows ends it, tested after each row in this
- * order, or until a step or a line is refused. Places after its last row keep their content.
+ * order, a cycle until the end of its last phase or of its budget does, or until a step or a line is refused. Places after its last row keep
+ * their content.
  *
  * A run that returns 0 has written its answer. One that returns a refusal has written it only if it finished a row: the cell
  * after these rows, PJ_ENDED_REFUSED, and their count. Refused before its first row it leaves the answer AS IT WAS: an old answer is
@@ -516,6 +528,47 @@ static inline void pj_put_line(uint8_t *text, size_t at, double dt, double curre
  *         PJ_ENDED_FULL hand in the answer's cell and the text from PJ_LINE_BYTES times that count on */
 uint64_t pj_replay(const uint8_t *cell, size_t cell_len, const uint8_t *text, size_t text_len, double temp_k,
                    double *rows, size_t rows_len, uint8_t *answer, size_t answer_len);
+
+/* A cycle is a run through the phases of a charger: charges and discharges, each up to its first row with cutoff, and rests, each for a time.
+ * The first `count` phases of a list are made one after the other, and all of this `repeats` times, as long as a budget of steps lasts.
+ * 5 A out, 10 minutes of rest and 2.5 A in, three times, in steps of 10 s, of which there may be 2,000:
+ *
+ *     uint8_t phases[PJ_PHASES_BYTES] = {0};
+ *     pj_put_phase(phases, 0, PJ_PHASE_DISCHARGE, 5.0);
+ *     pj_put_phase(phases, 1, PJ_PHASE_REST, 600.0);
+ *     pj_put_phase(phases, 2, PJ_PHASE_CHARGE, 2.5);
+ *     refusal = pj_cycle(cell, sizeof cell, phases, sizeof phases, 3, 3, 2000, 10.0, 298.15, rows, PJ_ROW_DOUBLES * 2000, answer,
+ *                        sizeof answer);
+ */
+
+/* Writes a phase at its place, from 0, in an image of phases. */
+static inline void pj_put_phase(uint8_t *phases, size_t place, uint64_t kind, double number)
+{
+    pj_put_u64(phases, PJ_PHASE_BYTES * place + PJ_AT_PHASE_KIND, kind);
+    pj_put_f64(phases, PJ_PHASE_BYTES * place + PJ_AT_PHASE_NUMBER, number);
+}
+
+/* phases   PJ_PHASES_BYTES. Places from count on may hold anything; all before are tested, those of phases that are never reached too
+ * count    phases of the list, 1 to PJ_PHASE_PLACES
+ * repeats  how often the list is made, 1 to 1,000
+ * budget   steps at most, 1 to 100,000
+ * dt       s, above 0, at most 86,400, and at most 4,096 sub-steps; of every step
+ * temp_k   K, 200 to 400; of every step
+ * rows     PJ_ROW_DOUBLES for each step of the budget, or more
+ * answer   cell and ending, PJ_CELL_RUN_BYTES; it does not say in which phase a spent cycle stands
+ *
+ * Every step is that of pj_cell_step, with its WARNINGS, and makes a row: a charge applies its current negated, a rest +0, a discharge its
+ * current. A phase makes at least one step. A charge or discharge has ended after its first row with cutoff, below v_min or above v_max,
+ * whichever it is; a rest, whatever its rows' cutoff, after the first row at which its own clock is not below its time. This clock is 0 when
+ * the rest begins and gains dt with each step, as a sum of binary64: a rest of 1 s in steps of 0.1 s takes eleven. Where the last phase of
+ * the last repeat has ended, the cycle ends with PJ_ENDED_DONE, on the last step of the budget too; else, where the budget is made, with
+ * PJ_ENDED_SPENT, as that of a cell that never leaves its voltage window does. It never ends with PJ_ENDED_VOLTAGE, _TIME or _FULL.
+ *
+ * Refused before the first step, the first that is met: 10 a length of cell, phases or answer; 1 the cell's grid, count, repeats or budget;
+ * 10 rows_len; 2 the cell, or the kind of a phase; 3 the current of a phase; 4 dt, or the time of a rest; 5 temp_k. A step may be refused with
+ * 6 or 7, and since these come from the cell's sheets, dt and temp_k alone, it is the first one if any: with no row, nothing is written. */
+uint64_t pj_cycle(const uint8_t *cell, size_t cell_len, const uint8_t *phases, size_t phases_len, size_t count, size_t repeats,
+                  size_t budget, double dt, double temp_k, double *rows, size_t rows_len, uint8_t *answer, size_t answer_len);
 
 /* ---- linear equations ------------------------------------------------------------------------------------------------------- */
 

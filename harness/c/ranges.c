@@ -200,7 +200,9 @@ static void dfn_cells(void)
 /* ---- arguments ---- */
 /* coarse: a cell of three nodes, which takes 86,400 s in less than 4,096 sub-steps */
 static uint8_t particle[PJ_PARTICLE_BYTES], cell[PJ_CELL_BYTES], coarse[PJ_CELL_BYTES], electrolyte[PJ_ELECTROLYTE_BYTES], dfn[PJ_DFN_CELL_BYTES];
-static double rows[PJ_ROW_DOUBLES];
+/* a row for each step of the largest budget */
+enum { MOST_STEPS = 100000 };
+static double rows[PJ_ROW_DOUBLES * (MOST_STEPS + 1)];
 
 /* Each call as a function of one of its arguments. */
 static uint64_t flux(double x) { return pj_particle_step(particle, sizeof particle, x, 1.0, T, answer, PJ_PARTICLE_BYTES); }
@@ -229,6 +231,20 @@ static uint64_t replay(double dt, double current_a, double temp_k)
 static uint64_t replay_current(double x) { return replay(1.0, x, T); }
 static uint64_t replay_dt(double x) { return replay(x, 0.0, T); }
 static uint64_t replay_temp(double x) { return replay(1.0, 1.0, x); }
+
+/* A cycle of one phase, of one step. */
+static uint64_t one_phase(uint64_t kind, double number, double dt, double temp_k)
+{
+    static uint8_t phases[PJ_PHASES_BYTES];
+    pj_put_phase(phases, 0, kind, number);
+    return pj_cycle(coarse, sizeof coarse, phases, sizeof phases, 1, 1, 1, dt, temp_k, rows, PJ_ROW_DOUBLES, answer, PJ_CELL_RUN_BYTES);
+}
+
+static uint64_t charge_current(double x) { return one_phase(PJ_PHASE_CHARGE, x, 1.0, T); }
+static uint64_t discharge_current(double x) { return one_phase(PJ_PHASE_DISCHARGE, x, 1.0, T); }
+static uint64_t rest_time(double x) { return one_phase(PJ_PHASE_REST, x, 1.0, T); }
+static uint64_t cycle_dt(double x) { return one_phase(PJ_PHASE_REST, 0.0, x, T); }
+static uint64_t cycle_temp(double x) { return one_phase(PJ_PHASE_REST, 0.0, 1.0, x); }
 static uint64_t theta(double x) { return pj_number(PJ_NUMBER_OCP, new_particle, PJ_SHEET_BYTES, x, 0.0, answer, PJ_NUMBER_BYTES); }
 static uint64_t radius(double x) { return pj_number(PJ_NUMBER_SPHERE_VOLUME, empty, 0, x, 0.0, answer, PJ_NUMBER_BYTES); }
 static uint64_t porosity(double x) { return pj_number(PJ_NUMBER_D_E_EFF, regions, PJ_ELECTROLYTE_PARAMS_BYTES, x, T, answer, PJ_NUMBER_BYTES); }
@@ -257,11 +273,14 @@ static void arguments(void)
         {"source_neg", source_neg, -1e9, 1e9, PJ_REFUSAL_LOAD}, {"source_pos", source_pos, -1e9, 1e9, PJ_REFUSAL_LOAD},
         {"dfn_current", dfn_current, -1e6, 1e6, PJ_REFUSAL_LOAD}, {"run_current", run_current, -1e6, 1e6, PJ_REFUSAL_LOAD},
         {"dfn_run_current", dfn_run_current, -1e6, 1e6, PJ_REFUSAL_LOAD}, {"replay_current", replay_current, -1e6, 1e6, PJ_REFUSAL_LOAD},
+        {"charge_current", charge_current, DBL_MIN, 1e6, PJ_REFUSAL_LOAD}, {"discharge_current", discharge_current, DBL_MIN, 1e6, PJ_REFUSAL_LOAD},
+        {"rest_time", rest_time, 0, 1e9, PJ_REFUSAL_INTERVAL}, {"cycle_dt", cycle_dt, DBL_MIN, 86400, PJ_REFUSAL_INTERVAL},
         {"particle_dt", particle_dt, DBL_MIN, 86400, PJ_REFUSAL_INTERVAL}, {"salt_dt", salt_dt, DBL_MIN, 86400, PJ_REFUSAL_INTERVAL},
         {"dfn_dt", dfn_dt, DBL_MIN, 86400, PJ_REFUSAL_INTERVAL}, {"replay_dt", replay_dt, DBL_MIN, 86400, PJ_REFUSAL_INTERVAL},
         {"particle_temp", particle_temp, 200, 400, PJ_REFUSAL_TEMPERATURE}, {"cell_temp", cell_temp, 200, 400, PJ_REFUSAL_TEMPERATURE},
         {"salt_temp", salt_temp, 200, 400, PJ_REFUSAL_TEMPERATURE}, {"run_temp", run_temp, 200, 400, PJ_REFUSAL_TEMPERATURE},
         {"salt_k", salt_k, 200, 400, PJ_REFUSAL_TEMPERATURE}, {"replay_temp", replay_temp, 200, 400, PJ_REFUSAL_TEMPERATURE},
+        {"cycle_temp", cycle_temp, 200, 400, PJ_REFUSAL_TEMPERATURE},
         {"run_limit", run_limit, -DBL_MAX, DBL_MAX, PJ_REFUSAL_INTERVAL}, {"dfn_run_limit", dfn_run_limit, -DBL_MAX, DBL_MAX, PJ_REFUSAL_INTERVAL},
         {"theta", theta, -DBL_MAX, DBL_MAX, PJ_REFUSAL_SHEET}, {"radius", radius, 1e-8, 1e-3, PJ_REFUSAL_SHEET},
         {"porosity", porosity, 0.01, 1, PJ_REFUSAL_SHEET}, {"clock", clock_s, 0, DBL_MAX, PJ_REFUSAL_SHEET},
@@ -269,14 +288,45 @@ static void arguments(void)
     size_t i;
     for (i = 0; i < LENGTH(list); i++) {
         const struct argument a = list[i];
-        /* an interval is open at 0 */
-        const double below = a.refusal == PJ_REFUSAL_INTERVAL && a.low == DBL_MIN ? 0.0 : beside(a.low, 0);
+        /* an interval and a phase's current are open at 0 */
+        const double below = a.low == DBL_MIN ? 0.0 : beside(a.low, 0);
         expect(__LINE__, a.name, a.call(a.low), PJ_REFUSAL_NONE);
         expect(__LINE__, a.name, a.call(a.high), PJ_REFUSAL_NONE);
         expect(__LINE__, a.name, a.call(below), a.refusal);
         expect(__LINE__, a.name, a.call(beside(a.high, 1)), a.refusal);
         expect(__LINE__, a.name, a.call(not_a_number()), a.refusal);
     }
+}
+
+/* The kinds of a phase, its current and its time about 0, and the counts of a cycle, each of which is one rest of 0 s. */
+static void cycles(void)
+{
+    static const struct {
+        size_t count, repeats, budget;
+        uint64_t refusal;
+    } list[] = {
+        {1, 1, 1, PJ_REFUSAL_NONE}, {8, 1000, MOST_STEPS, PJ_REFUSAL_NONE},
+        {0, 1, 1, PJ_REFUSAL_GRID}, {9, 1, 1, PJ_REFUSAL_GRID}, {1, 0, 1, PJ_REFUSAL_GRID}, {1, 1001, 1, PJ_REFUSAL_GRID},
+        {1, 1, 0, PJ_REFUSAL_GRID}, {1, 1, MOST_STEPS + 1, PJ_REFUSAL_GRID}, {SIZE_MAX, 1, 1, PJ_REFUSAL_GRID},
+        {1, SIZE_MAX, 1, PJ_REFUSAL_GRID}, {1, 1, SIZE_MAX, PJ_REFUSAL_GRID},
+    };
+    static uint8_t phases[PJ_PHASES_BYTES];
+    size_t i;
+    for (i = 0; i < PJ_PHASE_PLACES; i++)
+        pj_put_phase(phases, i, PJ_PHASE_REST, 0.0);
+    for (i = 0; i < LENGTH(list); i++)
+        expect(__LINE__, "counts of a cycle",
+               pj_cycle(coarse, sizeof coarse, phases, sizeof phases, list[i].count, list[i].repeats, list[i].budget, 1.0, T, rows,
+                        LENGTH(rows), answer, PJ_CELL_RUN_BYTES),
+               list[i].refusal);
+    for (i = 0; i < 6; i++)
+        expect(__LINE__, "a kind of phase", one_phase(i, 1.0, 1.0, T), 1 <= i && i <= 3 ? PJ_REFUSAL_NONE : PJ_REFUSAL_SHEET);
+    expect(__LINE__, "a kind of phase", one_phase(UINT64_C(1) << 63, 1.0, 1.0, T), PJ_REFUSAL_SHEET);
+    expect(__LINE__, "a kind of phase", one_phase((UINT64_C(1) << 32) + 1, 1.0, 1.0, T), PJ_REFUSAL_SHEET);
+    expect(__LINE__, "a charge of -0 A", one_phase(PJ_PHASE_CHARGE, -0.0, 1.0, T), PJ_REFUSAL_LOAD);
+    expect(__LINE__, "a discharge of -0 A", one_phase(PJ_PHASE_DISCHARGE, -0.0, 1.0, T), PJ_REFUSAL_LOAD);
+    expect(__LINE__, "a charge of -1 A", one_phase(PJ_PHASE_CHARGE, -1.0, 1.0, T), PJ_REFUSAL_LOAD);
+    expect(__LINE__, "a rest of -0 s", one_phase(PJ_PHASE_REST, -0.0, 1.0, T), PJ_REFUSAL_NONE);
 }
 
 static void orders(void)
@@ -305,6 +355,7 @@ int main(void)
     expect(__LINE__, "electrolyte", pj_build(PJ_BUILD_ELECTROLYTE, regions, sizeof regions, electrolyte, sizeof electrolyte), PJ_REFUSAL_NONE);
     expect(__LINE__, "DFN cell", pj_build(PJ_BUILD_DFN, new_dfn, sizeof new_dfn, dfn, sizeof dfn), PJ_REFUSAL_NONE);
     arguments();
+    cycles();
     orders();
     if (failures != 0) {
         fprintf(stderr, "ranges.c: %d of %d do not hold\n", failures, checks);

@@ -4,6 +4,7 @@
 //!
 //! A refusal is `Err(number)`; what is not refused is what the Rust gives.
 
+pub mod cycle;
 pub mod dense;
 pub mod dfn;
 pub mod earlier;

@@ -9,6 +9,7 @@ pub enum Ending {
     Full = 3,
     Refused = 4,
     Done = 5,
+    Spent = 6,
 }
 
 pub const ROW: usize = 8;

@@ -1,5 +1,7 @@
 //! A call, what the oracle answers to it, what the port answers, and where the two differ.
 use crate::images::{bytes_of, image_of, slots_of, words_of, Part, Record, DFN_PARAMS};
+use crate::schedules::{self, Phases};
+use calls::cycle::{Phase, Schedule};
 use calls::electrode::Sheet;
 use calls::electrolyte::{Electrolyte, Params, Regions};
 use calls::particle::Particle;
@@ -21,6 +23,7 @@ pub enum Function {
     Discharge,
     Galvanostatic,
     Replay,
+    Cycle,
     Solve,
 }
 
@@ -50,7 +53,7 @@ pub fn listed() -> Vec<Function> {
     let mut all: Vec<Function> = (1..=19).map(Function::Number).collect();
     all.extend((1..=12).map(Function::Build));
     all.extend([Function::ParticleStep, Function::CellStep, Function::ElectrolyteStep, Function::DfnStep]);
-    all.extend([Function::Discharge, Function::Galvanostatic, Function::Replay, Function::Solve]);
+    all.extend([Function::Discharge, Function::Galvanostatic, Function::Replay, Function::Cycle, Function::Solve]);
     all
 }
 
@@ -76,13 +79,14 @@ impl Function {
             Function::Discharge => "simulate_discharge".to_string(),
             Function::Galvanostatic => "run_galvanostatic".to_string(),
             Function::Replay => "replay".to_string(),
+            Function::Cycle => "cycle".to_string(),
             Function::Solve => "solve_dense".to_string(),
         }
     }
 
     /// Whether the call writes rows into a lent slice.
     pub fn is_run(self) -> bool {
-        matches!(self, Function::Discharge | Function::Galvanostatic | Function::Replay)
+        matches!(self, Function::Discharge | Function::Galvanostatic | Function::Replay | Function::Cycle)
     }
 
     /// The record that the call is lent.
@@ -105,7 +109,7 @@ impl Function {
                 _ => Record::Nothing,
             },
             Function::ParticleStep => Record::Particle,
-            Function::CellStep | Function::Discharge | Function::Replay => Record::Cell,
+            Function::CellStep | Function::Discharge | Function::Replay | Function::Cycle => Record::Cell,
             Function::ElectrolyteStep => Record::Electrolyte,
             Function::DfnStep | Function::Galvanostatic => Record::DfnCell,
             Function::Solve => Record::Nothing,
@@ -132,7 +136,7 @@ impl Function {
             Function::Build(5 | 6) => bytes_of(&DFN_PARAMS),
             Function::CellStep => 72,
             Function::DfnStep => 64,
-            Function::Discharge | Function::Galvanostatic | Function::Replay => 16,
+            _ if self.is_run() => 16,
             Function::Solve => 256,
             _ => 0,
         };
@@ -158,6 +162,7 @@ impl Function {
             Function::Discharge => &[Load(1e6), Interval, Temperature, Finite],
             Function::Galvanostatic => &[Load(1e6), Interval, Finite],
             Function::Replay => &[Temperature],
+            Function::Cycle => &[Interval, Temperature],
         }
     }
 
@@ -175,7 +180,7 @@ impl Function {
             Function::Build(1..=6) => &[10],
             Function::Build(_) => &[1, 2, 10],
             Function::ParticleStep => &[1, 2, 3, 4, 5, 10],
-            Function::CellStep | Function::Discharge => &[1, 2, 3, 4, 5, 6, 7, 10],
+            Function::CellStep | Function::Discharge | Function::Cycle => &[1, 2, 3, 4, 5, 6, 7, 10],
             Function::Replay => &[1, 2, 3, 4, 5, 6, 7, 10, 11, 12],
             Function::ElectrolyteStep => &[1, 2, 3, 4, 5, 8, 10],
             Function::DfnStep | Function::Galvanostatic => &[1, 2, 3, 4, 8, 10],
@@ -203,6 +208,8 @@ pub struct Call {
     pub rows: usize,
     /// a replay's lines
     pub text: Vec<u8>,
+    /// a cycle's phases and counts
+    pub phases: Phases,
     pub system: System,
     pub answer_bytes: usize,
     /// what lent memory holds before the call, and where in a word its bytes start
@@ -302,6 +309,19 @@ fn of_build(call: u64, reader: &mut Reader) -> Answer {
     }
 }
 
+/// A kind that is none of the three, among the phases that are looked at, is 2, after 1 and the rows' 10. The oracle has no such kind: a charge that is
+/// no number stands for it, which would be 3.
+fn cycled(cell: &Cell, call: &Call, dt: f64, temp_k: f64) -> Run<Cell> {
+    let read = call.phases.read();
+    let [count, repeats, budget] = call.phases.counts;
+    let phases = std::array::from_fn(|at| read[at].unwrap_or(Phase::Charge(f64::NAN)));
+    let mut made = cell.cycle(&Schedule { phases, count, repeats, budget, dt, temp_k }, call.rows);
+    if made.refusal == 3 && read[..call.phases.meant()].contains(&None) {
+        made.refusal = 2;
+    }
+    made
+}
+
 /// What the oracle answers. Lengths that the header fixes come before all else but a text that is too long; a call that is not listed is 2.
 pub fn ask_oracle(call: &Call) -> Answer {
     let function = call.function;
@@ -309,7 +329,8 @@ pub fn ask_oracle(call: &Call) -> Answer {
         return Answer::refused(2);
     }
     let solve = function == Function::Solve;
-    if call.answer_bytes != function.answer_bytes() || !solve && call.image.len() != function.record().bytes() {
+    let phases_fit = function != Function::Cycle || call.phases.image.len() == schedules::IMAGE;
+    if call.answer_bytes != function.answer_bytes() || !solve && call.image.len() != function.record().bytes() || !phases_fit {
         return Answer::refused(if call.text.len() > MOST_TEXT { 12 } else { 10 });
     }
     let slots = if solve { Vec::new() } else { slots_of(function.record().parts(), &call.image) };
@@ -344,6 +365,10 @@ pub fn ask_oracle(call: &Call) -> Answer {
         }
         (Function::Replay, [temp_k]) => {
             let made = Cell::read(&mut reader).replay(&call.text, *temp_k, call.rows);
+            Answer::run(&join(parts, 2), &made, Cell::slots)
+        }
+        (Function::Cycle, [dt, temp_k]) => {
+            let made = cycled(&Cell::read(&mut reader), call, *dt, *temp_k);
             Answer::run(&join(parts, 2), &made, Cell::slots)
         }
         (Function::Solve, []) => {
@@ -424,6 +449,7 @@ pub struct Asked {
     pub number: u64,
     image: Lent,
     text: Lent,
+    phases: Lent,
     a: Lent,
     b: Lent,
     rows: Lent,
@@ -439,6 +465,7 @@ pub fn ask_port(call: &Call) -> Asked {
     let mut b = Lent::new(&mut filler, 0, 8 * call.system.b.len(), Some(raw(&call.system.b)));
     let mut rows = Lent::new(&mut filler, 0, 8 * call.rows, None);
     let mut text = Lent::new(&mut filler, (call.filler >> 10) as usize % 8, call.text.len(), Some(&call.text));
+    let mut phases = Lent::new(&mut filler, (call.filler >> 16) as usize % 8, call.phases.image.len(), Some(&call.phases.image));
     let mut answer = Lent::new(&mut filler, (call.filler >> 13) as usize % 8, call.answer_bytes, None);
     let numbers: Vec<f64> = call.numbers.iter().map(|n| f64::from_bits(*n)).collect();
     let number = match (call.function, &numbers[..]) {
@@ -455,10 +482,14 @@ pub fn ask_port(call: &Call) -> Asked {
             port::run_galvanostatic(image.bytes(), [*i, *dt, *limit], rows.floats(), answer.bytes())
         }
         (Function::Replay, [t]) => port::replay(image.bytes(), text.bytes(), *t, rows.floats(), answer.bytes()),
+        (Function::Cycle, [dt, t]) => {
+            let counts = call.phases.counts.map(|count| count as usize);
+            port::cycle(image.bytes(), phases.bytes(), counts, [*dt, *t], rows.floats(), answer.bytes())
+        }
         (Function::Solve, []) => port::solve_dense(a.floats(), b.floats(), call.system.n as usize, answer.bytes()),
         _ => panic!("a call with another count of arguments"),
     };
-    Asked { number, image, text, a, b, rows, answer }
+    Asked { number, image, text, phases, a, b, rows, answer }
 }
 
 impl Asked {
@@ -501,7 +532,7 @@ impl Asked {
         if now[rows..] != then[rows..] {
             all.push("places after the last row are written".to_string());
         }
-        let read = [("image", &self.image), ("text", &self.text), ("matrix", &self.a), ("right side", &self.b)];
+        let read = [("image", &self.image), ("text", &self.text), ("phases", &self.phases), ("matrix", &self.a), ("right side", &self.b)];
         for (what, lent) in read {
             if lent.now() != lent.then() {
                 all.push(format!("the lent {what} is changed"));
@@ -517,7 +548,7 @@ impl Asked {
 
     /// How many bytes had to stay as they were.
     pub fn kept_bytes(&self, oracle: &Answer) -> u64 {
-        let lent = [&self.image, &self.text, &self.a, &self.b, &self.rows, &self.answer];
+        let lent = [&self.image, &self.text, &self.phases, &self.a, &self.b, &self.rows, &self.answer];
         let all: usize = lent.iter().map(|lent| 8 * lent.memory.len()).sum();
         (all - 8 * oracle.rows.len() - oracle.image.as_ref().map_or(0, Vec::len)) as u64
     }

@@ -3,13 +3,16 @@ use crate::call::{Argument, Call, Function, System};
 use crate::draw::Draw;
 use crate::images::{image_of, words_of, Meaning, Record};
 use crate::records;
+use crate::schedules::{self, Phases};
 use crate::texts;
+use calls::cycle::{Schedule, MOST_BUDGET, MOST_REPEATS, PLACES};
 use calls::dfn;
 use calls::electrode::{self, Sheet};
 use calls::electrolyte::{Electrolyte, POROSITY};
 use calls::particle::Particle;
 use calls::replay::MOST_LINES;
-use calls::solver::{Cell, DIFFUSIVITY};
+use calls::runs::ROW;
+use calls::solver::{Cell, Config, DIFFUSIVITY};
 use calls::table::{Range, TEMPERATURE};
 use calls::words::{word, Slot};
 
@@ -36,6 +39,7 @@ impl Turn {
             numbers: numbers.iter().map(|x| x.to_bits()).collect(),
             rows: 0,
             text: Vec::new(),
+            phases: Phases::default(),
             system: System::default(),
             answer_bytes: function.answer_bytes(),
             filler: draw.bits(),
@@ -75,7 +79,7 @@ impl Case {
 }
 
 /// Patterns that are special to binary64: zeros, subnormals, the ends of the format, infinities, NaNs of several kinds.
-const SPECIAL: [u64; 18] = [
+pub const SPECIAL: [u64; 18] = [
     0,
     1 << 63,
     1,
@@ -109,7 +113,7 @@ pub fn around(draw: &mut Draw, low: f64, high: f64) -> u64 {
     }
 }
 
-fn count_around(draw: &mut Draw, low: u64, high: u64) -> u64 {
+pub fn count_around(draw: &mut Draw, low: u64, high: u64) -> u64 {
     match draw.below(4) {
         0 => draw.bits() >> draw.below(64),
         1 => draw.count(low, high),
@@ -181,7 +185,7 @@ fn one_fault(draw: &mut Draw, turn: &mut Turn, record: Record, words: &[u64]) {
     }
 }
 
-fn wrong_length(draw: &mut Draw, right: usize) -> usize {
+pub fn wrong_length(draw: &mut Draw, right: usize) -> usize {
     match draw.below(4) {
         0 => draw.below(2 * right as u64 + 16) as usize,
         1 => right + 8,
@@ -570,6 +574,116 @@ fn replays(draw: &mut Draw, turn: u64) -> Case {
     listed(draw, Record::Cell, &cell.slots(), build, turns)
 }
 
+/// A cycle with room for its budget, and with anything or nothing at the places that are not looked at.
+fn cycle_of(draw: &mut Draw, schedule: &Schedule) -> Turn {
+    let more = if draw.below(2) == 0 { 0 } else { draw.below(16) as usize };
+    let rows = ROW * schedule.budget as usize + more;
+    let mut turn = Turn::new(draw, Function::Cycle, &[schedule.dt, schedule.temp_k]).with_rows(rows);
+    turn.call.phases = Phases::of(schedule);
+    if draw.below(2) == 0 {
+        schedules::fill_unused(draw, &mut turn.call.phases);
+    }
+    turn
+}
+
+/// A cycle of a drawn budget, whole or with a fault.
+fn cycle(draw: &mut Draw, cell: &Cell, schedule: &Schedule) -> Turn {
+    let most = schedules::most_steps(draw);
+    let budget = schedules::budget(draw, cell, schedule, most);
+    let mut turn = cycle_of(draw, &Schedule { budget, ..*schedule });
+    if draw.below(4) == 0 {
+        for _ in 0..draw.count(1, 2) {
+            schedules::with_fault(draw, &mut turn.call);
+        }
+    }
+    turn
+}
+
+/// What a cycle has as many of as can be.
+enum Most {
+    /// phases of one step each, on a cell whose every row has cutoff
+    Repeats,
+    /// rests that take the budget just so
+    Rests,
+    Steps,
+}
+
+fn longest_cycle(draw: &mut Draw, most: Most) -> Case {
+    let config = Config { n_nodes: draw.count(3, 6), numbers: records::READY_CONFIG };
+    let mut cell = Cell::graphite_nmc(config).expect("a config in range");
+    let temp_k = draw.uniform(290.0, 310.0);
+    let dt = least_interval(&cell, temp_k) * draw.uniform(0.05, 0.5);
+    let (size, repeats) = (draw.uniform(2.0, 8.0), MOST_REPEATS);
+    let (limits, phases, count) = match most {
+        Most::Repeats => ([10.0, -10.0], schedules::single_steps(draw, size, dt), draw.count(1, PLACES as u64)),
+        Most::Rests => ([3.0, 4.2], schedules::longest_rests(dt), 4),
+        Most::Steps => ([3.0, 4.2], schedules::phases(draw, size, dt), 4),
+    };
+    cell.config.numbers[..2].copy_from_slice(&limits);
+    let budget = if matches!(most, Most::Repeats) { count * repeats + draw.count(0, 2) - 1 } else { MOST_BUDGET };
+    let schedule = Schedule { phases, count, repeats, budget, dt, temp_k };
+    Case { start: image_of(Record::Cell.parts(), &cell.slots()), turns: vec![cycle_of(draw, &schedule)] }
+}
+
+/// Voltage limits with some of these voltages beyond them.
+fn limits_among(draw: &mut Draw, mut voltages: Vec<f64>, limits: &mut [f64]) {
+    voltages.sort_by(f64::total_cmp);
+    let half = voltages.len() / 2;
+    if half == 0 {
+        return;
+    }
+    for (limit, start) in limits.iter_mut().zip([0, half - 1]) {
+        let at = start + draw.below(half as u64) as usize;
+        let between = 0.5 * (voltages[at] + voltages[at + 1]);
+        *limit = (if draw.below(3) == 0 { voltages[at] } else { between }).clamp(-10.0, 10.0);
+    }
+}
+
+/// The voltages of a few steps of each phase.
+fn voltages_in(draw: &mut Draw, cell: &Cell, schedule: &Schedule) -> Vec<f64> {
+    let (mut voltages, mut next) = (Vec::new(), cell.clone());
+    for phase in &schedule.phases[..schedule.count as usize] {
+        for _ in 0..draw.count(1, 6) {
+            let Ok((after, report)) = next.step(schedules::current_of(*phase), schedule.dt, schedule.temp_k) else { return voltages };
+            voltages.push(report.state.voltage);
+            next = after;
+        }
+    }
+    voltages
+}
+
+fn cycles(draw: &mut Draw, turn: u64) -> Case {
+    // the turn rises by five from case to case
+    match turn / 5 % 2000 {
+        0 => return longest_cycle(draw, Most::Steps),
+        1000 => return longest_cycle(draw, Most::Rests),
+        number if number % 250 == 50 => return longest_cycle(draw, Most::Repeats),
+        _ => {}
+    }
+    let n = if draw.below(4) == 0 { 3 + turn % 62 } else { draw.count(3, 12) };
+    let (mut cell, mut build) = some_cell(draw, n);
+    let temp_k = cell_temperature(draw, &cell);
+    let least = least_interval(&cell, temp_k);
+    let dt = if draw.below(20) == 0 { interval_of(draw, least) } else { least * records::power(draw, -4.0, 2.0) };
+    let dt = dt.clamp(f64::from_bits(1), 86_400.0);
+    let size = cell.anode.sheet.numbers[6] * records::power(draw, -4.0, 6.0);
+    let (phases, count, repeats) = (schedules::phases(draw, size, dt), draw.count(1, PLACES as u64), schedules::repeats(draw));
+    let schedule = Schedule { phases, count, repeats, budget: 1, dt, temp_k };
+    let way = draw.below(4);
+    if way == 0 {
+        // every row has cutoff
+        cell.config.numbers[..2].copy_from_slice(&[10.0, -10.0]);
+    } else if way < 3 {
+        let voltages = voltages_in(draw, &cell, &schedule);
+        limits_among(draw, voltages, &mut cell.config.numbers[..2]);
+    }
+    if way < 3 {
+        build = None;
+    }
+    let turns = (0..draw.count(1, 2)).map(|_| cycle(draw, &cell, &schedule)).collect();
+    listed(draw, Record::Cell, &cell.slots(), build, turns)
+}
+
 fn salt_numbers(draw: &mut Draw, _: u64) -> Case {
     let salt = records::salt(draw);
     let mut turns = Vec::new();
@@ -657,7 +771,7 @@ fn dfn_overpotentials(draw: &mut Draw, _: u64) -> Case {
     Case { start: image_of(Record::DfnCell.parts(), &cell.slots()), turns: vec![Turn::new(draw, Function::DfnStep, &numbers)] }
 }
 
-/// Currents so small that H has arguments below 2^-10, on cells in which its last digits show: steps and runs of either model, replays.
+/// Currents so small that H has arguments below 2^-10, on cells in which its last digits show: steps and runs of either model, replays, cycles.
 fn low_rates(draw: &mut Draw, turn: u64) -> Case {
     if turn % 2 == 0 {
         let cell = records::bare_overpotentials(draw);
@@ -676,7 +790,7 @@ fn low_rates(draw: &mut Draw, turn: u64) -> Case {
     let (area, temp_k) = (cell.anode.sheet.numbers[6], cell_temperature(draw, &cell));
     let dt = (least_interval(&cell, temp_k) * records::power(draw, -2.0, 2.0)).clamp(f64::from_bits(1), 86_400.0);
     let current = records::low_current(draw, area);
-    let last = match draw.below(3) {
+    let last = match draw.below(4) {
         0 => {
             let rows = slice_length(draw);
             Turn::new(draw, Function::Discharge, &[current, dt, temp_k, 1e300]).with_rows(rows)
@@ -686,6 +800,10 @@ fn low_rates(draw: &mut Draw, turn: u64) -> Case {
             let mut turn = Turn::new(draw, Function::Replay, &[temp_k]).with_rows(8 * loads.len());
             turn.call.text = texts::text_of(&loads);
             turn
+        }
+        2 => {
+            let (phases, count, budget) = (schedules::low_phases(draw, area, dt), draw.count(1, PLACES as u64), draw.count(1, 16));
+            cycle_of(draw, &Schedule { phases, count, repeats: 2, budget, dt, temp_k })
         }
         _ => Turn::new(draw, Function::CellStep, &[-current, dt, temp_k]),
     };
@@ -824,6 +942,10 @@ fn random_images(draw: &mut Draw, _: u64) -> Case {
     if function == Function::Replay {
         turn.call.text = (0..draw.below(80)).map(|_| draw.bits() as u8).collect();
     }
+    if function == Function::Cycle {
+        turn.call.phases.image = (0..schedules::IMAGE).map(|_| draw.bits() as u8).collect();
+        turn.call.phases.counts = [0; 3].map(|_: u64| draw.bits() >> draw.below(64));
+    }
     let start = (0..record.bytes()).map(|_| draw.bits() as u8).collect();
     Case { start, turns: vec![turn] }
 }
@@ -841,10 +963,10 @@ fn random_byte(draw: &mut Draw, turn: u64) -> Case {
 }
 
 /// The plans in turn, some more often than others.
-pub const PLANS: [Plan; 29] = [
+pub const PLANS: [Plan; 30] = [
     sheet_numbers, particle_steps, cell_steps, electrolyte_steps, dfn_steps, solve, discharges, galvanostatic, ready, salt_numbers,
     particle_steps, cell_steps, random_byte, dfn_steps, solve, sphere, electrolyte_steps, random_images, particle_steps, cell_steps,
-    sheet_numbers, dfn_steps, discharges, galvanostatic, dfn_exponents, dfn_overpotentials, replays,
+    sheet_numbers, dfn_steps, discharges, galvanostatic, dfn_exponents, dfn_overpotentials, replays, cycles,
     low_rates, far_temperatures,
 ];
 

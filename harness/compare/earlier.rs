@@ -26,7 +26,8 @@ pub struct Earlier {
     unkept: BTreeSet<String>,
 }
 
-const FUNCTIONS: [Function; 5] = [Function::CellStep, Function::Discharge, Function::Replay, Function::DfnStep, Function::Galvanostatic];
+const FUNCTIONS: [Function; 6] =
+    [Function::CellStep, Function::Discharge, Function::Replay, Function::Cycle, Function::DfnStep, Function::Galvanostatic];
 
 impl Earlier {
     pub fn add(&mut self, call: &Call, oracle: &Answer) {

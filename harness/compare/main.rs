@@ -6,6 +6,7 @@
 //! that a difference was printed with. --trace prints each case's number before it, should a call not come back.
 mod call;
 mod cases;
+mod cycles;
 #[allow(dead_code)]
 #[path = "../vectors/draw.rs"]
 mod draw;
@@ -14,6 +15,7 @@ mod images;
 mod ohmic_drop;
 mod records;
 mod references;
+mod schedules;
 mod shrink;
 mod tally;
 mod texts;
@@ -30,7 +32,7 @@ use std::time::{Duration, Instant};
 use tally::Tally;
 
 const GATE_SEED: u64 = 20_040_613;
-const GATE_CASES: u64 = 580_000;
+const GATE_CASES: u64 = 600_000;
 
 struct Options {
     seed: u64,
@@ -117,6 +119,11 @@ fn print_call(call: &Call) {
         for line in call.text.split_inclusive(|byte| *byte == b'\n').take(40) {
             println!("    {}", line.escape_ascii());
         }
+    }
+    if function == Function::Cycle {
+        println!("  phases, repeats and steps: {:?}", call.phases.counts);
+        print_bytes("phases", &call.phases.image);
+        println!("    {:?}", call.phases.read());
     }
     if function == Function::Solve {
         println!("  order {}", call.system.n);

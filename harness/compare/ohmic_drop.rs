@@ -10,7 +10,7 @@ use calls::solver::Cell;
 use calls::words::Reader;
 use std::collections::{BTreeMap, BTreeSet};
 
-const FUNCTIONS: [Function; 3] = [Function::CellStep, Function::Discharge, Function::Replay];
+const FUNCTIONS: [Function; 4] = [Function::CellStep, Function::Discharge, Function::Replay, Function::Cycle];
 const COLUMNS: [&str; 5] = ["not negative", "-0", "charge, same", "higher", "and cutoff"];
 /// places of a row
 const VOLTAGE: usize = 0;
@@ -41,15 +41,23 @@ fn rows_of(call: &Call, oracle: &Answer) -> Vec<Row> {
     vec![row]
 }
 
+/// The call's number of this meaning.
+fn number(call: &Call, meant: fn(&Argument) -> bool) -> f64 {
+    f64::from_bits(call.numbers[call.function.arguments().iter().position(meant).expect("such a number")])
+}
+
 /// The interval of a call's row.
 fn interval(call: &Call, row: usize) -> f64 {
-    let bits = if call.function == Function::Replay {
-        let digits = std::str::from_utf8(&call.text[row * LINE..][..16]).expect("digits");
-        u64::from_str_radix(digits, 16).expect("digits")
-    } else {
-        call.numbers[1]
-    };
-    f64::from_bits(bits)
+    if call.function != Function::Replay {
+        return number(call, |argument| matches!(argument, Argument::Interval));
+    }
+    let digits = std::str::from_utf8(&call.text[row * LINE..][..16]).expect("digits");
+    f64::from_bits(u64::from_str_radix(digits, 16).expect("digits"))
+}
+
+/// Whether a call can have a row in a column: a cycle's currents are never -0.
+fn can(function: Function, column: &str) -> bool {
+    function != Function::Cycle || column != "-0"
 }
 
 /// The column of a row, from the one before and the one now; none where they differ in what they must not.
@@ -81,8 +89,7 @@ impl OhmicDrop {
         }
         let slots = slots_of(function.record().parts(), &call.image);
         let mut earlier = EarlierCell::of(&Cell::read(&mut Reader::new(&slots)));
-        let at = function.arguments().iter().position(|argument| matches!(argument, Argument::Temperature)).expect("a temperature");
-        let temp_k = f64::from_bits(call.numbers[at]);
+        let temp_k = number(call, |argument| matches!(argument, Argument::Temperature));
         let counts = self.by_function.entry(function).or_default();
         for (number, now) in rows_of(call, oracle).iter().enumerate() {
             let before = earlier.row(now[CURRENT], interval(call, number), temp_k);
@@ -109,12 +116,15 @@ impl OhmicDrop {
         println!("{:<24}{}", "rows, by the current", COLUMNS.map(|name| format!("{name:>14}")).concat());
         for function in FUNCTIONS {
             let counts = self.by_function.get(&function).copied().unwrap_or_default();
-            println!("{:<24}{}", function.name(), counts.map(|count| format!("{count:>14}")).concat());
+            let mut line = format!("{:<24}", function.name());
             for (count, name) in counts.into_iter().zip(COLUMNS) {
-                if count == 0 {
-                    missing.push(format!("the ohmic drop before and now: {} has no row under '{name}'", function.name()));
+                line += &if can(function, name) { format!("{count:>14}") } else { format!("{:>14}", "-") };
+                if can(function, name) == (count == 0) {
+                    let what = if count == 0 { "no row" } else { "a row" };
+                    missing.push(format!("the ohmic drop before and now: {} has {what} under '{name}'", function.name()));
                 }
             }
+            println!("{line}");
         }
         missing
     }

@@ -3,7 +3,9 @@ use crate::call::{ask_oracle, ask_port, Answer, Argument, Call, Function};
 use crate::cases::{Case, Turn};
 use crate::images::{bytes_from, image_of, words_of, Record};
 use crate::records::{READY_CONFIG, READY_REGIONS};
+use crate::schedules::{self, Phases};
 use crate::texts::line;
+use calls::cycle::PLACES;
 use calls::dfn;
 use calls::electrode::Sheet;
 use calls::electrolyte::{Electrolyte, Params, Regions};
@@ -144,6 +146,9 @@ fn smaller(call: &Call) -> Vec<Call> {
     if function == Function::Replay {
         smaller_texts(call, &mut all);
     }
+    if function == Function::Cycle {
+        smaller_schedules(call, &mut all);
+    }
     if call.image.len() == record.bytes() && record != Record::Nothing {
         let words = words_of(&call.image);
         let mut push = |words: &[u64]| all.push(Call { image: bytes_from(words), ..call.clone() });
@@ -217,6 +222,32 @@ fn smaller_texts(call: &Call, all: &mut Vec<Call>) {
     all.extend(texts.into_iter().map(|text| Call { text, ..call.clone() }));
 }
 
+/// A rest of 0 s, which takes one step.
+const READY_PHASE: [u64; 2] = [2, 0];
+
+/// Lower counts; the phases without one of them, with a ready one in its place, or with a whole number; a right length.
+fn smaller_schedules(call: &Call, all: &mut Vec<Call>) {
+    let mut push = |words: &[u64], counts: [u64; 3]| {
+        all.push(Call { phases: Phases { image: bytes_from(words), counts }, ..call.clone() });
+    };
+    let (counts, mut words) = (call.phases.counts, words_of(&call.phases.image));
+    words.resize(2 * PLACES, 0);
+    push(&words, counts);
+    for (which, now) in counts.into_iter().enumerate() {
+        for to in [1, now / 2, now.saturating_sub(1)] {
+            let mut fewer = counts;
+            fewer[which] = to;
+            push(&words, fewer);
+        }
+    }
+    for at in 0..PLACES {
+        let [before, after] = [&words[..2 * at], &words[2 * at + 2..]];
+        push(&[before, &READY_PHASE, after].concat(), counts);
+        push(&[before, after, &READY_PHASE].concat(), [counts[0].saturating_sub(1), counts[1], counts[2]]);
+        push(&[before, &[words[2 * at], 1f64.to_bits()], after].concat(), counts);
+    }
+}
+
 fn smaller_systems(call: &Call, all: &mut Vec<Call>) {
     let system = &call.system;
     let n = system.n as usize;
@@ -244,7 +275,7 @@ fn smaller_systems(call: &Call, all: &mut Vec<Call>) {
     }
 }
 
-/// How large a call is: nodes, rows and text, then words that are not as in the ready record, then words that are not 0.
+/// How large a call is: nodes, rows, text and counts, then words that are not as in the ready record, then words that are not 0.
 fn size(call: &Call) -> (usize, usize, usize) {
     let words = words_of(&call.image);
     let record = call.function.record();
@@ -263,10 +294,13 @@ fn size(call: &Call) -> (usize, usize, usize) {
     let entries = system.a.iter().chain(&system.b).map(|n| if *n == 0 { 0 } else { 1 + usize::from(*n != 1f64.to_bits()) }).sum::<usize>();
     let ready = ready_line();
     let loads = call.text.chunks(LINE).filter(|line| *line != &ready[..]).count();
-    let lengths = usize::from(call.answer_bytes != call.function.answer_bytes());
+    let phases = words_of(&call.phases.image);
+    let unready: usize = phases.chunks(2).map(|phase| if phase == READY_PHASE { 0 } else { 2 - usize::from(phase.ends_with(&[1f64.to_bits()])) }).sum();
+    let counts: u64 = call.phases.counts.iter().map(|count| count.min(&(1 << 20))).sum();
+    let lengths = usize::from(call.answer_bytes != call.function.answer_bytes()) + usize::from(call.phases.image.len() % schedules::IMAGE != 0);
     let changing = words.windows(2).filter(|pair| pair[0] != pair[1]).count();
-    let long = nodes as usize + call.rows + call.text.len() + system.a.len() + system.b.len();
-    (long, 2 * unlike + strange + loads + lengths, changing + entries)
+    let long = nodes as usize + call.rows + call.text.len() + counts as usize + system.a.len() + system.b.len();
+    (long, 2 * unlike + strange + loads + unready + lengths, changing + entries)
 }
 
 /// The smallest call that was found in half a minute and fails with the same two numbers.

@@ -1,5 +1,6 @@
 //! What was compared: by call, accepted and refused, and by refusal number; endings, counts of nodes, orders.
 use crate::call::{listed, Answer, Call, Function};
+use crate::cycles::Cycles;
 use crate::earlier::Earlier;
 use crate::images::words_of;
 use crate::ohmic_drop::OhmicDrop;
@@ -36,9 +37,10 @@ pub struct Tally {
     references: References,
     weights: Weights,
     ohmic_drop: OhmicDrop,
+    cycles: Cycles,
 }
 
-const ENDINGS: [(Function, &str); 13] = [
+const ENDINGS: [(Function, &str); 15] = [
     (Function::Discharge, "voltage"),
     (Function::Discharge, "time"),
     (Function::Discharge, "time, no row"),
@@ -52,6 +54,8 @@ const ENDINGS: [(Function, &str); 13] = [
     (Function::Replay, "done, no row"),
     (Function::Replay, "full"),
     (Function::Replay, "refused after a row"),
+    (Function::Cycle, "done"),
+    (Function::Cycle, "spent"),
 ];
 
 impl Tally {
@@ -70,6 +74,7 @@ impl Tally {
         self.references.add(call, oracle);
         self.weights.add(call, oracle);
         self.ohmic_drop.add(call, oracle);
+        self.cycles.add(call, oracle);
         self.calls += 1;
         self.kept_bytes += kept_bytes;
         let words = oracle.image.as_deref().map(words_of).unwrap_or_default();
@@ -87,6 +92,7 @@ impl Tally {
                 (Ending::Full, _) => "full",
                 (Ending::Done, false) => "done",
                 (Ending::Done, true) => "done, no row",
+                (Ending::Spent, _) => "spent",
                 (Ending::Refused, false) => "refused after a row",
                 (Ending::Refused, true) => "refused",
             };
@@ -132,6 +138,7 @@ impl Tally {
         self.references.join(other.references);
         self.weights.join(other.weights);
         self.ohmic_drop.join(other.ohmic_drop);
+        self.cycles.join(other.cycles);
     }
 
     /// The table, and what is missing for a comparison that has seen everything.
@@ -182,6 +189,7 @@ impl Tally {
         println!();
         missing.extend(self.ohmic_drop.print());
         println!();
+        missing.extend(self.cycles.print());
         println!("rows of the longest replay: {} of {MOST_LINES}", self.longest_replay);
         if self.longest_replay != MOST_LINES as u64 {
             missing.push("no replay of the longest text".to_string());

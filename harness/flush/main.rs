@@ -18,6 +18,9 @@ mod images;
 #[path = "../compare/records.rs"]
 mod records;
 #[allow(dead_code)]
+#[path = "../compare/schedules.rs"]
+mod schedules;
+#[allow(dead_code)]
 #[path = "../compare/texts.rs"]
 mod texts;
 

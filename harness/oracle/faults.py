@@ -434,6 +434,7 @@ RUNS = [
     ("voltage and time have each other's number", "Voltage = 1,\n    Time = 2,", "Voltage = 2,\n    Time = 1,"),
     ("full and refused have each other's number", "Full = 3,\n    Refused = 4,", "Full = 4,\n    Refused = 3,"),
     ("refused and done have each other's number", "Refused = 4,\n    Done = 5,", "Refused = 5,\n    Done = 4,"),
+    ("done and spent have each other's number", "Done = 5,\n    Spent = 6,", "Done = 6,\n    Spent = 5,"),
     ("the clock is not asked before the first step", "if test_before_first && time_over", "if false && test_before_first && time_over"),
     ("the clock is asked a row late", TIME, "time_over(rows.len() - 1, &cell)"),
     ("the clock is asked a row early", TIME, "time_over(rows.len() + 1, &cell)"),
@@ -661,6 +662,162 @@ CALLS_REPLAY = [
     ("the cell stays as it was", "            cell = next;\n", "            let _ = next;\n"),
 ]
 
+LOAD, CURRENT = "Phase::Charge(current_a) | Phase::Discharge(current_a) => current_a > 0.0 && current_a <= MOST_CURRENT,", "current_a > 0.0 && current_a <= MOST_CURRENT"
+REST_TIME, CUT = "range(0.0, MOST_REST).holds(time_s)", "Phase::Charge(_) | Phase::Discharge(_) => cutoff,"
+ASKED = "let phases = self.first_phases();"
+PHASES_IN, REPEATS_IN, BUDGET_IN = "(1..=PLACES as u64)", "(1..=MOST_REPEATS)", "(1..=MOST_BUDGET)"
+ROOM = "((places / ROW) as u64) < self.budget"
+TIMES = "!interval(self.dt) || !phases.iter().all(|phase| phase.time_fits())"
+MEET = "schedule.meet(places, &mut met);"
+WRITTEN_OUT = "self.first_phases().repeat(self.repeats as usize)"
+PHASE = "let phase = phases[at];"
+RAISED = "            clock += schedule.dt;\n"
+OVER = "phase.over(report.state.cutoff, clock)"
+MOVED = "(at, clock) = (at + 1, 0.0);"
+ENDED = f"            if {OVER} {{\n                {MOVED}\n            }}\n"
+IS_DONE = "            if at == phases.len() {\n                break (Ending::Done, 0);\n            }\n"
+MADE = "rows.len() as u64 >= schedule.budget"
+IS_SPENT = f"            if {MADE} {{\n                break (Ending::Spent, 0);\n            }}\n"
+NO_CURRENT = "!schedule.first_phases().iter().all(|phase| phase.current_fits())"
+NO_TIME = "!schedule.first_phases().iter().all(|phase| phase.time_fits())"
+ALWAYS_FIRST = because("sheets, interval and temperature decide over 6 and 7, so a cycle's first step has them or none")
+
+
+def before(number, other, met):
+    """The number `other` goes before `number`, where it is met."""
+    return (f"{other} before {number}", MEET, f"{MEET}\n        if met.refuse() == Err({number}) && {met} {{\n            return refused(self, {other});\n        }}")
+
+
+def rearranged(phase):
+    """The phases written out, but this one in the place k; `first` are those that are repeated."""
+    return f"{{\n            let (first, mut all) = (self.first_phases(), {WRITTEN_OUT});\n            all.iter_mut().enumerate().for_each(|(k, phase)| *phase = {phase});\n            all\n        }}"
+
+
+CALLS_CYCLE = [
+    ("a current of 0", "current_a > 0.0 &&", "current_a >= 0.0 &&"),
+    ("a current from the second least number on", "current_a > 0.0 &&", "current_a > f64::from_bits(1) &&"),
+    ("a current below 0", CURRENT, "current_a != 0.0 && current_a.abs() <= MOST_CURRENT"),
+    ("no current of 1e6", "current_a <= MOST_CURRENT", "current_a < MOST_CURRENT"),
+    ("the current after 1e6", "current_a <= MOST_CURRENT", "current_a <= " + as_rust(above(1e6))),
+    ("any current above 0", CURRENT, "current_a > 0.0"),
+    ("an infinite current", CURRENT, CURRENT + " || current_a == f64::INFINITY"),
+    ("a current that is a NaN", CURRENT, "!(current_a <= 0.0 || current_a > MOST_CURRENT)"),
+    ("a charge's current is not asked", LOAD, "Phase::Charge(_) => true,\n            " + LOAD.replace("Phase::Charge(current_a) | ", "")),
+    ("a discharge's current is not asked", LOAD, "Phase::Discharge(_) => true,\n            " + LOAD.replace(" | Phase::Discharge(current_a)", "")),
+    ("a rest's time is asked as a current", "Phase::Rest(_) => true", "Phase::Rest(time_s) => time_s <= MOST_CURRENT"),
+    ("no rest of 0", REST_TIME, REST_TIME.replace("0.0", "f64::from_bits(1)")),
+    ("no rest of -0", REST_TIME, REST_TIME + " && time_s.is_sign_positive()"),
+    ("a time below 0", REST_TIME, REST_TIME.replace("0.0", "-f64::from_bits(1)")),
+    ("no time of 1e9", REST_TIME, REST_TIME.replace("MOST_REST", as_rust(below(1e9)))),
+    ("the time after 1e9", REST_TIME, REST_TIME.replace("MOST_REST", as_rust(above(1e9)))),
+    ("any finite time from 0 on", REST_TIME, "crate::table::clock(time_s)"),
+    ("an infinite time", REST_TIME, REST_TIME + " || time_s == f64::INFINITY"),
+    ("a time that is a NaN", REST_TIME, "!(time_s < 0.0 || time_s > MOST_REST)"),
+    ("a charge has its current's own sign", "=> -current_a,", "=> current_a,"),
+    ("a discharge has the other sign", "Phase::Discharge(current_a) => current_a,", "Phase::Discharge(current_a) => -current_a,"),
+    ("a rest applies -0", "Phase::Rest(_) => 0.0,", "Phase::Rest(_) => -0.0,"),
+    ("a rest applies its time", "Phase::Rest(_) => 0.0,", "Phase::Rest(time_s) => time_s,"),
+    ("a rest ends with its cutoff too", "!(clock < time_s)", "cutoff || !(clock < time_s)"),
+    ("a rest ends by its clock where there is no cutoff", "!(clock < time_s)", "!cutoff && !(clock < time_s)"),
+    ("a rest ends after its time", "!(clock < time_s)", "clock > time_s"),
+    ("no cutoff ends a charge", CUT, CUT.replace("Phase::Charge(_) | ", "") + "\n            Phase::Charge(_) => false,"),
+    ("no cutoff ends a discharge", CUT, CUT.replace(" | Phase::Discharge(_)", "") + "\n            Phase::Discharge(_) => false,"),
+    ("a charge ends after its first step", CUT, CUT.replace("Phase::Charge(_) | ", "") + "\n            Phase::Charge(_) => true,"),
+    ("a discharge ends after its first step", CUT, CUT.replace(" | Phase::Discharge(_)", "") + "\n            Phase::Discharge(_) => true,"),
+    ("v_max alone ends a charge", OVER, OVER.replace("report.state.cutoff", "if let Phase::Charge(_) = phase { report.state.voltage > cell.config.numbers[1] } else { report.state.cutoff }")),
+    ("v_min alone ends a discharge", OVER, OVER.replace("report.state.cutoff", "if let Phase::Discharge(_) = phase { report.state.voltage < cell.config.numbers[0] } else { report.state.cutoff }")),
+    ("no phase ends after its first step", OVER, OVER + " && clock > schedule.dt"),
+    ("the phases from the count on are asked", ASKED, "let phases = &self.phases;"),
+    ("the first phase alone is asked", ASKED, ASKED.replace("()", "().get(..1).unwrap_or(&[])")),
+    ("the first phase is not asked", ASKED, ASKED.replace("()", "().get(1..).unwrap_or(&[])")),
+    ("the last phase is not asked", ASKED, ASKED.replace("()", "().split_last().map_or(&[][..], |(_, others)| others)")),
+    ("phases that the budget does not reach are not asked", ASKED, ASKED.replace("()", "();\n        let phases = &phases[..phases.len().min(self.budget as usize)]")),
+    ("no phase is enough", PHASES_IN, "(0..=PLACES as u64)"),
+    ("two phases at least", PHASES_IN, "(2..=PLACES as u64)"),
+    ("seven phases at most", PHASES_IN, "(1..PLACES as u64)"),
+    ("nine phases", PHASES_IN, "(1..=1 + PLACES as u64)"),
+    ("no repeat is enough", REPEATS_IN, "(0..=MOST_REPEATS)"),
+    ("two repeats at least", REPEATS_IN, "(2..=MOST_REPEATS)"),
+    ("999 repeats at most", REPEATS_IN, "(1..MOST_REPEATS)"),
+    ("1,001 repeats", REPEATS_IN, "(1..=MOST_REPEATS + 1)"),
+    ("no step is enough", BUDGET_IN, "(0..=MOST_BUDGET)"),
+    ("a budget of two at least", BUDGET_IN, "(2..=MOST_BUDGET)"),
+    ("a budget of 99,999 at most", BUDGET_IN, "(1..MOST_BUDGET)"),
+    ("a budget of 100,001", BUDGET_IN, "(1..=MOST_BUDGET + 1)"),
+    ("the count is not asked", PHASES_IN + ".contains(&self.count) && ", ""),
+    ("the repeats are not asked", REPEATS_IN + ".contains(&self.repeats) && ", ""),
+    ("the budget is not asked", " && " + BUDGET_IN + ".contains(&self.budget)", ""),
+    ("2 for the counts", "met.when(1, !self.counts_fit());", "met.when(2, !self.counts_fit());"),
+    ("the rows are not asked", f"        met.when(10, {ROOM});\n", ""),
+    ("eight places are enough", ROOM, "places < ROW"),
+    ("a row more than the budget", ROOM, ROOM.replace("<", "<=")),
+    ("a row fewer than the budget", ROOM, "((places / ROW) as u64) + 1 < self.budget"),
+    ("the last row may be short", ROOM, ROOM.replace("places / ROW", "places.div_ceil(ROW)")),
+    ("8 times the budget, modulo 2^64", ROOM, "(places as u64) < self.budget.wrapping_mul(ROW as u64)", because("1 comes before 10, and no budget that it lets pass is so large")),
+    ("the currents are not asked", "        met.when(3, !phases.iter().all(|phase| phase.current_fits()));\n", ""),
+    ("the interval is not asked before the first step", TIMES, TIMES.replace("!interval(self.dt) || ", "")),
+    ("the times are not asked", TIMES, "!interval(self.dt)"),
+    ("the temperature is not asked before the first step", "        met.when(5, !TEMPERATURE.holds(self.temp_k));\n", "", FIRST_STEP),
+    ("3 for a time", f"met.when(4, {TIMES});", "met.when(4, !interval(self.dt));\n        met.when(3, !phases.iter().all(|phase| phase.time_fits()));"),
+    ("2 for a time", f"met.when(4, {TIMES});", "met.when(4, !interval(self.dt));\n        met.when(2, !phases.iter().all(|phase| phase.time_fits()));"),
+    ("2 for a current", "met.when(3, !phases", "met.when(2, !phases"),
+    ("the cell is not asked before the first step", "let mut met = self.met();", "let mut met = Met::default();"),
+    before(1, 10, "((places / ROW) as u64) < schedule.budget"),
+    before(1, 2, "self.met().refuse() == Err(2)"),
+    before(10, 2, "self.met().refuse() == Err(2)"),
+    before(10, 3, NO_CURRENT),
+    before(2, 3, NO_CURRENT),
+    before(2, 4, f"({NO_TIME} || !interval(schedule.dt))"),
+    before(3, 4, "!interval(schedule.dt)"),
+    before(4, 5, "!TEMPERATURE.holds(schedule.temp_k)"),
+    ("4 before 3 where a rest stands before", *before(3, 4, "schedule.first_phases().iter().find(|phase| !phase.current_fits() || !phase.time_fits()).is_some_and(|phase| !phase.time_fits())")[1:]),
+    ("6 before 3", MEET, MEET + "\n        if met.refuse() == Err(3) && self.step(0.0, schedule.dt, schedule.temp_k).err() == Some(6) {\n            return refused(self, 6);\n        }"),
+    ("a repeat fewer", WRITTEN_OUT, WRITTEN_OUT.replace("self.repeats as usize", "(self.repeats as usize - 1).max(1)")),
+    ("a repeat more", WRITTEN_OUT, WRITTEN_OUT.replace("self.repeats as usize", "self.repeats as usize + 1")),
+    ("the repeats are not made", WRITTEN_OUT, WRITTEN_OUT.replace("self.repeats as usize", "(self.repeats as usize).min(1)")),
+    ("each phase is repeated by itself", WRITTEN_OUT, rearranged("first[k / self.repeats as usize]")),
+    ("the last phase first", WRITTEN_OUT, rearranged("first[first.len() - 1 - k % first.len()]")),
+    ("every other repeat backwards", WRITTEN_OUT, rearranged("first[if k / first.len() % 2 == 0 { k % first.len() } else { first.len() - 1 - k % first.len() }]")),
+    ("a phase more than the count", WRITTEN_OUT, WRITTEN_OUT.replace("self.first_phases()", "self.phases[..PLACES.min(self.count as usize + 1)]")),
+    ("the first phase of the first repeat is left out", PHASE, PHASE.replace("at]", "at.max(1).min(phases.len() - 1)]")),
+    ("each step from the first cell", "cell.step(phase.current()", "self.step(phase.current()"),
+    ("298.15 for both t_ref", PHASE, PHASE + "\n            (cell.anode.sheet.numbers[9], cell.cathode.sheet.numbers[9]) = (298.15, 298.15);"),
+    ("a rest of 0 makes no step", PHASE, PHASE + "\n            if phase == Phase::Rest(0.0) && at + 1 < phases.len() {\n                at += 1;\n                continue;\n            }"),
+    ("a refused step has a row", REFUSED, REFUSED.replace("break", "{ rows.push([0.0; ROW]); break").replace("),", ") }")),
+    ("a refused step takes the rows above", REFUSED, REFUSED.replace("break", "{ rows.clear(); break").replace("),", ") }"), ALWAYS_FIRST),
+    ("a refused step takes the cell", REFUSED, REFUSED.replace("break", "{ cell = self.clone(); break").replace("),", ") }"), ALWAYS_FIRST),
+    ("a refused step has no number", REFUSED, "Err(number) => break (Ending::Refused, 0 * number),"),
+    ("a refused step is spent", REFUSED, "Err(number) => break (Ending::Spent, number),"),
+    ("a refused step is done", REFUSED, "Err(number) => break (Ending::Done, number),"),
+    ("the cell stays as it was", "            cell = next;\n", "            let _ = next;\n"),
+    ("the cutoff's row is left out", "rows.push(report.row());", "if !report.state.cutoff {\n                rows.push(report.row());\n            }"),
+    ("the cutoff's cell is left out", "cell = next;", "if !report.state.cutoff {\n                cell = next;\n            }"),
+    ("the clock is not set back", MOVED, "at += 1;"),
+    ("the clock is set back to the interval", MOVED, MOVED.replace("0.0", "schedule.dt")),
+    ("the clock is set back at each repeat only", MOVED, "at += 1;\n                if at as u64 % schedule.count == 0 {\n                    clock = 0.0;\n                }"),
+    ("a rest alone sets the clock back", MOVED, "at += 1;\n                if let Phase::Rest(_) = phase {\n                    clock = 0.0;\n                }"),
+    ("a phase is passed over", MOVED, MOVED.replace("at + 1", "(at + 2).min(phases.len())")),
+    ("the clock is asked before it is raised", RAISED + ENDED, ENDED[:-1] + " else {\n                clock += schedule.dt;\n            }\n"),
+    ("the clock is not raised", RAISED, ""),
+    ("the clock is raised by a charge or discharge only", RAISED, "            if phase.current() != 0.0 {\n                clock += schedule.dt;\n            }\n"),
+    ("the clock is raised before the first step", "let (mut at, mut clock) = (0, 0.0);", "let (mut at, mut clock) = (0, schedule.dt);"),
+    ("the clock is steps times interval", RAISED + ENDED, "            clock += 1.0;\n" + ENDED.replace("clock)", "clock * schedule.dt)", 1)),
+    ("the clock is the cell's", OVER, OVER.replace("clock", "cell.time_s")),
+    ("spent before done", IS_DONE + IS_SPENT, IS_SPENT + IS_DONE),
+    ("spent a step early", MADE, "rows.len() as u64 + 1 >= schedule.budget"),
+    ("spent a step late", MADE, "rows.len() as u64 > schedule.budget"),
+    ("spent by the places", MADE, "rows.len() >= places / ROW"),
+    ("spent in a phase only", MADE, MADE + " && clock > 0.0"),
+    ("spent between two phases is done", "(Ending::Spent, 0)", "(if clock > 0.0 { Ending::Spent } else { Ending::Done }, 0)"),
+    ("spent before the last phase is done", "(Ending::Spent, 0)", "(if at + 1 < phases.len() { Ending::Done } else { Ending::Spent }, 0)"),
+    ("spent is full", "Ending::Spent", "Ending::Full"),
+    ("spent is time", "Ending::Spent", "Ending::Time"),
+    ("done is time", "Ending::Done", "Ending::Time"),
+    ("done by a cutoff is voltage", "(Ending::Done, 0)", "(if report.state.cutoff { Ending::Voltage } else { Ending::Done }, 0)"),
+    ("done by a discharge is voltage", "(Ending::Done, 0)", "(if let Phase::Discharge(_) = phase { Ending::Voltage } else { Ending::Done }, 0)"),
+    ("done when the last phase begins", "at == phases.len()", "at + 1 >= phases.len()"),
+]
+
 CALLS_ELECTROLYTE = [
     *ends_of_t_ref(7),
     ("e_a_kappa and t_ref exchanged", "e_a_de, e_a_kappa, t_ref] = self.numbers", "e_a_de, t_ref, e_a_kappa] = self.numbers"),
@@ -802,6 +959,7 @@ def all_faults(texts):
         ("calls/particle.rs", CALLS_PARTICLE),
         ("calls/solver.rs", CALLS_SOLVER),
         ("calls/replay.rs", CALLS_REPLAY),
+        ("calls/cycle.rs", CALLS_CYCLE),
         ("calls/electrolyte.rs", CALLS_ELECTROLYTE),
         ("calls/dfn.rs", CALLS_DFN),
         ("calls/dense.rs", CALLS_DENSE),

@@ -24,7 +24,7 @@ def read_columns(text):
     names = lines[0][1].split(",")
     if len(names) < 2 or not all(name.endswith("]") and " [" in name for name in names):
         raise BadInput(f"standard input, line {lines[0][0]}: expected names with their units, such as current [A],before [V], found: {shown(lines[0][1])}")
-    rows = [read_row(f"standard input, line {place}", line, len(names)) for place, line in lines[1:]]
+    rows = [read_row(f"standard input, line {place}", line, names) for place, line in lines[1:]]
     return names, list(zip(*rows))
 
 

@@ -4,13 +4,14 @@
     target/bin/discharge nmc | harness/plot/curve.py > curve.svg
     harness/plot/curve.py 1A.csv 5A.csv 10A.csv > rates.svg
 
-Each FILE is what the program discharge or replay writes; - or no FILE is standard input. The title has cell, load, current and temperature, as far as the runs tell them;
-what differs from run to run is in the legend too, with the capacity in Ah, the ending, and when a surface became full or empty.
+Each FILE is what the program discharge, replay or cycle writes; - or no FILE is standard input. The title has cell, load or phases, current and temperature, as far as the
+runs tell them; what differs from run to run is in the legend too, with the capacity in Ah, the ending, and when a surface became full or empty.
 Dashed lines stand at v_min and v_max, where that leaves the curve at least a twentieth of the height, else their values stand at the edge.
 Marks stand where the surface of an electrode is full (1) or empty (0) for the first time: from there on charge is lost and the rows are not
 the cell's any more, so the voltage is pale.
 The axis above is the capacity, the integral of the current over the rows. Runs of different currents have no common one: take --x capacity, which puts
-the capacity below and leaves the axis above out. Several runs have no averages of the stoichiometry.
+the capacity below and leaves the axis above out. Behind a cycle that is drawn alone over the time each phase is a band, in one of three colours for charge, rest and discharge.
+Several runs have no bands and no averages of the stoichiometry.
 """
 import argparse
 import colorsys
@@ -26,6 +27,7 @@ TOP, UPPER_AXIS, HEIGHT, CURRENT_HEIGHT, GAP, BOTTOM = 60, 44, 270, 150, 50, 60
 RIGHT_EDGE = WIDTH - RIGHT
 INK, GREY, RED = "#333333", "#666666", "#b00020"
 ELECTRODE = {"anode": "#1b6ca8", "cathode": "#c2410c"}
+BANDS = {"charge": "#dce9f7", "rest": "#efefef", "discharge": "#fdebd3"}
 PALETTE = ["#0072b2", "#d55e00", "#009e73", "#cc79a7", "#e69f00", "#333333", "#56b4e9", "#7a4fbf"]
 DASHES = "6 4"
 
@@ -111,6 +113,11 @@ class Panel:
             out.append(text_at(at, self.top - 9, words, 'class="tick-upper" text-anchor="middle"'))
         return out + [text_at((LEFT + RIGHT_EDGE) / 2, self.top - 28, label, 'class="upper-label" text-anchor="middle"')]
 
+    def band(self, first, last, kind):
+        """A phase, over the panel's height."""
+        left, right = self.x(first), self.x(last)
+        return f'<rect x="{left:.2f}" y="{self.top}" width="{right - left:.2f}" height="{self.height}" class="band {kind}" fill="{BANDS[kind]}"/>'
+
     def line(self, xs, ys, colour, rest=""):
         if len(xs) == 1:
             return f'<circle cx="{self.x(xs[0]):.2f}" cy="{self.y(ys[0]):.2f}" r="2.5" fill="{colour}" {rest}/>'
@@ -152,6 +159,10 @@ class Legend:
         self.out.append(mark_at(self.left + 14, self.at, electrode, state, GREY, "mark-key"))
         self.words(f"{electrode} surface {state}", 'class="mark-label"')
 
+    def band(self, kind):
+        self.out.append(f'<rect x="{self.left}" y="{self.at - 6:.1f}" width="28" height="12" class="band-key" fill="{BANDS[kind]}" stroke="#ccc"/>')
+        self.words(kind, 'class="band-label"')
+
     def words(self, words, rest):
         self.out.append(text_at(self.left + 38, self.at + 4, shortened(words, 31), rest))
         self.at += 20
@@ -175,6 +186,7 @@ class Picture:
         self.current = self.common([run.current for run in runs])
         self.by_capacity = options.x == "capacity"
         self.xs = [run.capacities if self.by_capacity else run.times for run in runs]
+        self.phases = runs[0].phases() if len(runs) == 1 and not self.by_capacity else []
 
     def common(self, values):
         """The value that all runs have, or None."""
@@ -185,9 +197,10 @@ class Picture:
         return [given] if given is not None else sorted({run.settings[name] for run in self.runs if name in run.settings})
 
     def settings_of(self, run):
-        """Cell, load, current and temperature in words; each '' where the run does not tell it, or where the current varies."""
+        """Cell, load or phases, current and temperature in words; each '' where the run does not tell it, and the current where it varies or is a phase's."""
         temperature = run.settings.get("temperature")
-        return [run.cell, run.load, self.current_words(run.current), "" if temperature is None else f"{temperature:g} K"]
+        current = None if run.phases() else run.current
+        return [run.cell, run.load, self.current_words(current), "" if temperature is None else f"{temperature:g} K"]
 
     def current_words(self, current):
         if current is None:
@@ -196,12 +209,12 @@ class Picture:
         return f"{current:g} A" + (f" ({abs(current) / rate:.3g}C)" if rate else "")
 
     def title(self):
-        """Cell, load, current and temperature; all values where the runs differ, and the first and the last of more than five."""
+        """Cell, load or phases, current and temperature; all values where the runs differ, and the first and the last of more than five."""
         if self.options.title is not None:
             return self.options.title
-        parts = []
+        parts, most = [], 70 if len(self.runs) == 1 else 40
         for values in zip(*map(self.settings_of, self.runs)):
-            values = list(dict.fromkeys(shortened(value, 40) for value in values if value))
+            values = list(dict.fromkeys(shortened(value, most) for value in values if value))
             parts.append(", ".join(values) if len(values) <= 5 else f"{values[0]} .. {values[-1]}")
         return " · ".join(part for part in parts if part) or "Discharge" + ("s" if len(self.runs) > 1 else "")
 
@@ -238,7 +251,7 @@ class Picture:
 
     def draw_voltages(self, panel, legend):
         """The upper panel; a curve is pale after its first mark."""
-        out = panel.axes() + self.upper_axis(panel)
+        out = self.bands(panel) + panel.axes() + self.upper_axis(panel)
         out += panel.limits([(value, name) for name, values in self.limits.items() for value in values])
         above = []
         for run, xs, colour, label in zip(self.runs, self.xs, self.colours, self.labels()):
@@ -254,6 +267,8 @@ class Picture:
         if above:
             legend.note("pale after the first mark: the rows are")
             legend.note("not the cell's any more")
+        for kind in dict.fromkeys(kind for kind, _, _ in self.phases):
+            legend.band(kind)
         return out + above
 
     def describe(self, run, marks, colour, label, legend):
@@ -268,9 +283,13 @@ class Picture:
             legend.note(f"{electrode} {state} from {run.times[row]:g} s{at}")
         legend.space()
 
+    def bands(self, panel):
+        """The phases of a cycle, behind all else in a panel."""
+        return [panel.band(first, last, kind) for kind, first, last in self.phases]
+
     def draw_currents(self, panel, legend):
         """The panel between, in steps: a row's current flowed since the row before it."""
-        out = panel.axes()
+        out = self.bands(panel) + panel.axes()
         for run, xs, colour in zip(self.runs, self.xs, self.colours):
             if None not in run.currents:
                 edges = [x for pair in zip([0.0, *xs], xs) for x in pair]
@@ -280,7 +299,7 @@ class Picture:
 
     def draw_stoichiometries(self, panel, legend):
         """The lower panel. One run has its electrodes in colours and averages dashed; several have their own colours, and the cathode is dashed."""
-        out, above = panel.axes(), []
+        out, above = self.bands(panel) + panel.axes(), []
         one = len(self.runs) == 1
         for run, xs, colour in zip(self.runs, self.xs, self.colours):
             for electrode in SURFACES:

@@ -1,9 +1,11 @@
-"""Reads what the programs `discharge` and `replay` write: a line of column names with their units, rows of numbers, and remarks after '#'.
+"""Reads what the programs `discharge`, `replay` and `cycle` write: a line of column names with their units, rows of numbers, and remarks after '#'. A row of `cycle` also
+has the word of its phase.
 
 A remark with at least one of the four names of SETTINGS says how the run was set, its cell first:
 
     # nmc current=5 A temperature=298.15 K v_min=3 V v_max=4.2 V
     # nmc load=drive.txt temperature=298.15 K v_min=3 V v_max=4.2 V
+    # lfp discharge=3 A rest=600 s charge=1.5 A repeat=2 dt=10 s budget=5000 temperature=298.15 K v_min=3 V v_max=4.2 V
 
 Any of them may be missing, and so may units. The last of the other remarks says how the run ended.
 """
@@ -15,6 +17,8 @@ SURFACES = {"anode": "theta_neg [1]", "cathode": "theta_pos [1]"}
 AVERAGES = {"anode": "theta_neg_avg [1]", "cathode": "theta_pos_avg [1]"}
 COLUMNS = ["time [s]", "voltage [V]", *SURFACES.values(), *AVERAGES.values()]
 SETTINGS = ["current", "temperature", "v_min", "v_max"]
+KINDS = ["charge", "rest", "discharge"]
+KIND, WHICH = "kind", ["repeat [1]", "phase [1]"]
 LARGEST = 1e15
 
 
@@ -23,7 +27,7 @@ class BadInput(Exception):
 
 
 class Run:
-    """A run: its columns by their names, its settings as far as the file tells them, and its ending in words."""
+    """A run: its columns by their names, its settings as far as the file tells them, what was applied in words where it is not one current, and its ending in words."""
 
     def __init__(self, name, columns, remarks):
         self.name, self.columns = name, columns
@@ -43,7 +47,7 @@ class Run:
             return
         self.cell = re.split(r"(?:^|\s)[\w.]+=", remark)[0].strip() or self.cell
         load = re.search(rf"(?:^|\s)load=(.*?)(?:\s(?:{'|'.join(SETTINGS)})=|$)", remark)
-        self.load = load.group(1).split("/")[-1] if load else self.load
+        self.load = load.group(1).split("/")[-1] if load else ", ".join(phases_in(remark)) or self.load
         for name, value in found:
             self.settings[name] = number(value, f"{self.name}: {name} in a remark")
 
@@ -56,6 +60,17 @@ class Run:
             sums.append(total)
         return [-s for s in sums] if total < 0 else sums
 
+    def phases(self):
+        """The phases of a cycle in their order: kind, the times at which it began and ended."""
+        if not {KIND, *WHICH} <= set(self.columns):
+            return []
+        found, last = [], None
+        for time, before, kind, *which in zip(self.times, [0.0, *self.times], *(self.columns[name] for name in [KIND, *WHICH])):
+            if which != last:
+                found.append([kind, before, time])
+            found[-1][2], last = time, which
+        return found
+
     def marks(self):
         """Where a surface is full or empty for the first time: electrode, state, row; in the order of rows. Full is 1 and empty 0, where the model clamps."""
         found = []
@@ -65,6 +80,13 @@ class Run:
                 if row is not None:
                     found.append((electrode, state, row))
         return sorted(found, key=lambda mark: mark[2])
+
+
+def phases_in(remark):
+    """The phases that a remark names, and how often they are repeated where it is not once, in words."""
+    words = [f"{kind} {value}{unit}" for kind, value, unit in re.findall(rf"(?:^|\s)({'|'.join(KINDS)})=(\S+)( [As]\b)?", remark)]
+    repeat = re.search(r"(?:^|\s)repeat=(\d+)", remark)
+    return words + ([f"{repeat.group(1)} times"] if words and repeat and repeat.group(1) != "1" else [])
 
 
 def number(word, where):
@@ -112,7 +134,7 @@ def read_run(path):
     missing = [column for column in COLUMNS if column not in names]
     if missing:
         raise BadInput(f"{name}, line {lines[0][0]}: no CSV of discharge, the column {missing[0]} is missing in: {shown(lines[0][1])}")
-    rows = [read_row(f"{name}, line {place}", line, len(names)) for place, line in lines[1:]]
+    rows = [read_row(f"{name}, line {place}", line, names) for place, line in lines[1:]]
     if not rows:
         raise BadInput(f"{name}: no row to draw{said}")
     columns = dict(zip(names, map(list, zip(*rows))))
@@ -122,9 +144,15 @@ def read_run(path):
     return Run(name, columns, remarks)
 
 
-def read_row(where, line, width):
-    """The numbers of a row."""
+def read_row(where, line, names):
+    """The numbers of a row, and the word of its phase."""
     words = line.split(",")
-    if len(words) != width:
-        raise BadInput(f"{where}: expected {width} numbers, found: {shown(line)}")
-    return [number(word, where) for word in words]
+    if len(words) != len(names):
+        raise BadInput(f"{where}: expected {len(names)} columns, found: {shown(line)}")
+    return [kind(word, where) if name == KIND else number(word, where) for name, word in zip(names, words)]
+
+
+def kind(word, where):
+    if word not in KINDS:
+        raise BadInput(f"{where}: expected charge, rest or discharge, found: {shown(word)}")
+    return word

@@ -41,7 +41,7 @@ class BeforeAfterTest(unittest.TestCase):
             ("", "expected a line of names and at least two rows"),
             ("a [A],b [V]\n1,2\n", "expected a line of names and at least two rows"),
             ("a,b\n1,2\n3,4\n", "line 1: expected names with their units"),
-            ("a [A],b [V]\n1,2\n3\n", "line 3: expected 2 numbers"),
+            ("a [A],b [V]\n1,2\n3\n", "line 3: expected 2 columns"),
             ("a [A],b [V]\n1,2\n3,x\n", "line 3: expected a number, found: x"),
         ]:
             with self.subTest(words):

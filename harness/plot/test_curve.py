@@ -6,6 +6,7 @@
 It takes a second, needs nothing but Python, and leaves nothing behind.
 """
 import io
+import itertools
 import os
 import re
 import subprocess
@@ -26,6 +27,8 @@ REMARK = "# nmc current=5 A temperature=298.15 K v_min=3 V v_max=4.2 V"
 ENDING = "# ended by time after 6 rows"
 LOAD = "# nmc load=logs/my drive.txt temperature=298.15 K v_min=3 V v_max=4.2 V"
 CURRENTS = (5.0, 15.0, 0.0, -4.0, -4.0, 5.0)
+CYCLE = "# lfp discharge=5 A rest=600 s charge=4 A repeat=2 dt=600 s budget=6 temperature=298.15 K v_min=3 V v_max=4.2 V"
+PHASES = ["1,1,discharge", "1,1,discharge", "1,2,rest", "1,3,charge", "1,3,charge", "2,1,discharge"]
 
 
 def csv(current=5.0, remark=REMARK, anode=(0.8, 0.7, 0.6, 0.5, 0.4, 0.3), cathode=(0.2, 0.3, 0.4, 0.5, 0.6, 0.7)):
@@ -33,6 +36,13 @@ def csv(current=5.0, remark=REMARK, anode=(0.8, 0.7, 0.6, 0.5, 0.4, 0.3), cathod
     currents = current if isinstance(current, tuple) else (current,) * 6
     rows = [f"{600 * (k + 1)},{3.9 - 0.1 * k},{currents[k]},{anode[k]},{cathode[k]},0.5,0.5,0" for k in range(6)]
     return "\n".join(filter(None, [HEADER, *rows, remark, ENDING])) + "\n"
+
+
+def cycle_csv(phases=PHASES, currents=(5.0, 5.0, 0.0, -4.0, -4.0, 5.0), remark=CYCLE):
+    """The same six rows as those of a cycle."""
+    header, *rows = csv(currents, remark).splitlines(keepends=True)
+    rows[:6] = [row.replace("\n", f",{phase}\n") for row, phase in zip(rows, phases)]
+    return "".join([header.replace("\n", ",repeat [1],phase [1],kind\n"), *rows])
 
 
 class Drawn:
@@ -66,6 +76,18 @@ class Drawn:
             drawn.elements = numbers[first:last]
             parts.append(drawn.scale("tick-y", "y", 4.0))
         return self.scale("tick-x", "x"), *parts
+
+    def bands(self):
+        """Kind, left, right, top and bottom of each band."""
+        found = []
+        for _, at, _ in self.of("band"):
+            x, y, width, height = (float(at[name]) for name in ("x", "y", "width", "height"))
+            found.append((at["class"].split()[1], x, x + width, y, y + height))
+        return found
+
+    def frames(self):
+        """Top and bottom of each panel's frame."""
+        return [(float(at["y"]), float(at["y"]) + float(at["height"])) for tag, at, _ in self.elements if tag == "rect" and at.get("fill") == "none"]
 
     def marks(self):
         """Kind and middle of each mark."""
@@ -206,8 +228,45 @@ class CurveTest(unittest.TestCase):
         self.assertEqual(len({at["stroke"] for _, at, _ in both.of("current")}), 2)
         self.assertEqual(self.draw("constant.csv").of("current"), [])
 
+    def test_phases(self):
+        drawn = self.draw(self.file("cycle.csv", cycle_csv()))
+        x, _, current, _ = drawn.panels()
+        expected = [("discharge", 0, 1200), ("rest", 1200, 1800), ("charge", 1800, 3000), ("discharge", 3000, 3600)]
+        frames = drawn.frames()
+        self.assertEqual((len(frames), len(drawn.bands())), (3, 12))
+        for k, (kind, left, right, top, bottom) in enumerate(drawn.bands()):
+            self.assertEqual(kind, expected[k % 4][0])
+            self.near((left, right, top, bottom), (x(expected[k % 4][1]), x(expected[k % 4][2]), *frames[k // 4]))
+        colours = {kind: {at["fill"] for _, at, _ in drawn.of(kind)} for kind in ("charge", "rest", "discharge")}
+        self.assertEqual((len(set.union(*colours.values())), [len(fills) for fills in colours.values()]), (3, [1, 1, 1]))
+        keys = [at["fill"] for _, at, _ in drawn.of("band-key")]
+        self.assertEqual([{key} for key in keys], [colours[kind] for kind in drawn.texts("band-label")])
+        self.assertEqual(drawn.texts("band-label"), ["discharge", "rest", "charge"])
+        names = [at.get("class", "").split(" ")[0] for _, at, _ in drawn.elements]
+        order = [name for name, _ in itertools.groupby(name for name in names if name in ("band", "tick-x", "voltage", "current", "surface"))]
+        self.assertEqual(order, ["band", "tick-x", "voltage", "band", "tick-x", "current", "band", "tick-x", "surface"])
+        self.near(drawn.points("current")[0][6], (x(1800), current(-4)))
+        self.assertEqual(drawn.texts("title"), ["lfp · discharge 5 A, rest 600 s, charge 4 A, 2 times · 298.15 K"])
+
+    def test_phases_of_one_kind(self):
+        charges = self.draw(given=cycle_csv([f"{k},1,charge" for k in (1, 1, 2, 3, 3, 3)], (-4.0,) * 6, CYCLE.replace("discharge=5 A rest=600 s ", "").replace("repeat=2", "repeat=3")))
+        x, _, _ = charges.panels()
+        self.assertEqual([band[0] for band in charges.bands()], ["charge"] * 6)
+        for band, (first, last) in zip(charges.bands(), ((0, 1200), (1200, 1800), (1800, 3600))):
+            self.near(band[1:3], (x(first), x(last)))
+        self.assertEqual((charges.texts("title"), charges.texts("band-label")), (["lfp · charge 4 A, 3 times · 298.15 K"], ["charge"]))
+        once = self.draw(given=cycle_csv(["1,1,rest"] * 6, (0.0,) * 6, CYCLE.replace("discharge=5 A rest=600 s charge=4 A repeat=2", "rest=3600 s repeat=1")))
+        self.assertEqual((once.texts("title"), len(once.bands())), (["lfp · rest 3600 s · 298.15 K"], 2))
+
+    def test_no_bands(self):
+        cycle, run = self.file("cycle.csv", cycle_csv()), self.file("run.csv", csv())
+        for arguments in ([run], [cycle, run], ["--x", "capacity", cycle]):
+            drawn = self.draw(*arguments)
+            self.assertEqual((drawn.of("band"), drawn.of("band-label")), ([], []))
+        self.assertEqual(self.draw(cycle, run).texts("run"), ["…est 600 s, charge 4 A, 2 times", "nmc, 5 A"])
+
     def test_what_the_programs_write(self):
-        for program, steps in (("discharge", []), ("replay", [622])):
+        for program, steps in (("discharge", []), ("replay", [622]), ("cycle", [412])):
             text = (CRATES / program / "stdout").read_text()
             drawn = self.draw(given=text)
             rows = [line for line in text.splitlines() if re.match(r"[0-9]", line)]
@@ -230,8 +289,11 @@ class CurveTest(unittest.TestCase):
             (["bytes.csv"], "", "bytes.csv: no text"),
             ([], "a,b\n1,2\n", "line 1: no CSV of discharge, the column time [s] is missing"),
             ([], csv().replace("3.9,", "nan,"), "line 2: expected a number"),
-            ([], csv().replace("600,3.9,", "600,"), "line 2: expected 8 numbers"),
+            ([], csv().replace("600,3.9,", "600,"), "line 2: expected 8 columns"),
             ([], csv().replace("600,3.9,", "6000,3.9,"), "line 3: the time does not rise"),
+            ([], cycle_csv().replace(",rest", ",pause"), "line 4: expected charge, rest or discharge, found: pause"),
+            ([], cycle_csv().replace("1,2,rest", "1,second,rest"), "line 4: expected a number, found: second"),
+            ([], cycle_csv().replace(",rest", ""), "line 4: expected 11 columns"),
             ([], csv().replace("v_min=3", "v_min=low"), "v_min in a remark: expected a number, found: low"),
             (["-", "-"], csv(), "standard input can be one run only"),
             (["--label", "a", good, good], "", "--label: 1 given for 2 runs"),
@@ -245,10 +307,11 @@ class CurveTest(unittest.TestCase):
                 self.assertTrue(message.startswith("curve.py: "), message)
                 self.assertIn(words, message)
 
-    def test_picture_of_the_drive_cycle(self):
-        picture = (CRATES.parent / "docs" / "drive_cycle.svg").read_text()
-        _, svg, _ = self.run_curve(given=(CRATES / "replay" / "stdout").read_text())
-        self.assertTrue(svg == picture, "docs/drive_cycle.svg is not the picture of crates/replay/stdout: README.md has the command that makes it")
+    def test_pictures_of_the_page(self):
+        for name, program in (("drive_cycle.svg", "replay"), ("cycle.svg", "cycle")):
+            picture = (CRATES.parent / "docs" / name).read_text()
+            _, svg, _ = self.run_curve(given=(CRATES / program / "stdout").read_text())
+            self.assertTrue(svg == picture, f"docs/{name} is not the picture of crates/{program}/stdout: README.md has the command that makes it")
 
     def test_as_a_program(self):
         for given, status, message in ((csv(), 0, ""), ("", 1, "curve.py: standard input: no row to draw, the input is empty\n")):

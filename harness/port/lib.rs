@@ -27,6 +27,10 @@ mod boundary {
             cell: *const u8, cell_len: usize, text: *const u8, text_len: usize, temp_k: f64, rows: *mut f64, rows_len: usize,
             answer: *mut u8, answer_len: usize,
         ) -> u64;
+        pub fn pj_cycle(
+            cell: *const u8, cell_len: usize, phases: *const u8, phases_len: usize, count: usize, repeats: usize, budget: usize,
+            dt: f64, temp_k: f64, rows: *mut f64, rows_len: usize, answer: *mut u8, answer_len: usize,
+        ) -> u64;
         pub fn pj_solve_dense(
             a: *const f64, a_len: usize, b: *const f64, b_len: usize, n: usize, answer: *mut u8, answer_len: usize,
         ) -> u64;
@@ -79,6 +83,17 @@ pub fn replay(cell: &[u8], text: &[u8], temp_k: f64, rows: &mut [f64], answer: &
     let (rows_len, answer_len) = (rows.len(), answer.len());
     let (rows, answer) = (rows.as_mut_ptr(), answer.as_mut_ptr());
     unsafe { boundary::pj_replay(cell.as_ptr(), cell.len(), text.as_ptr(), text.len(), temp_k, rows, rows_len, answer, answer_len) }
+}
+
+/// The counts are those of phases, repeats and steps.
+pub fn cycle(cell: &[u8], phases: &[u8], counts: [usize; 3], [dt, temp_k]: [f64; 2], rows: &mut [f64], answer: &mut [u8]) -> u64 {
+    let [count, repeats, budget] = counts;
+    let (cell, cell_len, phases, phases_len) = (cell.as_ptr(), cell.len(), phases.as_ptr(), phases.len());
+    let (rows_len, answer_len) = (rows.len(), answer.len());
+    let (rows, answer) = (rows.as_mut_ptr(), answer.as_mut_ptr());
+    unsafe {
+        boundary::pj_cycle(cell, cell_len, phases, phases_len, count, repeats, budget, dt, temp_k, rows, rows_len, answer, answer_len)
+    }
 }
 
 pub fn solve_dense(a: &[f64], b: &[f64], n: usize, answer: &mut [u8]) -> u64 {

@@ -52,6 +52,38 @@ pub enum Average {
     Concentration = 9,
 }
 
+/// A ready cell: graphite_lfp with limits that no voltage meets, or graphite_nmc with those that end a charger's phases.
+#[derive(Clone, Copy)]
+pub enum Ready {
+    Lfp,
+    Nmc,
+}
+
+impl Ready {
+    /// v_min and v_max
+    pub fn limits(self) -> [f64; 2] {
+        match self {
+            Ready::Lfp => [-10.0, 10.0],
+            Ready::Nmc => [3.0, 4.2],
+        }
+    }
+}
+
+/// Kinds of a phase, by their numbers in harness/c/persimmonjib.h.
+pub const CHARGE: u64 = 1;
+pub const REST: u64 = 2;
+pub const DISCHARGE: u64 = 3;
+
+/// A charger's phases, each a kind and its number, repeated, in so many steps at most.
+#[derive(Clone, Copy)]
+pub struct Cycle {
+    pub phases: [(u64, f64); 4],
+    pub repeats: usize,
+    pub budget: usize,
+    pub dt: f64,
+    pub temp_k: f64,
+}
+
 pub struct System {
     pub n: usize,
     pub a: Vec<f64>,
@@ -150,6 +182,37 @@ fn replays(text: &[u8]) -> Case<'_> {
     }
 }
 
+/// A run of so many rows on a ready cell.
+fn cell_run(name: &str, ready: Ready, rows: usize) -> Case<'static> {
+    let run = Load { current_a: 0.3, dt: 1.0, temp_k: REFERENCE };
+    Case {
+        name: format!("a cell step of 1 s in a run of {rows} rows, {name}n = 11"),
+        sides: [
+            Box::new(move |_| oracle_side::cell_run(ready, 11, run, rows)),
+            Box::new(move |_| port_side::cell_run(ready, 11, run, rows)),
+            Box::new(move |_| published_side::cell_run(ready, 11, run, rows)),
+        ],
+        units: rows as f64,
+        once: true,
+    }
+}
+
+/// 5 A out, 600 s of rest, 2.5 A in, 600 s of rest, and again, until the budget is made.
+fn cell_cycle(budget: usize) -> Case<'static> {
+    let phases = [(DISCHARGE, 5.0), (REST, 600.0), (CHARGE, 2.5), (REST, 600.0)];
+    let cycle = Cycle { phases, repeats: 1000, budget, dt: 1.0, temp_k: REFERENCE };
+    Case {
+        name: format!("a cell step of 1 s in a cycle of {budget} rows, graphite_nmc, n = 11"),
+        sides: [
+            Box::new(move |_| oracle_side::cell_cycle(Ready::Nmc, 11, cycle)),
+            Box::new(move |_| port_side::cell_cycle(Ready::Nmc, 11, cycle)),
+            Box::new(move |_| published_side::cell_cycle(Ready::Nmc, 11, cycle)),
+        ],
+        units: budget as f64,
+        once: true,
+    }
+}
+
 fn cases<'a>(systems: &'a [System; 2], text: &'a [u8]) -> Vec<Case<'a>> {
     let mut all = Vec::new();
     for (n, dt) in [(11, 1000.0), (20, 400.0), (64, 40.0)] {
@@ -167,18 +230,10 @@ fn cases<'a>(systems: &'a [System; 2], text: &'a [u8]) -> Vec<Case<'a>> {
     let low = Load { current_a: 1e-3, dt: 1.0, temp_k: REFERENCE };
     all.push(cell_steps("a cell step of 1 s, n = 11, at 1 mA".into(), 11, low, 1.0));
     let rows = 10_000;
-    let run = Load { current_a: 0.3, dt: 1.0, temp_k: REFERENCE };
-    all.push(Case {
-        name: format!("a cell step of 1 s in a run of {rows} rows, n = 11"),
-        sides: [
-            Box::new(move |_| oracle_side::cell_run(11, run, rows)),
-            Box::new(move |_| port_side::cell_run(11, run, rows)),
-            Box::new(move |_| published_side::cell_run(11, run, rows)),
-        ],
-        units: rows as f64,
-        once: true,
-    });
+    all.push(cell_run("", Ready::Lfp, rows));
     all.push(replays(text));
+    all.push(cell_run("graphite_nmc, ", Ready::Nmc, rows));
+    all.push(cell_cycle(100_000));
     let load = Load { current_a: 20.0, dt: 1.0, temp_k: REFERENCE };
     for counts in [[5, 5, 6], [16, 16, 32]] {
         let [a, b, c] = counts;
@@ -193,7 +248,7 @@ fn cases<'a>(systems: &'a [System; 2], text: &'a [u8]) -> Vec<Case<'a>> {
             once: false,
         });
     }
-    let counts = [5, 5, 6];
+    let (counts, run) = ([5, 5, 6], Load { current_a: 0.3, dt: 1.0, temp_k: REFERENCE });
     all.push(Case {
         name: format!("a DFN step of 1 s in a run of {rows} rows, 5/5/6"),
         sides: [

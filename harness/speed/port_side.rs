@@ -1,5 +1,5 @@
 //! What is timed of the port: images in, images out, as firmware calls it.
-use crate::{clock, Answer, Average, Load, System};
+use crate::{clock, Answer, Average, Cycle, Load, Ready, System};
 use std::hint::black_box;
 use std::time::Duration;
 
@@ -24,11 +24,20 @@ fn accepted(number: u64) {
     assert_eq!(number, 0, "the port refused");
 }
 
-fn spm(n_nodes: usize) -> Vec<u8> {
-    let numbers = [-10.0, 10.0, 96_485.0, 8.314, 2e-4f64].map(f64::to_bits);
+fn spm_of(ready: Ready, n_nodes: usize) -> Vec<u8> {
+    let [v_min, v_max] = ready.limits();
+    let numbers = [v_min, v_max, 96_485.0, 8.314, 2e-4].map(f64::to_bits);
+    let call = match ready {
+        Ready::Lfp => 8,
+        Ready::Nmc => 9,
+    };
     let mut cell = vec![0; CELL];
-    accepted(port::build(8, &image(&[&[n_nodes as u64], &numbers[..]].concat()), &mut cell));
+    accepted(port::build(call, &image(&[&[n_nodes as u64], &numbers[..]].concat()), &mut cell));
     cell
+}
+
+fn spm(n_nodes: usize) -> Vec<u8> {
+    spm_of(Ready::Lfp, n_nodes)
 }
 
 fn dfn(counts: [usize; 3]) -> Vec<u8> {
@@ -83,15 +92,29 @@ pub fn dfn_steps(counts: [usize; 3], load: Load, times: usize) -> (Duration, Ans
     (taken, vec![word(&last, DFN_CELL / 8), word(&last, DFN_CELL / 8 - 5), word(&last, 64 + 512)])
 }
 
-pub fn cell_run(n_nodes: usize, load: Load, rows: usize) -> (Duration, Answer) {
-    let (cell, mut lent, mut answer) = (spm(n_nodes), vec![-1.0; 8 * rows], vec![0; CELL + ENDING]);
+/// How many rows a run of the cell made, and of its last one voltage and the cathode's average.
+fn last_row(answer: &[u8], rows: &[f64]) -> Answer {
+    let written = word(answer, CELL / 8 + 1);
+    let last = &rows[8 * (written as usize - 1)..];
+    vec![written, last[0].to_bits(), last[5].to_bits()]
+}
+
+pub fn cell_run(ready: Ready, n_nodes: usize, load: Load, rows: usize) -> (Duration, Answer) {
+    let (cell, mut lent, mut answer) = (spm_of(ready, n_nodes), vec![-1.0; 8 * rows], vec![0; CELL + ENDING]);
     let numbers = [load.current_a, load.dt, load.temp_k, load.dt * rows as f64];
     let started = clock::now();
     accepted(port::simulate_discharge(black_box(&cell), numbers, black_box(&mut lent), &mut answer));
-    let taken = clock::now() - started;
-    let written = word(&answer, CELL / 8 + 1);
-    let last = &lent[8 * (written as usize - 1)..];
-    (taken, vec![written, last[0].to_bits(), last[5].to_bits()])
+    (clock::now() - started, last_row(&answer, &lent))
+}
+
+pub fn cell_cycle(ready: Ready, n_nodes: usize, cycle: Cycle) -> (Duration, Answer) {
+    let (cell, mut lent, mut answer) = (spm_of(ready, n_nodes), vec![-1.0; 8 * cycle.budget], vec![0; CELL + ENDING]);
+    let mut phases = image(&cycle.phases.map(|(kind, number)| [kind, number.to_bits()]).concat());
+    phases.resize(128, 0);
+    let counts = [cycle.phases.len(), cycle.repeats, cycle.budget];
+    let started = clock::now();
+    accepted(port::cycle(black_box(&cell), &phases, counts, [cycle.dt, cycle.temp_k], black_box(&mut lent), &mut answer));
+    (clock::now() - started, last_row(&answer, &lent))
 }
 
 pub fn replays(n_nodes: usize, text: &[u8], temp_k: f64, times: usize) -> (Duration, Answer) {
@@ -100,10 +123,7 @@ pub fn replays(n_nodes: usize, text: &[u8], temp_k: f64, times: usize) -> (Durat
     for _ in 0..times {
         accepted(port::replay(black_box(&cell), black_box(text), temp_k, black_box(&mut lent), black_box(&mut answer)));
     }
-    let taken = clock::now() - started;
-    let written = word(&answer, CELL / 8 + 1);
-    let last = &lent[8 * (written as usize - 1)..];
-    (taken, vec![written, last[0].to_bits(), last[5].to_bits()])
+    (clock::now() - started, last_row(&answer, &lent))
 }
 
 pub fn dfn_run(counts: [usize; 3], load: Load, rows: usize) -> (Duration, Answer) {

@@ -1,12 +1,21 @@
 // What is timed of the Rust; included once for the oracle and once for the published Rust, with `model` as its name.
-use crate::{clock, Answer, Average, Load, System};
+use crate::{clock, Answer, Average, Cycle, Load, Ready, System, CHARGE, REST};
 use model::dfn::{access, DfnConfig, DfnParams, DfnSolver};
 use model::solver::{SpmConfig, SpmSolver};
 use std::hint::black_box;
 use std::time::Duration;
 
+fn spm_of(ready: Ready, n_nodes: usize) -> SpmSolver {
+    let [v_min, v_max] = ready.limits();
+    let config = SpmConfig { n_nodes, v_min, v_max, ..SpmConfig::default() };
+    match ready {
+        Ready::Lfp => SpmSolver::graphite_lfp(config),
+        Ready::Nmc => SpmSolver::graphite_nmc(config),
+    }
+}
+
 fn spm(n_nodes: usize) -> SpmSolver {
-    SpmSolver::graphite_lfp(SpmConfig { n_nodes, v_min: -10.0, v_max: 10.0, ..SpmConfig::default() })
+    spm_of(Ready::Lfp, n_nodes)
 }
 
 pub fn cell_steps(n_nodes: usize, load: Load, times: usize) -> (Duration, Answer) {
@@ -20,11 +29,37 @@ pub fn cell_steps(n_nodes: usize, load: Load, times: usize) -> (Duration, Answer
     (taken, vec![voltage.to_bits(), solver.time_s.to_bits(), solver.cathode.c_s[0].to_bits()])
 }
 
-pub fn cell_run(n_nodes: usize, load: Load, rows: usize) -> (Duration, Answer) {
-    let mut solver = spm(n_nodes);
+pub fn cell_run(ready: Ready, n_nodes: usize, load: Load, rows: usize) -> (Duration, Answer) {
+    let mut solver = spm_of(ready, n_nodes);
     let limit = load.dt * rows as f64;
     let started = clock::now();
     let states = black_box(solver.simulate_discharge(black_box(load.current_a), black_box(load.dt), black_box(load.temp_k), limit));
+    let taken = clock::now() - started;
+    let last = states.last().expect("rows");
+    (taken, vec![states.len() as u64, last.voltage.to_bits(), last.theta_pos_avg.to_bits()])
+}
+
+/// Phases one after the other, each until its cutoff or for its time, until the budget is made or the last has ended.
+pub fn cell_cycle(ready: Ready, n_nodes: usize, cycle: Cycle) -> (Duration, Answer) {
+    let (mut solver, mut states) = (spm_of(ready, n_nodes), Vec::new());
+    let Cycle { phases, repeats, budget, dt, temp_k } = black_box(cycle);
+    let (mut at, mut resting) = (0, 0.0);
+    let started = clock::now();
+    while at < phases.len() * repeats && states.len() < budget {
+        let (kind, number) = phases[at % phases.len()];
+        let current_a = match kind {
+            CHARGE => -number,
+            REST => 0.0,
+            _ => number,
+        };
+        let state = solver.step(current_a, dt, temp_k);
+        resting += dt;
+        let over = if kind == REST { !(resting < number) } else { state.cutoff };
+        if over {
+            (at, resting) = (at + 1, 0.0);
+        }
+        states.push(black_box(state));
+    }
     let taken = clock::now() - started;
     let last = states.last().expect("rows");
     (taken, vec![states.len() as u64, last.voltage.to_bits(), last.theta_pos_avg.to_bits()])

@@ -19,6 +19,8 @@ pub enum Kind {
     Finite,
     /// finite and not below 0
     Clock,
+    /// a time in a closed range, else 4
+    Time(Range),
     /// not checked at all
     Free,
     /// a whole number from .. to
@@ -84,7 +86,7 @@ impl Argument {
     fn variants(&self) -> Vec<Slot> {
         let words = |list: Vec<u64>| list.into_iter().map(Slot::Word).collect();
         match self.kind {
-            Kind::Number(range) | Kind::Reference(range) => words(limits(range.low, range.high)),
+            Kind::Number(range) | Kind::Reference(range) | Kind::Time(range) => words(limits(range.low, range.high)),
             Kind::Temperature => words(limits(TEMPERATURE.low, TEMPERATURE.high)),
             Kind::Above0(most) => words(limits(0.0, most)),
             Kind::Load(most) => words(limits(-most, most)),
@@ -117,7 +119,7 @@ impl Argument {
     fn faults(&self) -> Vec<Slot> {
         let one = |x: f64| vec![Slot::Word(bits(x))];
         match self.kind {
-            Kind::Number(range) | Kind::Reference(range) => one(range.high.next_up()),
+            Kind::Number(range) | Kind::Reference(range) | Kind::Time(range) => one(range.high.next_up()),
             Kind::Temperature => one(TEMPERATURE.high.next_up()),
             Kind::Above0(_) => one(0.0),
             Kind::Load(_) => one(f64::NAN),

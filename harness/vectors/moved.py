@@ -4,23 +4,25 @@
     moved.py BEFORE NOW
 
 BEFORE and NOW are folders of lists (FORMAT.md), such as crates/vectors/data of an earlier commit, in the folder that
-`git worktree add` makes, and of this one. A line is known by its arguments. Of `cell_step`, `simulate_discharge` and `replay` the rows of a line are compared
-one by one, as far as both have them; a step has one row, its report.
+`git worktree add` makes, and of this one. A line is known by its arguments. Of `cell_step`, `simulate_discharge`, `replay` and `cycle` the rows of a line are
+compared one by one, as far as both have them; a step has one row, its report.
 """
 import os
 import sys
 from collections import Counter
 
-WITH_ROWS = ("cell_step", "simulate_discharge", "replay")
+WITH_ROWS = ("cell_step", "simulate_discharge", "replay", "cycle")
 ROW, CURRENT = 8, 1
 ZERO, MINUS_ZERO, MINUS = 16 * "0", "8" + 15 * "0", "89ABCDEF"
 
 
 def read(folder, file):
-    """The answers of a list by their arguments."""
+    """The answers of a list by their arguments; none where the folder has no such list."""
     try:
         with open(os.path.join(folder, file), encoding="ascii") as lines:
             return dict(line.rstrip("\n").rpartition("\t")[::2] for line in lines)
+    except FileNotFoundError:
+        return {}
     except OSError as error:
         sys.exit(f"moved: {error.filename}: {error.strerror}")
 

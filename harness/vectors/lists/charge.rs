@@ -1,8 +1,10 @@
 //! Charges, whose voltage the ohmic drop raises: the resistance at its ends and between, currents of both signs and both zeros, and voltage limits
 //! over which the drop alone decides.
+use super::cycle::{fitting, schedule, voltage};
 use super::replay::{replaying, text};
 use super::solver::{config, pairs_of_sheets, random_cell, running, stepping};
 use crate::draw::Draw;
+use calls::cycle::Phase::{Charge, Discharge, Rest};
 use calls::electrode::Sheet;
 use calls::solver::Cell;
 use calls::words::Slot;
@@ -20,9 +22,14 @@ fn with(cell: &Cell, at: usize, number: f64) -> Cell {
     cell
 }
 
+/// With these limits of the voltage.
+pub fn between(cell: &Cell, v_min: f64, v_max: f64) -> Cell {
+    with(&with(cell, LIMITS[0], v_min), LIMITS[1], v_max)
+}
+
 /// A cell that no voltage cuts off.
-fn wide(cell: &Cell) -> Cell {
-    with(&with(cell, LIMITS[0], -10.0), LIMITS[1], 10.0)
+pub fn wide(cell: &Cell) -> Cell {
+    between(cell, -10.0, 10.0)
 }
 
 /// Such a cell with each limit once at a voltage that it has, next to it, halfway to the one that it has without resistance, and at that one.
@@ -74,6 +81,20 @@ pub fn replays() -> Vec<Vec<Slot>> {
     for sheets in pairs_of_sheets() {
         all.extend(RESISTANCES.iter().map(|resistance| replaying(&wide(&ready(sheets, *resistance)), &load, T, 48)));
         all.extend(limited(&ready(sheets, 1e-2), fifth).iter().map(|cell| replaying(cell, &load, T, 48)));
+    }
+    all
+}
+
+/// A rest of two steps, then a charge or a discharge; the drop decides over its second row.
+pub fn cycles() -> Vec<Vec<Slot>> {
+    let mut all = Vec::new();
+    for (phase, current, other) in [(Charge(12.0), -12.0, Discharge(3.0)), (Discharge(12.0), 12.0, Charge(3.0))] {
+        let load = schedule(&[Rest(15.0), phase, other], 1, 6, 10.0);
+        let fourth = |cell: &Cell| voltage(cell, &[0.0, 0.0, current, current], 10.0);
+        for sheets in pairs_of_sheets() {
+            all.extend(RESISTANCES.iter().map(|resistance| fitting(&wide(&ready(sheets, *resistance)), &load)));
+            all.extend(limited(&ready(sheets, 1e-2), fourth).iter().map(|cell| fitting(cell, &load)));
+        }
     }
     all
 }

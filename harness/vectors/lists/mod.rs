@@ -5,6 +5,7 @@ use calls::words::Slot;
 use oracle::standins::with_small_arguments;
 
 mod charge;
+mod cycle;
 mod dense;
 mod dfn;
 mod electrode;
@@ -26,7 +27,7 @@ const fn list(name: &'static str, cases: fn(&mut Draw) -> Vec<Vec<Slot>>, answer
 }
 
 /// A new list goes to the end: a list's place is its seed.
-pub const ALL: [List; 31] = [
+pub const ALL: [List; 32] = [
     list("ranges", elementary::range_cases, elementary::ranges),
     list("elementary", elementary::function_cases, elementary::functions),
     list("powf", elementary::powf_cases, elementary::power),
@@ -58,6 +59,7 @@ pub const ALL: [List; 31] = [
     list("solve_dense", dense::cases, dense::solve),
     list("exp", elementary::exp_cases, elementary::exp),
     list("replay", replay::cases, replay::answer),
+    list("cycle", cycle::cases, cycle::answer),
 ];
 
 /// The currents next to which the overpotentials' argument passes 2^-10: of the discharges that `step` makes, the largest that still meets one

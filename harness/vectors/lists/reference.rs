@@ -1,5 +1,6 @@
 //! Reference temperatures other than 298.15: the last cases of each list that takes a sheet or an electrolyte's parameters, so that
 //! the cases before them stay as they are.
+use super::cycle::{fitting, schedule};
 use super::electrode::{self, ready_sheets};
 use super::electrolyte::{self, ready_regions};
 use super::particle::{self, random_profile};
@@ -8,6 +9,8 @@ use super::solver::{self, config, one_sub_step, pairs_of_sheets, random_cell};
 use super::READY_REFERENCE;
 use crate::cover::one_fault;
 use crate::draw::Draw;
+use calls::cycle::Phase::{Charge, Discharge, Rest};
+use calls::cycle::Schedule;
 use calls::electrode::{Sheet, RANGES};
 use calls::electrolyte::{Electrolyte, Params, Regions, POROSITY};
 use calls::particle::Particle;
@@ -295,6 +298,23 @@ pub fn replays(draw: &mut Draw) -> Vec<Vec<Slot>> {
         // no line; the line alone; after one that is accepted, but for 6
         for lines in [&[][..], &[[dt, 3.0]], &[[1e-3, 1.0], [dt, 3.0]]] {
             all.push(replaying(&cell, &text(lines), temp_k, 24));
+        }
+    }
+    all
+}
+
+pub fn cycles(draw: &mut Draw) -> Vec<Vec<Slot>> {
+    let mut all = Vec::new();
+    for (cell, temp_k) in ready_cells(draw) {
+        let dt = interval(one_sub_step(&cell, temp_k) * draw.uniform(0.1, 4.0));
+        let (out, back) = (Discharge(current(draw).abs()), Charge(current(draw).abs()));
+        let phases = draw.pick(&[[out, Rest(1.5 * dt), back], [Rest(2.0 * dt), back, out], [back, out, Rest(dt)]]);
+        let repeats = draw.count(1, 3);
+        all.push(fitting(&cell, &Schedule { temp_k, ..schedule(&phases, repeats, draw.count(1, 7), dt) }));
+    }
+    for Turned { cell, dt, temp_k, .. } in all_turned() {
+        for first in [Charge(3.0), Rest(dt), Discharge(3.0)] {
+            all.push(fitting(&cell, &Schedule { temp_k, ..schedule(&[first, Rest(0.0)], 1, 2, dt) }));
         }
     }
     all
