@@ -10,7 +10,7 @@ use Rattle.image_laws.specs.CellImages.{particleIn}
 use Rattle.fraction.specs.Fraction.{nat, pow2, _+F_, _-F_, _*F_, _/F_, _≤F_, _within_}
 use Rattle.binary64.specs.Value.{val}
 use Rattle.diffusion.specs.Calls as DF
-use Rattle.diffusion.specs.Premises.{StepConditions}
+use Rattle.diffusion.specs.Premises.{FluxBound, StepConditions}
 use Rattle.diffusion.specs.Run.{Each, Both}
 use Rattle.particle.specs.Checks.{particleRefusal, nodes-of}
 use Rattle.particle_laws.specs.Demand as PD
@@ -47,26 +47,27 @@ pub particle-images-pass : (s : List ℕ) (qs : List (CCall PD.Call)) → length
 particle-images-pass s qs l h = rw (particle-simulates qs s l .particle) (PD.after-passes (particleIn s) (wellFormed particleSteps qs) h)
 
 -- ---- a cell: lists of `pj_cell_step`
-abbrev pub CellStepConditions : Electrode → List ℕ → List (CCall SD.Call) → Type 0
-CellStepConditions e s qs = Each (λ q. StepConditions (SD.numbersAt e (cellAt s) q)) (acceptedCalls cellSteps s qs)
+-- the calls that return 0 keep 2·h·∣flux∣ ≤ D·M at an electrode
+abbrev pub CellFluxBounds : Electrode → List ℕ → List (CCall SD.Call) → Type 0
+CellFluxBounds e s qs = Each (λ q. FluxBound (SD.numbersAt e (cellAt s) q)) (acceptedCalls cellSteps s qs)
 
 -- THEOREM 2. Every node of the electrode e in the last image is within K·M / 2 ^ 49 of the exact one, K the sub-steps that the answers report. Nothing is asked
 -- of the other electrode.
-pub cell-images-near : (e : Electrode) (s : List ℕ) (qs : List (CCall SD.Call)) → length s ≡ cellBytes → cellRefusal (cellAt s) ≡ 0 → CellStepConditions e s qs
+pub cell-images-near : (e : Electrode) (s : List ℕ) (qs : List (CCall SD.Call)) → length s ≡ cellBytes → cellRefusal (cellAt s) ≡ 0 → CellFluxBounds e s qs
     → (i : ℕ) → i < cellAt s .config .«n_nodes»
     → nodeAt e (imageAfter cellSteps s qs) i -F SD.exactPlace e (cellAt s) (wellFormed cellSteps qs) i within nat (reportedSubSteps s qs) *F mostAt e (cellAt s) /F pow2 49
-cell-images-near e s qs l h ks i m =
+cell-images-near e s qs l h bs i m =
     let w = wellFormed cellSteps qs in
     let f = cell-simulates qs s l in
     rw (← cell-nodes e (imageAfter cellSteps s qs) (SD.cellAfter (cellAt s) w) (f .cell) i (node-below (cellAt s) h i m), f .count)
-    (SD.solver-near e (cellAt s) w h (subst (Each (λ q. StepConditions (SD.numbersAt e (cellAt s) q))) (f .calls) ks) i (rw (nodes-are (cellAt s) h e) m))
+    (SD.solver-near e (cellAt s) w h (subst (Each (λ q. FluxBound (SD.numbersAt e (cellAt s) q))) (f .calls) bs) i (rw (nodes-are (cellAt s) h e) m))
 
 -- after any list the image's cell passes the checks
 pub cell-images-pass : (s : List ℕ) (qs : List (CCall SD.Call)) → length s ≡ cellBytes → cellRefusal (cellAt s) ≡ 0 → cellRefusal (cellAt (imageAfter cellSteps s qs)) ≡ 0
 cell-images-pass s qs l h = rw (cell-simulates qs s l .cell) (SD.after-passes (wellFormed cellSteps qs) (cellAt s) h)
 
--- THEOREM 3. Two images whose cells are of one make with equal profiles and pass the checks, two lists that keep the conditions at both electrodes; the calls
--- that return 0 are paired: alike in interval and temperature, the second's current no less. Then no node of the second cathode is more than 2·K·M / 2 ^ 49
+-- THEOREM 3. Two images whose cells are of one make with equal profiles and pass the checks; the calls that return 0 keep 2·h·∣flux∣ ≤ D·M at both
+-- electrodes and are paired: alike in interval and temperature, the second's current no less. Then no node of the second cathode is more than 2·K·M / 2 ^ 49
 -- below the first, and none of the second anode more than that above.
 pub record RankedImages (s s' : List ℕ) (qs qs' : List (CCall SD.Call)) : Type 0 where
   pub count : reportedSubSteps s' qs' ≡ reportedSubSteps s qs
@@ -78,17 +79,17 @@ pub record RankedImages (s s' : List ℕ) (qs qs' : List (CCall SD.Call)) : Type
       ≤F nodeAt Electrode.anode (imageAfter cellSteps s qs) i +F nat 2 *F nat (reportedSubSteps s qs) *F mostAt Electrode.anode (cellAt s) /F pow2 49
 
 pub cell-images-ranked : (s s' : List ℕ) (qs qs' : List (CCall SD.Call)) → length s ≡ cellBytes → length s' ≡ cellBytes → cellRefusal (cellAt s) ≡ 0 → cellRefusal (cellAt s') ≡ 0
-    → Twins (cellAt s) (cellAt s') → ((e : Electrode) → CellStepConditions e s qs) → ((e : Electrode) → CellStepConditions e s' qs')
+    → Twins (cellAt s) (cellAt s') → ((e : Electrode) → CellFluxBounds e s qs) → ((e : Electrode) → CellFluxBounds e s' qs')
     → Both Paired (acceptedCalls cellSteps s qs) (acceptedCalls cellSteps s' qs') → RankedImages s s' qs qs'
-cell-images-ranked s s' qs qs' l l' h h' t ks ks' ps =
+cell-images-ranked s s' qs qs' l l' h h' t bs bs' ps =
     let w = wellFormed cellSteps qs in
     let w' = wellFormed cellSteps qs' in
     let f = cell-simulates qs s l in
     let f' = cell-simulates qs' s' l' in
-    let kept : (e : Electrode) → SD.StepConditionsAt e (cellAt s) w = λ e. subst (Each (λ q. StepConditions (SD.numbersAt e (cellAt s) q))) (f .calls) (ks e) in
-    let kept' : (e : Electrode) → SD.StepConditionsAt e (cellAt s') w' = λ e. subst (Each (λ q. StepConditions (SD.numbersAt e (cellAt s') q))) (f' .calls) (ks' e) in
+    let bounds : (e : Electrode) → SD.FluxBoundAt e (cellAt s) w = λ e. subst (Each (λ q. FluxBound (SD.numbersAt e (cellAt s) q))) (f .calls) (bs e) in
+    let bounds' : (e : Electrode) → SD.FluxBoundAt e (cellAt s') w' = λ e. subst (Each (λ q. FluxBound (SD.numbersAt e (cellAt s') q))) (f' .calls) (bs' e) in
     let pairs : Both Paired (SD.taken (cellAt s) w) (SD.taken (cellAt s') w') = rw (f .calls, f' .calls) at ps in
-    let r : Ranked (cellAt s) (cellAt s') w w' = solver-ranking (cellAt s) (cellAt s') w w' h h' t kept kept' pairs in
+    let r : Ranked (cellAt s) (cellAt s') w w' = solver-ranking (cellAt s) (cellAt s') w w' h h' t bounds bounds' pairs in
     let c = SD.cellAfter (cellAt s) w in
     let c' = SD.cellAfter (cellAt s') w' in
     record {

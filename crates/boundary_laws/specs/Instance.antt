@@ -1,5 +1,5 @@
 -- A worked instance of theorems 2 and 3 of calls from C, every premise met. The configuration's image, and the cell that `pj_build` 8 makes of it (graphite_lfp, 11 nodes): the list of
--- `solver_laws/specs/Instance`, 2 s and then 1 s at 3 A, with refused calls and an answer a byte short among them. For the ranking the same cell at 3,600 s, and 4 A, an answer a byte long among them. Answers are zeros.
+-- `solver_laws/specs/Instance`, 60 s and then 1 s at 3 A, with refused calls and an answer a byte short among them. For the ranking the same cell at 3,600 s, and 4 A, an answer a byte long among them. Answers are zeros.
 -- Assumes nothing.
 use Prim.Native.Nat.{ℕ, _<_, _+_, _-_}
 use mathlib.Core.Path.{_≡_, refl, ap, _∙_}
@@ -17,7 +17,7 @@ use Rattle.solver.specs.Cell as S
 use Rattle.solver_laws.specs.Electrodes.{Electrode}
 use Rattle.solver_laws.specs.Demand as SD
 use Rattle.solver_laws.specs.Ranking.{Twins}
-use Rattle.solver_laws.specs.Instance.{config, start, later, start-is, start-passes, later-passes, twins, two, three, four, draw, no-current, too-long, discharge, stronger, discharge-taken, discharge-counted, discharge-conditions, stronger-taken, stronger-conditions, stronger-paired}
+use Rattle.solver_laws.specs.Instance.{config, start, later, start-is, start-passes, later-passes, twins, minute, three, four, draw, no-current, too-long, discharge, stronger, discharge-taken, discharge-counted, discharge-bounds, stronger-taken, stronger-bounds, stronger-paired}
 use Rattle.sheet_images.specs.Images.{configAt, putConfig}
 use Rattle.cell_images.specs.Images.{cellAt, putCell}
 use Rattle.image_builds.specs.Builds.{cellBuilt, buildLength}
@@ -30,7 +30,7 @@ use Rattle.image_laws.specs.ReadBack.{cell-build-read-back}
 use Rattle.boundary_laws.specs.CallLists.{CCall, imageAfter, acceptedCalls, wellFormed}
 use Rattle.boundary_laws.specs.StepLists.{cellSteps, reportedSubSteps, cell-simulates}
 use Rattle.boundary_laws.specs.Nodes.{nodeAt, mostAt}
-use Rattle.boundary_laws.specs.Demand.{CellStepConditions, cell-images-near, RankedImages, cell-images-ranked}
+use Rattle.boundary_laws.specs.Demand.{CellFluxBounds, cell-images-near, RankedImages, cell-images-ranked}
 use Rattle.image_layout.specs.Layout.{cellBytes, cellStepBytes}
 
 abbrev pub zeros : ℕ → List ℕ
@@ -59,12 +59,12 @@ step q = record { call = q; answer = zeros cellStepBytes }
 -- refused with 3, refused with 10, accepted, refused with 7, accepted, refused with 3
 abbrev pub calls : List (CCall SD.Call)
 calls =
-    step no-current ∷ record { call = draw three two; answer = zeros (cellStepBytes - 1) } ∷ step (draw three two) ∷ step too-long ∷ step (draw three one)
+    step no-current ∷ record { call = draw three minute; answer = zeros (cellStepBytes - 1) } ∷ step (draw three minute) ∷ step too-long ∷ step (draw three one)
     ∷ step no-current ∷ []
 
 -- accepted, refused with 3, refused with 7, refused with 10, accepted
 abbrev pub strongerCalls : List (CCall SD.Call)
-strongerCalls = step (draw four two) ∷ step no-current ∷ step too-long ∷ record { call = draw four one; answer = zeros (cellStepBytes + 1) } ∷ step (draw four one) ∷ []
+strongerCalls = step (draw four minute) ∷ step no-current ∷ step too-long ∷ record { call = draw four one; answer = zeros (cellStepBytes + 1) } ∷ step (draw four one) ∷ []
 
 -- ---- the build is accepted, and its cell is the one that `graphite_lfp` gives
 config-encodable : EncodableConfig config
@@ -130,8 +130,8 @@ module _ (s : List ℕ) (c : SpmSolver) (l : length s ≡ cellBytes) (is : cellA
   counted-are : reportedSubSteps s qs ≡ SD.K c w
   counted-are = cell-simulates qs s l .count ∙ ap (λ (x : SpmSolver). SD.K x (wellFormed cellSteps qs)) is ∙ ap (SD.K c) f
 
-  conditions-hold : (e : Electrode) → SD.StepConditionsAt e c w → CellStepConditions e s qs
-  conditions-hold e k = rw (accepted-are, is) k
+  bounds-are : (e : Electrode) → SD.FluxBoundAt e c w → CellFluxBounds e s qs
+  bounds-are e b = rw (accepted-are, is) b
 
 formed-calls : wellFormed cellSteps calls ≡ discharge
 unfolding wellFormed
@@ -141,20 +141,20 @@ formed-stronger : wellFormed cellSteps strongerCalls ≡ stronger
 unfolding wellFormed
 formed-stronger = refl
 
-pub calls-accepted : acceptedCalls cellSteps image calls ≡ draw three two ∷ draw three one ∷ []
+pub calls-accepted : acceptedCalls cellSteps image calls ≡ draw three minute ∷ draw three one ∷ []
 calls-accepted = accepted-are image start image-length image-cell calls discharge formed-calls ∙ discharge-taken
 
-pub stronger-accepted : acceptedCalls cellSteps laterImage strongerCalls ≡ draw four two ∷ draw four one ∷ []
+pub stronger-accepted : acceptedCalls cellSteps laterImage strongerCalls ≡ draw four minute ∷ draw four one ∷ []
 stronger-accepted = accepted-are laterImage later later-length later-cell strongerCalls stronger formed-stronger ∙ stronger-taken
 
-pub calls-counted : reportedSubSteps image calls ≡ 3
+pub calls-counted : reportedSubSteps image calls ≡ 66
 calls-counted = counted-are image start image-length image-cell calls discharge formed-calls ∙ discharge-counted
 
-calls-conditions : (e : Electrode) → CellStepConditions e image calls
-calls-conditions e = conditions-hold image start image-length image-cell calls discharge formed-calls e (discharge-conditions e)
+calls-bounds : (e : Electrode) → CellFluxBounds e image calls
+calls-bounds e = bounds-are image start image-length image-cell calls discharge formed-calls e (discharge-bounds e)
 
-stronger-calls-conditions : (e : Electrode) → CellStepConditions e laterImage strongerCalls
-stronger-calls-conditions e = conditions-hold laterImage later later-length later-cell strongerCalls stronger formed-stronger e (stronger-conditions e)
+stronger-calls-bounds : (e : Electrode) → CellFluxBounds e laterImage strongerCalls
+stronger-calls-bounds e = bounds-are laterImage later later-length later-cell strongerCalls stronger formed-stronger e (stronger-bounds e)
 
 image-passes : S.cellRefusal (cellAt image) ≡ 0
 image-passes = rw image-cell start-passes
@@ -165,13 +165,13 @@ later-image-passes = rw later-cell later-passes
 image-twins : Twins (cellAt image) (cellAt laterImage)
 image-twins = rw (image-cell, later-cell) twins
 
--- ---- THEOREM 2 for the words of the last image, K = 3
+-- ---- THEOREM 2 for the words of the last image, K = 66
 pub image-near : (e : Electrode) (i : ℕ) → i < 11
-    → nodeAt e (imageAfter cellSteps image calls) i -F SD.exactPlace e start discharge i within nat 3 *F mostAt e start /F pow2 49
-image-near e i l = rw (image-cell, formed-calls, calls-counted) at (cell-images-near e image calls image-length image-passes (calls-conditions e) i (rw image-cell l))
+    → nodeAt e (imageAfter cellSteps image calls) i -F SD.exactPlace e start discharge i within nat 66 *F mostAt e start /F pow2 49
+image-near e i l = rw (image-cell, formed-calls, calls-counted) at (cell-images-near e image calls image-length image-passes (calls-bounds e) i (rw image-cell l))
 
 -- ---- THEOREM 3 for these calls and the stronger ones
 pub image-ranked : RankedImages image laterImage calls strongerCalls
 image-ranked =
-    cell-images-ranked image laterImage calls strongerCalls image-length later-length image-passes later-image-passes image-twins calls-conditions stronger-calls-conditions
-    (rw (calls-accepted, stronger-accepted) (Both.more (stronger-paired two) (Both.more (stronger-paired one) Both.none)))
+    cell-images-ranked image laterImage calls strongerCalls image-length later-length image-passes later-image-passes image-twins calls-bounds stronger-calls-bounds
+    (rw (calls-accepted, stronger-accepted) (Both.more (stronger-paired minute) (Both.more (stronger-paired one) Both.none)))

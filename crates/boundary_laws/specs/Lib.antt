@@ -8,7 +8,7 @@
 --   MixedLists        `particle-calls-simulate`, `cell-calls-simulate`, `electrolyte-calls-simulate`, `dfn-calls-simulate`: lists that mix builds, steps and runs, those of the cell replays and cycles too
 --   Demand            THEOREM 1 `particle-images-near`, THEOREM 2 `cell-images-near`, THEOREM 3 `cell-images-ranked`, for the words of the last image
 --   MixedDemand       theorem 2 of lists that mix builds, steps, runs, replays and cycles, `mixed-images-near`, from the cell of the last accepted build
---   Instance          the cell of `pj_build` 8 and four calls of `pj_cell_step`, two refused and one with a short answer: `image-near`, `image-ranked`
+--   Instance          the cell of `pj_build` 8 and six calls of `pj_cell_step`, three refused and one with a short answer: `image-near`, `image-ranked`
 --   ParticleInstance  the particle of `pj_build` 7 and six calls of `pj_particle_step`: `particle-image-near`, K = 3
 --   MixedInstance     two builds, three steps, a run, a replay and a cycle from an image of zeros: `mixed-image-near`
 --

@@ -117,13 +117,13 @@ start-passes (inr (inr r) ∷ qs) z h = start-passes qs (record { start = z .sta
 pub mixed-start-passes : (s : List ℕ) (qs : List (CCall CellCall)) → cellRefusal (cellAt s) ≡ 0 → cellRefusal (sinceBuildIn s qs .start) ≡ 0
 mixed-start-passes s qs h = start-passes (wellFormed cellCalls qs) (record { start = cellAt s; steps = [] }) h
 
--- THEOREM 2. Where the accepted steps since the last build keep the two conditions at e, every node of e in the last image is within K·M / 2 ^ 49 of the exact
+-- THEOREM 2. Where the accepted steps since the last build keep 2·h·∣flux∣ ≤ D·M at e, every node of e in the last image is within K·M / 2 ^ 49 of the exact
 -- one, K their sub-steps.
 pub mixed-images-near : (e : Electrode) (s : List ℕ) (qs : List (CCall CellCall)) → length s ≡ cellBytes → cellRefusal (sinceBuildIn s qs .start) ≡ 0
-    → SD.StepConditionsAt e (sinceBuildIn s qs .start) (sinceBuildIn s qs .steps) → (i : ℕ) → i < sinceBuildIn s qs .start .config .«n_nodes»
+    → SD.FluxBoundAt e (sinceBuildIn s qs .start) (sinceBuildIn s qs .steps) → (i : ℕ) → i < sinceBuildIn s qs .start .config .«n_nodes»
     → nodeAt e (imageAfter cellCalls s qs) i -F SD.exactPlace e (sinceBuildIn s qs .start) (sinceBuildIn s qs .steps) i
     within nat (SD.K (sinceBuildIn s qs .start) (sinceBuildIn s qs .steps)) *F mostAt e (sinceBuildIn s qs .start) /F pow2 49
-mixed-images-near e s qs l h ks i m =
+mixed-images-near e s qs l h bs i m =
     let z = sinceBuildIn s qs in
     rw (← cell-nodes e (imageAfter cellCalls s qs) (cellOf z) (mixed-images-are s qs l) i (node-below (z .start) h i m))
-    (SD.solver-near e (z .start) (z .steps) h ks i (rw (nodes-are (z .start) h e) m))
+    (SD.solver-near e (z .start) (z .steps) h bs i (rw (nodes-are (z .start) h e) m))

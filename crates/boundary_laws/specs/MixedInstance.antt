@@ -15,7 +15,7 @@ use Rattle.solver_laws.specs.Demand as SD
 use Rattle.solver_laws.specs.ReplayCalls.{callsOf}
 use Rattle.solver_laws.specs.ReplayLists.{rows-bytes}
 use Rattle.solver_laws.specs.CycleCalls.{madeBy}
-use Rattle.solver_laws.specs.Instance.{start, start-passes, two, three, draw, no-current, too-long, discharge, discharge-counted, discharge-conditions}
+use Rattle.solver_laws.specs.Instance.{start, start-passes, minute, three, draw, no-current, too-long, discharge, discharge-counted, discharge-bounds}
 use Rattle.discharge_run.specs.declared.RunSettings.{RunSettings}
 use Rattle.discharge_run.specs.Discharge.{discharged}
 use Rattle.cycle_run.specs.Cycle.{cycleSettings}
@@ -58,13 +58,13 @@ step q = record { call = inr (inl q); answer = zeros cellStepBytes }
 
 abbrev pub mixedCalls : List (CCall CellCall)
 mixedCalls =
-    record { call = inl graphiteLfp; answer = zeros (cellBytes - 1) } ∷ record { call = inl graphiteLfp; answer = zeros cellBytes } ∷ step no-current ∷ step (draw three two)
+    record { call = inl graphiteLfp; answer = zeros (cellBytes - 1) } ∷ record { call = inl graphiteLfp; answer = zeros cellBytes } ∷ step no-current ∷ step (draw three minute)
     ∷ record { call = inr (inr (inl noRoom)); answer = zeros cellRunBytes } ∷ step too-long ∷ record { call = inr (inr (inr (inl noLines))); answer = zeros cellRunBytes }
     ∷ record { call = inr (inr (inr (inr noKinds))); answer = zeros cellRunBytes } ∷ step (draw three one) ∷ step no-current ∷ []
 
 abbrev mixedFormed : List CellCall
 mixedFormed =
-    inl graphiteLfp ∷ inr (inl no-current) ∷ inr (inl (draw three two)) ∷ inr (inr (inl noRoom)) ∷ inr (inl too-long) ∷ inr (inr (inr (inl noLines)))
+    inl graphiteLfp ∷ inr (inl no-current) ∷ inr (inl (draw three minute)) ∷ inr (inr (inl noRoom)) ∷ inr (inl too-long) ∷ inr (inr (inr (inl noLines)))
     ∷ inr (inr (inr (inr noKinds))) ∷ inr (inl (draw three one)) ∷ inr (inl no-current) ∷ []
 
 -- ---- the premises
@@ -98,9 +98,9 @@ since-build c = rw (build-accepted, no-turns, no-calls, no-phases)
 pub mixed-since : sinceBuildIn (zeros cellBytes) mixedCalls ≡ record { start = start; steps = discharge }
 mixed-since = ap (sinceBuild (record { start = cellAt (zeros cellBytes); steps = [] })) formed-calls ∙ since-build (cellAt (zeros cellBytes)) ∙ ap (λ (c : SpmSolver). record { start = c; steps = discharge }) build-is
 
--- ---- THEOREM 2 for the words of the last image, K = 3
+-- ---- THEOREM 2 for the words of the last image, K = 66
 pub mixed-image-near : (e : Electrode) (i : ℕ) → i < 11
-    → nodeAt e (imageAfter cellCalls (zeros cellBytes) mixedCalls) i -F SD.exactPlace e start discharge i within nat 3 *F mostAt e start /F pow2 49
+    → nodeAt e (imageAfter cellCalls (zeros cellBytes) mixedCalls) i -F SD.exactPlace e start discharge i within nat 66 *F mostAt e start /F pow2 49
 mixed-image-near e i l =
     rw (mixed-since, discharge-counted) at
-    (mixed-images-near e (zeros cellBytes) mixedCalls (zeros-length cellBytes) (rw mixed-since start-passes) (rw mixed-since (discharge-conditions e)) i (rw mixed-since l))
+    (mixed-images-near e (zeros cellBytes) mixedCalls (zeros-length cellBytes) (rw mixed-since start-passes) (rw mixed-since (discharge-bounds e)) i (rw mixed-since l))

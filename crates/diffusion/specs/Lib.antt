@@ -7,13 +7,14 @@
 --
 -- WHAT IS DEFINED
 --   SubStep     the sub-step in binary64, operation by operation as the program has it; the contracts of the particle's and of the solver's step cite it
---   Premises    `StepConditions e`: the demand's two conditions, 6·D·t ≤ h² and 2·h·∣flux∣ ≤ D·M, in exact fractions.  `ParametersInRange v`: 3 to 64 nodes, h and M within 2 ^ ±100, D within 2 ^ ±300,
+--   Premises    `TimeStepBound e`, `FluxBound e`: the demand's two conditions, 6·D·t ≤ h² and 2·h·∣flux∣ ≤ D·M, in exact fractions;  `StepConditions e`: both.  `ParametersInRange v`: 3 to 64 nodes, h and M within 2 ^ ±100, D within 2 ^ ±300,
 --               an interval at least 0, a finite flux.  `ProfileInRange n M c`: each of the first n places of c is finite and from 0 to M
 --   Run         `run` and `exactRun`: a list of sub-steps on one grid, each with its own diffusivity, flux and length.  `Each`, `Both`: what holds place by place of one or two lists
 --   Calls       `Stepper`: a state of any kind, its calls, and the sub-steps that an accepted call makes.  `Lawful`: what a particle or an electrode has to show of its own
 --
 -- WHAT IS PROVED
 --   ExactLaws   `contraction`: one exact sub-step brings two profiles no further apart;  `monotone`: it keeps their order, in the profile and in the flux. Both need 6·g ≤ 1 only
+--   CentreNode  `centre-stays`: with 6·D·t ≤ h² the centre stays on its side of where its neighbour stood;  `centre-passes`: with 6·D·t above h² it goes beyond
 --   Chain       centre-, inner- and surface-near: before the clamp each node is within 14·M / 2 ^ 53, by the roundings counted one by one
 --   ClampValue  the clamp of binary64 is the exact clamp
 --   OneStep     `sub-step-in-range`, `sub-step-near`: one sub-step keeps every node finite and from 0 to M, and within 14·M / 2 ^ 53 of the exact sub-step of the same profile
@@ -36,6 +37,7 @@ pub mod Exact
 pub mod Premises
 pub mod Places
 pub mod ExactLaws
+pub mod CentreNode
 pub mod Chain
 pub mod ClampValue
 pub mod Profile

@@ -16,10 +16,16 @@ use Rattle.binary64.specs.Literals.{«0·0»}
 use Rattle.diffusion.specs.SubStep.{SubStepParams}
 use Rattle.diffusion.specs.Exact.{Numbers, numbers}
 
--- the demand's two conditions, in exact fractions: 6·D·t ≤ h² and 2·h·∣flux∣ ≤ D·M
+-- the demand's two conditions, in exact fractions
+abbrev pub TimeStepBound : Numbers → Type 0
+TimeStepBound e = nat 6 *F e .D *F e .t ≤F e .h *F e .h
+
+abbrev pub FluxBound : Numbers → Type 0
+FluxBound e = nat 2 *F e .h *F ∣ e .flux ∣ ≤F e .D *F e .M
+
 pub record StepConditions (e : Numbers) : Type 0 where
-  pub stable : nat 6 *F e .D *F e .t ≤F e .h *F e .h
-  pub fluxBound : nat 2 *F e .h *F ∣ e .flux ∣ ≤F e .D *F e .M
+  pub stable : TimeStepBound e
+  pub fluxBound : FluxBound e
 
 -- `Size x e f` is 2 ^ -e ≤ x ≤ 2 ^ f; what has a size is finite
 pub record ParametersInRange (v : SubStepParams) : Type 0 where
@@ -67,7 +73,7 @@ pub record Stable (e : Numbers) : Type 0 where
   pub h-pos : nat 0 <F e .h
   pub D-low : nat 0 ≤F e .D
   pub t-low : nat 0 ≤F e .t
-  pub stable : nat 6 *F e .D *F e .t ≤F e .h *F e .h
+  pub stable : TimeStepBound e
 
 pub ready-stable : {v : SubStepParams} → Ready v → Stable (numbers v)
 ready-stable r = record { n-low = r .ranges .n-low; h-pos = size-pos (r .ranges .dr); D-low = le-of-lt (size-pos (r .ranges .d_s)); t-low = r .ranges .dt-low; stable = r .conditions .stable }

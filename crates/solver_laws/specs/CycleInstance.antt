@@ -30,8 +30,8 @@ use Rattle.solver_laws.specs.Demand.{cellAfter, K, exactPlace}
 use Rattle.solver_laws.specs.CycleCalls.{callsOf, madeBy, cycleStep}
 use Rattle.solver_laws.specs.CycleLists.{cycle-refused, cycle-refused-step}
 use Rattle.solver_laws.specs.CycleEnds.{cycle-refused-first}
-use Rattle.solver_laws.specs.CycleDemand.{PhaseConditions, cycle-near}
-use Rattle.solver_laws.specs.Instance.{start, start-passes, start-made, room, room-fits, three, four, one-split, draw-accepted, draw-conditions, currents-fit, small}
+use Rattle.solver_laws.specs.CycleDemand.{PhaseFluxBounds, cycle-near}
+use Rattle.solver_laws.specs.Instance.{start, start-passes, start-made, room, room-fits, three, four, one-split, draw-accepted, draw-bound, currents-fit, small}
 
 -- two phases; the other six places are not looked at
 abbrev pub phases : List Phase
@@ -73,25 +73,25 @@ clock = (tt, tt)
 
 first-accepted : cycleStep phases settings start 0 .refusal ≡ 0
 unfolding madeBy phasesFrom repeated cellAfter
-first-accepted = draw-accepted start start-made three one 1 one-split (currents-fit .0) (clock .1)
+first-accepted = draw-accepted start start-made three one 2 one-split (currents-fit .0) (clock .1)
 
 pub phases-unrefused : cycled phases settings start 32 .ended .ending ≡ byRefusal → ⊥
 phases-unrefused d =
     let z = cycle-refused-first phases settings start 32 phases-pass (clock .0) d .0 in
     cycle-refused phases settings start 32 d (cycle-refused-step phases settings start 32 phases-pass d .number ∙ rw z first-accepted)
 
--- ---- each phase keeps the two conditions
+-- ---- each phase keeps 2·h·∣flux∣ ≤ D·M
 rest-fits : T (loadFits «0·0» «1e6») × T (loadFits «0·0» four)
 unfolding le neg ofBits
 rest-fits = (tt, tt)
 
-pub phases-conditions : (e : Electrode) → PhaseConditions e phases settings start
-phases-conditions e zero m = draw-conditions e three one 1 one-split (current-range three (currents-fit .0)) (small .0)
-phases-conditions e (suc zero) m = draw-conditions e «0·0» one 1 one-split (current-range «0·0» (rest-fits .0)) (rest-fits .1)
-phases-conditions e (suc (suc k)) m = absurd (omega (arith, m))
+pub phases-bounds : (e : Electrode) → PhaseFluxBounds e phases settings start
+phases-bounds e zero m = draw-bound e three one (current-range three (currents-fit .0)) (small .0)
+phases-bounds e (suc zero) m = draw-bound e «0·0» one (current-range «0·0» (rest-fits .0)) (rest-fits .1)
+phases-bounds e (suc (suc k)) m = absurd (omega (arith, m))
 
 -- THEOREM 2 for the cell that the cycle leaves, wherever the discharge ends
 pub phases-near : (e : Electrode) (i : ℕ) → i < 11
     → val (placeOf (particleAt e (cycled phases settings start 32 .solver)) i) -F exactPlace e start (callsOf phases settings start rows) i
     within nat (K start (callsOf phases settings start rows)) *F val (particleAt e start .params .«c_s_max») /F pow2 49
-phases-near e i l = cycle-near e phases settings start 32 start-passes (phases-conditions e) i (rw (nodes-are start start-passes e) l)
+phases-near e i l = cycle-near e phases settings start 32 start-passes (phases-bounds e) i (rw (nodes-are start start-passes e) l)

@@ -5,17 +5,18 @@ use mathlib.Core.Bool.{cond}
 use mathlib.Core.List.{List, [], _∷_, map}
 use borrow.Author.Tests.{eq-eqb, ne-eqb}
 use native.Mathlib.Nat.{zero-add}
-use lib.Dec.{T, eqb, eqb·suc-zero}
+use native.Mathlib.Omega.{arith}
+use lib.Dec.{T, eqb, eqb→eq, eqb·suc-zero}
 use lib.Ieee.{Float}
 use lib.ListN.{length, getD, replicate, length-replicate}
 use Rattle.fraction.specs.Fraction.{Fraction, nat, pow2, _-F_, _*F_, _/F_, _within_}
 use Rattle.binary64.specs.Operators.{_⊘_, count}
 use Rattle.binary64.specs.Value.{val}
 use Rattle.diffusion.specs.Exact.{Numbers, numbers}
-use Rattle.diffusion.specs.Premises.{StepConditions, ParametersInRange, ProfileInRange}
+use Rattle.diffusion.specs.Premises.{TimeStepBound, FluxBound, StepConditions, ParametersInRange, ProfileInRange}
 use Rattle.diffusion.specs.Run.{Grid, Move, subStepParams, run, exactRun, Each}
 use Rattle.diffusion.specs.Calls.{Stepper, after, accepted, total, exactAfter, Lawful}
-use Rattle.diffusion.specs.CallLaws.{calls-near, each-with}
+use Rattle.diffusion.specs.CallLaws.{calls-near, each-with, of-accepted}
 use Rattle.diffusion.specs.Copies.{run-times, each-copies}
 use Rattle.particle.specs.Particle.{spacing, placeOf}
 use Rattle.particle_laws.specs.Ranges.{ranged-parameters}
@@ -28,6 +29,7 @@ use Rattle.solver_step.specs.Plans.{subStepsOf}
 use Rattle.solver_step.specs.Moves.{profileAfter}
 use Rattle.solver.specs.Step.{inputRefusal, currentDensity, planOf, advanced, stepped}
 use Rattle.solver_laws.specs.Electrodes.{Electrode, particleAt, diffusivityIn, fluxIn, electrode-passes, count-most, sub-step-ranged}
+use Rattle.solver_laws.specs.Stability.{sub-step-stable}
 use Rattle.solver_laws.specs.Closure.{SameMake, Leads, leads, step-stays, step-refused, step-make, next}
 
 -- ---- what is folded
@@ -92,9 +94,9 @@ numbersAt e s q = record {
   t = val (q .dt ⊘ count (subStepsOf (planFor s q)));
 }
 
--- the accepted calls keep the demand's two conditions at an electrode
-abbrev pub StepConditionsAt : Electrode → SpmSolver → List Call → Type 0
-StepConditionsAt e s qs = Each (λ q. StepConditions (numbersAt e s q)) (taken s qs)
+-- the accepted calls keep 2·h·∣flux∣ ≤ D·M at an electrode
+abbrev pub FluxBoundAt : Electrode → SpmSolver → List Call → Type 0
+FluxBoundAt e s qs = Each (λ q. FluxBound (numbersAt e s q)) (taken s qs)
 
 module _ (e : Electrode) (s : SpmSolver) (qs : List Call) where
   -- node i after the calls
@@ -128,6 +130,18 @@ same-plan s r q m = rw (m .config, m .sheet Electrode.anode, m .sheet Electrode.
 
 pub same-grid : (e : Electrode) (s r : SpmSolver) → SameMake s r → gridAt e r ≡ gridAt e s
 same-grid e s r m = rw (m .sheet e, m .nodes e)
+
+pub same-numbers : (e : Electrode) (s r : SpmSolver) (q : Call) → SameMake s r → numbersAt e r q ≡ numbersAt e s q
+same-numbers e s r q m =
+    ap (λ (p : Plan). numbers (subStepParams (gridAt e r) (moveBy e p (q .dt)))) (same-plan s r q m) ∙ ap (λ (b : Grid). numbers (subStepParams b (moveBy e (planFor s q) (q .dt)))) (same-grid e s r m)
+
+-- EVERY ACCEPTED STEP keeps 6·D·t ≤ h² at each electrode
+pub accepted-stable : (e : Electrode) (s : SpmSolver) (q : Call) → answer s q .refusal ≡ 0 → TimeStepBound (numbersAt e s q)
+accepted-stable e s q = go (answer s q) (leads s (q .current) (q .dt) (q .temp))
+  where
+    go : (a : SpmStepAnswer) → Leads s (q .current) (q .dt) (q .temp) a → a .refusal ≡ 0 → TimeStepBound (numbersAt e s q)
+    go a (Leads.refused k) z = absurd (omega (arith, z))
+    go a (Leads.moved h g f) z = sub-step-stable s (q .current) (q .dt) (q .temp) h g e
 
 -- ---- what is to be shown of an electrode
 module _ (e : Electrode) (s : SpmSolver) where
@@ -190,6 +204,13 @@ module _ (e : Electrode) (s : SpmSolver) where
 
   -- from a cell in the middle of the list too
   module _ (r : SpmSolver) (qs : List Call) (v : Inv s r) where
+    -- with the bound on the flux the accepted calls keep both conditions
+    pub conditions-hold : Each (λ q. FluxBound (numbersAt e s q)) (taken r qs) → Each (λ q. StepConditions (numbersAt e s q)) (taken r qs)
+    conditions-hold =
+        each-with (λ q a b. record { stable = a; fluxBound = b })
+        (rw (← taken-is qs r) (of-accepted (steps e s) lawful (λ q. TimeStepBound (numbersAt e s q))
+        (λ r q v t. subst TimeStepBound (same-numbers e s r q (v .make)) (accepted-stable e r q (eqb→eq (answer r q .refusal) 0 t))) qs r v))
+
     pub keeps : Each (λ q. StepConditions (numbersAt e s q)) (taken r qs) → Each (λ q. Each (λ m. StepConditions (numbers (subStepParams (gridAt e s) m))) (movesBy e (planFor s q) (q .dt))) (accepted (steps e s) r qs)
     keeps ks = rw (taken-is qs r) (each-with (λ q k k'. each-copies (λ m. StepConditions (numbers (subStepParams (gridAt e s) m))) (moveBy e (planFor s q) (q .dt)) (subStepsOf (planFor s q)) k) ks ks)
 
@@ -200,13 +221,13 @@ module _ (e : Electrode) (s : SpmSolver) where
         → place e r qs i -F getD (exactAfter (steps e s) r qs (map val (particleAt e r .«c_s»))) i (nat 0) within nat (K r qs) *F val (particleAt e s .params .«c_s_max») /F pow2 49
     near-from ks i l = rw (← after-is qs r, ← total-is qs r v) (calls-near (steps e s) lawful r qs v in-range (keeps ks) i l)
 
--- THEOREM 2. The cell passes the checks; at the electrode e every accepted call keeps 6·D·t ≤ h² and 2·h·∣flux∣ ≤ D·M (`StepConditions`). Then every node of e is within K·M / 2 ^ 49 of
--- the exact one. Nothing is asked of the other electrode.
-pub solver-near : (e : Electrode) (s : SpmSolver) (qs : List Call) → cellRefusal s ≡ 0 → StepConditionsAt e s qs
+-- THEOREM 2. The cell passes the checks; at the electrode e every accepted call keeps 2·h·∣flux∣ ≤ D·M. Then every node of e is within K·M / 2 ^ 49 of the exact one. Nothing is asked of
+-- the other electrode, nor of the length of the sub-steps.
+pub solver-near : (e : Electrode) (s : SpmSolver) (qs : List Call) → cellRefusal s ≡ 0 → FluxBoundAt e s qs
     → (i : ℕ) → i < particleAt e s .«n_nodes» → place e s qs i -F exactPlace e s qs i within nat (K s qs) *F val (particleAt e s .params .«c_s_max») /F pow2 49
-solver-near e s qs h ks i l = near-from e s s qs (itself s h) ks i l
+solver-near e s qs h bs i l = let v = itself s h in near-from e s s qs v (conditions-hold e s s qs v bs) i l
 
--- AFTER ANY LIST OF CALLS, whether they keep the conditions or not, the cell passes the checks: its nodes are finite and from 0 to M
+-- AFTER ANY LIST OF CALLS, whether they keep that bound or not, the cell passes the checks: its nodes are finite and from 0 to M
 pub after-passes : (qs : List Call) (s : SpmSolver) → cellRefusal s ≡ 0 → cellRefusal (cellAfter s qs) ≡ 0
 unfolding cellAfter
 after-passes [] s h = h

@@ -7,10 +7,11 @@ use native.Mathlib.Omega.{arith}
 use borrow.Author.Tests.{ltb-false}
 use lib.Dec.{T, leb, eqb, eqb→eq, lit≤, ltb, le→leb}
 use lib.Ieee.{Float, nan, inf, fin, le, lt, neg, ofBits, up, down}
-use lib.Ieee.Bits.{is-true}
+use lib.Ieee.Bits.{is-true, is-false}
 use lib.Ieee.Fits.{and-l, and-r, and-i, down-pos}
 use lib.Ieee.Positive.{num, den}
 use Rattle.fraction.specs.Fraction.{nat, _≤F_, _<F_}
+use Rattle.fraction.specs.Field.{≈F-sym, ≤F-of-≈F, ≤F-trans, lt-from}
 use Rattle.fraction.specs.Size.{size-pos}
 use Rattle.binary64.specs.Operators.{_⊘_, count, negative}
 use Rattle.binary64.specs.Range.{Within, Most, Sized, sized, most-wider, neg-most}
@@ -19,13 +20,14 @@ use Rattle.binary64.specs.RangeOps.{mul-between, div-between, div-most, div-cou
 use Rattle.binary64.specs.Bounds.{within-scaled}
 use Rattle.binary64.specs.Order.{neg-le}
 use Rattle.binary64.specs.OrderLaws.{div-le}
-use Rattle.binary64.specs.Value.{val, val-is, ratio-nn, le-val}
+use Rattle.binary64.specs.Value.{val, val-is, ratio-nn, le-val, lt-val}
 use Rattle.binary64.specs.Literals.{«0·0», «1·0», «3·0», «4096·0», «86400·0», «1e6»}
 use Rattle.min_max.specs.Count.{ceilOf}
 use Rattle.min_max.proofs.CountLaws.{ceil-least}
 use Rattle.refusal.specs.Numbers.{firstRefusal, refusalUnless, grid, load, interval, temperature, subSteps, neither-refused, passed}
 use Rattle.refusal.specs.Ranges.{loadFits, intervalFits, temperatureFits, clockFits}
 use Rattle.refusal.specs.RangeLaws.{row-at}
+use Rattle.diffusion.specs.Premises.{zero-fine, zero-val}
 use Rattle.electrode.specs.declared.ElectrodeParams.{ElectrodeParams}
 use Rattle.electrode.specs.Sheet.{sheetFits, specificArea}
 use Rattle.particle.specs.declared.ParticleDiffusion.{ParticleDiffusion}
@@ -192,14 +194,10 @@ most-above : {x : Float} {A C : ℕ} → Most x false A C → nat 0 ≤F val x
 most-above {x} h = rw (val-is x (h .fine), h .sign) (ratio-nn (num x) (den x) _)
 
 -- ---- at most 4,096 sub-steps
-is-false : (b : Bool) → T (not b) → b ≡ false
-is-false true h = absurd h
-is-false false h = refl
-
 whole-part : (x d : ℕ) → x * 1 ≤ 4096 * d → x ≤ 4096 * d
 whole-part x d h = omega arith
 
-count-below : (q : Float) → T (not (lt «4096·0» q)) → ceilOf q ≤ 4096
+pub count-below : (q : Float) → T (not (lt «4096·0» q)) → ceilOf q ≤ 4096
 unfolding lt ofBits ceilOf
 count-below nan h = lit≤ tt
 count-below (inf true) h = lit≤ tt
@@ -209,9 +207,12 @@ count-below (fin false m e) h =
     let l = ceil-least (m * up e) (down e) 4096 (down-pos e) (whole-part (m * up e) (down e) (ltb-false (4096 * down e) (m * up e * 1) (is-false (ltb (4096 * down e) (m * up e * 1)) h))) in
     omega arith
 
-pub count-most : (p : Plan) → planRefusal p ≡ 0 → subStepsOf p ≤ 4096
+pub quotient-most : (p : Plan) → planRefusal p ≡ 0 → T (not (lt «4096·0» (p .q)))
 unfolding planRefusal
-count-most p h = count-below (p .q) (passed (not (lt «4096·0» (p .q))) subSteps (zero-lt-suc 6) (neither-refused _ _ h .1))
+quotient-most p h = passed (not (lt «4096·0» (p .q))) subSteps (zero-lt-suc 6) (neither-refused _ _ h .1)
+
+pub count-most : (p : Plan) → planRefusal p ≡ 0 → subStepsOf p ≤ 4096
+count-most p h = count-below (p .q) (quotient-most p h)
 
 module _ (s : SpmSolver) (i dt t : Float) (h : inputRefusal s i dt t ≡ 0) where
   pub cell-passed : cellRefusal s ≡ 0
@@ -234,12 +235,18 @@ module _ (s : SpmSolver) (i dt t : Float) (h : inputRefusal s i dt t ≡ 0) wher
   pub interval-size : Sized dt (2 ^ 17) 1 × (nat 0 ≤F val dt)
   interval-size = interval-range dt interval-fits
 
+  -- and above 0
+  pub interval-above : nat 0 <F val dt
+  interval-above =
+      let l = lt-val «0·0» dt zero-fine (interval-size .0 .fine) (and-l (lt «0·0» dt) (le dt «86400·0») interval-fits) in
+      lt-from l (λ (b : val dt ≤F nat 0). ≤F-trans b (≤F-of-≈F (≈F-sym zero-val)))
+
   part-range : (k : ℕ) → suc k ≤ 4096 → Most (dt ⊘ count (suc k)) false (2 ^ 17) 1
   part-range k l =
       let m : Most dt false (2 ^ 17) 1 = rw (not-below dt (and-l (lt «0·0» dt) (le dt «86400·0») interval-fits)) at (interval-size .0) in
       div-count m (suc k) 1 (2 ^ 17) 1 (omega arith) (le-trans l (lit≤ tt)) tt tt tt
 
-  diffusivity-in : (e : Electrode) → Within (diffusivityIn e (planOf s i dt t)) (2 ^ 19) 1 1 (2 ^ 113)
+  pub diffusivity-in : (e : Electrode) → Within (diffusivityIn e (planOf s i dt t)) (2 ^ 19) 1 1 (2 ^ 113)
   unfolding planOf
   diffusivity-in Electrode.anode = diffusivity-range (s .anode .params) t (sheet-at s cell-passed Electrode.anode) temperature-fits
   diffusivity-in Electrode.cathode = diffusivity-range (s .cathode .params) t (sheet-at s cell-passed Electrode.cathode) temperature-fits

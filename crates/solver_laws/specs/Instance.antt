@@ -1,7 +1,7 @@
--- A worked instance of theorems 2 and 3: the ready cell of graphite and lithium iron phosphate, 11 nodes, 298.15 K. A call of 2 s, which has two sub-steps, and one of 1 s on the
--- cell that it leaves, at 3 A and at 4 A, with refused calls before, between and after them; and a second cell of another clock. Computed. Assumes nothing.
+-- A worked instance of theorems 2 and 3: the ready cell of graphite and lithium iron phosphate, 11 nodes, 298.15 K. A call of 60 s, which has 64 sub-steps, and one of 1 s, which has two, on
+-- the cell that it leaves, at 3 A and at 4 A, with refused calls before, between and after them; and a second cell of another clock. Computed. Assumes nothing.
 use Prim.Native.Nat.{ℕ, _+_, _^_, _<_}
-use mathlib.Core.Path.{_≡_, refl, ap, _∙_, subst}
+use mathlib.Core.Path.{_≡_, refl, sym, ap, _∙_, subst}
 use mathlib.Core.Bool.{_&&_}
 use mathlib.Core.List.{List, [], _∷_, _++_}
 use native.Mathlib.Omega.{arith}
@@ -18,14 +18,14 @@ use Rattle.fraction.specs.Certificate.{quote, le-by, up, num, _⊞_, _⊠_}
 use Rattle.binary64.specs.Operators.{_⊕_, _⊖_, _⊗_, _⊘_, f64, count}
 use Rattle.binary64.specs.Range.{Sized}
 use Rattle.binary64.specs.Value.{val}
-use Rattle.binary64.specs.Literals.{«0·0», «1e-14», «3·9e-14», «0·0002», «2·0», «2·5», «3·0», «4·0», «4·2», «8·314», «298·15», «3600·0», «20000·0», «35000·0», «86400·0», «96485·0», «1e6»}
+use Rattle.binary64.specs.Literals.{«0·0», «1e-14», «3·9e-14», «0·0002», «2·5», «3·0», «4·0», «4·2», «8·314», «298·15», «3600·0», «20000·0», «35000·0», «86400·0», «96485·0», «1e6»}
 use Rattle.elementary.specs.Exp.{one, expOf}
 use Rattle.elementary.proofs.ExpLaws.{exp-0}
 use Rattle.min_max.specs.Count.{ceilOf}
 use Rattle.refusal.specs.Numbers.{firstRefusal, refusalUnless}
 use Rattle.refusal.specs.Ranges.{loadFits, intervalFits, temperatureFits, clockFits}
 use Rattle.electrode.specs.Sheet.{graphiteAnode, lfpCathode, specificArea, diffusivityAt}
-use Rattle.diffusion.specs.Premises.{StepConditions}
+use Rattle.diffusion.specs.Premises.{FluxBound}
 use Rattle.diffusion.specs.Run.{Each, Both}
 use Rattle.particle.specs.Checks.{fieldsFit}
 use Rattle.particle.specs.Particle.{spacing, stableStep}
@@ -41,8 +41,8 @@ use Rattle.solver_laws.specs.Electrodes.{Electrode, particleAt, diffusiv
 use Rattle.solver_laws.specs.Closure.{step-count, step-clock}
 use Rattle.solver_laws.specs.Build.{cell-passes, build-passes}
 use Rattle.solver_laws.specs.Acceptance.{step-accepted}
-use Rattle.solver_laws.specs.Demand.{Call, answer, taken, K, planFor, numbersAt, StepConditionsAt, place, exactPlace, Inv, itself, stays, same-plan, solver-near, at-accepted, at-refused}
-use Rattle.solver_laws.specs.Ranking.{Paired, Twins, Ranked, same-numbers, solver-ranking}
+use Rattle.solver_laws.specs.Demand.{Call, answer, taken, K, planFor, numbersAt, FluxBoundAt, place, exactPlace, Inv, itself, stays, same-plan, same-numbers, solver-near, at-accepted, at-refused}
+use Rattle.solver_laws.specs.Ranking.{Paired, Twins, Ranked, solver-ranking}
 
 -- ---- two cells
 -- the config's defaults
@@ -71,9 +71,9 @@ later = cellAt «3600·0»
 abbrev pub room : Float
 room = «298·15»
 
--- 2 s, and a day
-abbrev pub two : Float
-two = «2·0»
+-- a minute, and a day
+abbrev pub minute : Float
+minute = f64 0x404e_0000_0000_0000
 
 abbrev day : Float
 day = «86400·0»
@@ -91,16 +91,16 @@ draw i dt = record { current = i; dt = dt; temp = room }
 abbrev pub no-current : Call
 no-current = draw nan one
 
--- refused with 7: a day at once has 61,440 sub-steps
+-- refused with 7: a day at once has 92,160 sub-steps
 abbrev pub too-long : Call
 too-long = draw three day
 
 -- at 3 A, and at 4 A
 abbrev pub discharge : List Call
-discharge = no-current ∷ draw three two ∷ too-long ∷ draw three one ∷ no-current ∷ []
+discharge = no-current ∷ draw three minute ∷ too-long ∷ draw three one ∷ no-current ∷ []
 
 abbrev pub stronger : List Call
-stronger = draw four two ∷ no-current ∷ too-long ∷ draw four one ∷ []
+stronger = draw four minute ∷ no-current ∷ too-long ∷ draw four one ∷ []
 
 -- ---- the cells pass the checks
 pub start-is : (ready config lfpCathode .refusal ≡ 0) × (ready config lfpCathode .solver ≡ start)
@@ -135,10 +135,10 @@ pub twins : Twins start later
 twins = record { config = refl; sheet = λ e. later-made .make .sheet e; nodes = λ e i l. rw (same-particle e) ≈F-refl }
 
 -- ---- the diffusivities: at the reference temperature the exponent is 0, and E(0) = 1
-abbrev dNeg : Float
+abbrev pub dNeg : Float
 dNeg = «3·9e-14»
 
-abbrev dPos : Float
+abbrev pub dPos : Float
 dPos = «1e-14»
 
 abbrev exponent : Float → Float
@@ -152,11 +152,11 @@ times-one : (dNeg ⊗ one ≡ dNeg) × (dPos ⊗ one ≡ dPos)
 unfolding mul ofBits
 times-one = (refl, refl)
 
-anode-diffusivity : diffusivityAt graphiteAnode room ≡ dNeg
+pub anode-diffusivity : diffusivityAt graphiteAnode room ≡ dNeg
 unfolding diffusivityAt graphiteAnode
 anode-diffusivity = ap (λ (x : Float). dNeg ⊗ expOf x) (exponents .0) ∙ ap (λ (x : Float). dNeg ⊗ x) exp-0 ∙ times-one .0
 
-cathode-diffusivity : diffusivityAt lfpCathode room ≡ dPos
+pub cathode-diffusivity : diffusivityAt lfpCathode room ≡ dPos
 unfolding diffusivityAt lfpCathode
 cathode-diffusivity = ap (λ (x : Float). dPos ⊗ expOf x) (exponents .1) ∙ ap (λ (x : Float). dPos ⊗ x) exp-0 ∙ times-one .1
 
@@ -177,32 +177,31 @@ plan-is : (i dt q : Float) → quotient dt ≡ q → planFor start (draw i dt) �
 unfolding planOf fresh
 plan-is i dt q e = rw (anode-diffusivity, cathode-diffusivity, e)
 
--- an interval of k sub-steps of 1 s
+-- an interval of k sub-steps
 pub record Split (dt : Float) (k : ℕ) : Type 0 where
   q : Float
   quotient-is : quotient dt ≡ q
   passes : (i : Float) → planRefusal (planBy i dt q) ≡ 0
   count-is : ceilOf q ≡ k
-  part : dt ⊘ count k ≡ one
   fits : T (intervalFits dt)
 
-pub one-split : Split one 1
+pub one-split : Split one 2
 unfolding fresh spacing stableStep planRefusal firstRefusal refusalUnless graphiteAnode lfpCathode ceilOf isNan le lt mul div round size ofInt ofBits
-one-split = record { q = one; quotient-is = refl; passes = λ i. refl; count-is = refl; part = refl; fits = tt }
+one-split = record { q = f64 0x3ff1_1111_1111_110f; quotient-is = refl; passes = λ i. refl; count-is = refl; fits = tt }
 
-pub two-split : Split two 2
+pub minute-split : Split minute 64
 unfolding fresh spacing stableStep planRefusal firstRefusal refusalUnless graphiteAnode lfpCathode ceilOf isNan le lt mul div round size ofInt ofBits
-two-split = record { q = f64 0x3ff6_c16c_16c1_6c14; quotient-is = refl; passes = λ i. refl; count-is = refl; part = refl; fits = tt }
+minute-split = record { q = f64 0x404f_ffff_ffff_fffd; quotient-is = refl; passes = λ i. refl; count-is = refl; fits = tt }
 
 -- the day's
 abbrev dayQuotient : Float
-dayQuotient = f64 0x40ed_ffff_ffff_fffc
+dayQuotient = f64 0x40f6_7fff_ffff_fffe
 
 day-split : (quotient day ≡ dayQuotient) × (((i : Float) → planRefusal (planBy i day dayQuotient) ≡ 7) × T (intervalFits day))
 unfolding fresh spacing stableStep planRefusal firstRefusal refusalUnless graphiteAnode lfpCathode isNan le lt mul div round size ofInt ofBits
 day-split = (refl, (λ i. refl, tt))
 
--- ---- a current of at most 4 A keeps the two conditions: the fluxes are least and greatest at -4 A and 4 A
+-- ---- a current of at most 4 A keeps 2·h·∣flux∣ ≤ D·M: the fluxes are least and greatest at -4 A and 4 A
 abbrev fluxMost : Electrode → Float
 fluxMost Electrode.anode = f64 0x3f08_1cac_346c_4365
 fluxMost Electrode.cathode = f64 0x3eec_ef35_0bb5_1da9
@@ -238,7 +237,7 @@ flux-within Electrode.cathode i dt m h =
     let b = cathode-flux start start-passes (neg four) i dt dt room room (four-sized .1) m (and-l (le (neg four) i) (le i four) h) in
     record { lo = ≤F-trans (neg-most Electrode.cathode) (rw (f .cathode-low) at b); hi = rw (f .cathode-high) at a }
 
--- at the anode 6·D·t is 2.3e-13, h² 1.6e-12, 2·h·∣flux∣ at most 1.2e-10, D·M 1.2e-9; at the cathode 6e-14, 6.25e-14, 6.9e-12 and 2.3e-10
+-- at the anode 2·h·∣flux∣ is at most 1.2e-10 and D·M 1.2e-9; at the cathode 6.9e-12 and 2.3e-10
 abbrev diffusivityOf : Electrode → Float
 diffusivityOf Electrode.anode = dNeg
 diffusivityOf Electrode.cathode = dPos
@@ -246,33 +245,31 @@ diffusivityOf Electrode.cathode = dPos
 abbrev spacingAt : Electrode → Float
 spacingAt e = spacing (particleAt e start .params) (particleAt e start .«n_nodes»)
 
-record Conditions (e : Electrode) : Type 0 where
+record MostFlux (e : Electrode) : Type 0 where
   spaced : nat 0 ≤F val (spacingAt e)
-  stable : nat 6 *F val (diffusivityOf e) *F val one ≤F val (spacingAt e) *F val (spacingAt e)
-  flux : nat 2 *F val (spacingAt e) *F val (fluxMost e) ≤F val (diffusivityOf e) *F val (particleAt e start .params .«c_s_max»)
+  bound : nat 2 *F val (spacingAt e) *F val (fluxMost e) ≤F val (diffusivityOf e) *F val (particleAt e start .params .«c_s_max»)
 
-conditions : (e : Electrode) → Conditions e
+most-flux : (e : Electrode) → MostFlux e
 unfolding fresh spacing graphiteAnode lfpCathode val whole _*F_ div round size ofInt ofBits
-conditions Electrode.anode = record { spaced = lit≤F tt; stable = lit≤F tt; flux = lit≤F tt }
-conditions Electrode.cathode = record { spaced = lit≤F tt; stable = lit≤F tt; flux = lit≤F tt }
+most-flux Electrode.anode = record { spaced = lit≤F tt; bound = lit≤F tt }
+most-flux Electrode.cathode = record { spaced = lit≤F tt; bound = lit≤F tt }
 
 diffusivity-is : (e : Electrode) (i dt q : Float) → diffusivityIn e (planBy i dt q) ≡ diffusivityOf e
 diffusivity-is Electrode.anode i dt q = refl
 diffusivity-is Electrode.cathode i dt q = refl
 
-pub draw-conditions : (e : Electrode) (i dt : Float) (k : ℕ) → Split dt k → Sized i (2 ^ 20) 1 → T (loadFits i four) → StepConditions (numbersAt e start (draw i dt))
-draw-conditions e i dt k c m h =
-    let plan = plan-is i dt (c .q) (c .quotient-is) in
-    let D : diffusivityIn e (planFor start (draw i dt)) ≡ diffusivityOf e = ap (diffusivityIn e) plan ∙ diffusivity-is e i dt (c .q) in
-    let t : dt ⊘ count (subStepsOf (planFor start (draw i dt))) ≡ one = ap (λ (p : Plan). dt ⊘ count (subStepsOf p)) plan ∙ ap (λ (n : ℕ). dt ⊘ count n) (c .count-is) ∙ c .part in
+pub draw-bound : (e : Electrode) (i dt : Float) → Sized i (2 ^ 20) 1 → T (loadFits i four) → FluxBound (numbersAt e start (draw i dt))
+draw-bound e i dt m h =
+    let q = quotient dt in
+    let D : diffusivityIn e (planFor start (draw i dt)) ≡ diffusivityOf e = ap (diffusivityIn e) (plan-is i dt q refl) ∙ diffusivity-is e i dt q in
     let f = abs-of-within (flux-within e i dt m h) in
-    let s = conditions e in
+    let s = most-flux e in
     let w = val (spacingAt e) in
     let j = ∣ val (fluxIn e (planFor start (draw i dt))) ∣ in
     let d = val (diffusivityOf e) in
     let M = val (particleAt e start .params .«c_s_max») in
-    let g : nat 2 *F w *F j ≤F d *F M = le-by (w ∷ j ∷ d ∷ M ∷ val (fluxMost e) ∷ []) 0 (num 2 ⊠ s .spaced ⊠ up f ⊞ up (s .flux)) (search quote depth 24) tt in
-    record { stable = rw (D, t) (s .stable); fluxBound = rw D g }
+    let g : nat 2 *F w *F j ≤F d *F M = le-by (w ∷ j ∷ d ∷ M ∷ val (fluxMost e) ∷ []) 0 (num 2 ⊠ s .spaced ⊠ up f ⊞ up (s .bound)) (search quote depth 24) tt in
+    rw D g
 
 -- ---- a cell of that make, in the middle of a list
 pub room-fits : T (temperatureFits room)
@@ -343,13 +340,13 @@ nothing-counted : (s : SpmSolver) → K s [] ≡ 0
 unfolding K
 nothing-counted s = refl
 
--- ---- 2 s and then 1 s from a cell r: both accepted, three sub-steps
+-- ---- 60 s and then 1 s from a cell r: both accepted, 66 sub-steps
 record Drawn (i : Float) (r : SpmSolver) (qs : List Call) : Type 0 where
-  calls : taken r qs ≡ draw i two ∷ draw i one ∷ []
-  count : K r qs ≡ 3
+  calls : taken r qs ≡ draw i minute ∷ draw i one ∷ []
+  count : K r qs ≡ 66
 
 -- with refused calls anywhere
-module _ (i : Float) (h : T (loadFits i «1e6»)) (r : SpmSolver) (v : Inv start r) (f : T (finite (r .«time_s» ⊕ two))) (g : T (finite (r .«time_s» ⊕ two ⊕ one)))
+module _ (i : Float) (h : T (loadFits i «1e6»)) (r : SpmSolver) (v : Inv start r) (f : T (finite (r .«time_s» ⊕ minute))) (g : T (finite (r .«time_s» ⊕ minute ⊕ one)))
     {before between after : List Call} (a : Each Refuses before) (b : Each Refuses between) (c : Each Refuses after) where
   abbrev last : List Call
   last = after ++ []
@@ -358,50 +355,50 @@ module _ (i : Float) (h : T (loadFits i «1e6»)) (r : SpmSolver) (v : Inv start
   rest = between ++ draw i one ∷ last
 
   abbrev then : SpmSolver
-  then = answer r (draw i two) .solver
+  then = answer r (draw i minute) .solver
 
   abbrev final : SpmSolver
   final = answer then (draw i one) .solver
 
-  first-accepted : answer r (draw i two) .refusal ≡ 0
-  first-accepted = draw-accepted r v i two 2 two-split h f
+  first-accepted : answer r (draw i minute) .refusal ≡ 0
+  first-accepted = draw-accepted r v i minute 64 minute-split h f
 
   then-made : Inv start then
-  then-made = stays start r (draw i two) v
+  then-made = stays start r (draw i minute) v
 
   then-clock : T (finite (then .«time_s» ⊕ one))
-  then-clock = rw (step-clock r i two room first-accepted) g
+  then-clock = rw (step-clock r i minute room first-accepted) g
 
   second-accepted : answer then (draw i one) .refusal ≡ 0
-  second-accepted = draw-accepted then then-made i one 1 one-split h then-clock
+  second-accepted = draw-accepted then then-made i one 2 one-split h then-clock
 
   final-made : Inv start final
   final-made = stays start then (draw i one) then-made
 
-  drawn : Drawn i r (before ++ draw i two ∷ rest)
+  drawn : Drawn i r (before ++ draw i minute ∷ rest)
   drawn =
-      let x = at-accepted Electrode.anode start r (draw i two) rest [] first-accepted in
+      let x = at-accepted Electrode.anode start r (draw i minute) rest [] first-accepted in
       let y = at-accepted Electrode.anode start then (draw i one) last [] second-accepted in
       record {
         calls =
-            skip-taken a r v (draw i two ∷ rest) ∙ x .calls
-            ∙ ap (λ (l : List Call). draw i two ∷ l) (skip-taken b then then-made (draw i one ∷ last) ∙ y .calls
+            skip-taken a r v (draw i minute ∷ rest) ∙ x .calls
+            ∙ ap (λ (l : List Call). draw i minute ∷ l) (skip-taken b then then-made (draw i one ∷ last) ∙ y .calls
             ∙ ap (λ (l : List Call). draw i one ∷ l) (skip-taken c final final-made [] ∙ nothing-taken final));
         count =
-            skip-count a r v (draw i two ∷ rest) ∙ x .count ∙ ap (λ (k : ℕ). k + K then rest) (draw-count r v i two 2 two-split h f)
-            ∙ ap (λ (k : ℕ). 2 + k) (skip-count b then then-made (draw i one ∷ last) ∙ y .count
-            ∙ ap (λ (k : ℕ). k + K final last) (draw-count then then-made i one 1 one-split h then-clock)
-            ∙ ap (λ (k : ℕ). 1 + k) (skip-count c final final-made [] ∙ nothing-counted final));
+            skip-count a r v (draw i minute ∷ rest) ∙ x .count ∙ ap (λ (k : ℕ). k + K then rest) (draw-count r v i minute 64 minute-split h f)
+            ∙ ap (λ (k : ℕ). 64 + k) (skip-count b then then-made (draw i one ∷ last) ∙ y .count
+            ∙ ap (λ (k : ℕ). k + K final last) (draw-count then then-made i one 2 one-split h then-clock)
+            ∙ ap (λ (k : ℕ). 2 + k) (skip-count c final final-made [] ∙ nothing-counted final));
       }
 
--- at most 4 A: the conditions hold
-drawn-conditions : (e : Electrode) (i : Float) (r : SpmSolver) (qs : List Call) → Sized i (2 ^ 20) 1 → T (loadFits i four) → Inv start r → Drawn i r qs → StepConditionsAt e r qs
-drawn-conditions e i r qs m s v d =
-    let k : (dt : Float) (n : ℕ) → Split dt n → StepConditions (numbersAt e r (draw i dt)) = λ dt n c. rw (same-numbers e start r (draw i dt) (v .make)) (draw-conditions e i dt n c m s) in
-    rw (d .calls) (Each.more (k two 2 two-split) (Each.more (k one 1 one-split) Each.none))
+-- at most 4 A: the bound holds
+drawn-bounds : (e : Electrode) (i : Float) (r : SpmSolver) (qs : List Call) → Sized i (2 ^ 20) 1 → T (loadFits i four) → Inv start r → Drawn i r qs → FluxBoundAt e r qs
+drawn-bounds e i r qs m s v d =
+    let b : (dt : Float) → FluxBound (numbersAt e r (draw i dt)) = λ dt. subst FluxBound (sym (same-numbers e start r (draw i dt) (v .make))) (draw-bound e i dt m s) in
+    rw (d .calls) (Each.more (b minute) (Each.more (b one) Each.none))
 
 -- ---- the two lists
-pub clocks : (T (finite (start .«time_s» ⊕ two)) × T (finite (start .«time_s» ⊕ two ⊕ one))) × (T (finite (later .«time_s» ⊕ two)) × T (finite (later .«time_s» ⊕ two ⊕ one)))
+pub clocks : (T (finite (start .«time_s» ⊕ minute)) × T (finite (start .«time_s» ⊕ minute ⊕ one))) × (T (finite (later .«time_s» ⊕ minute)) × T (finite (later .«time_s» ⊕ minute ⊕ one)))
 unfolding add ofBits
 clocks = ((tt, tt), (tt, tt))
 
@@ -417,25 +414,25 @@ stronger-drawn : Drawn four later stronger
 stronger-drawn = drawn four (currents-fit .1) later later-made (clocks .1 .0) (clocks .1 .1) Each.none (Each.more refuses-no-current (Each.more refuses-too-long Each.none)) Each.none
 
 -- which calls are accepted, and how many sub-steps they have
-pub discharge-taken : taken start discharge ≡ draw three two ∷ draw three one ∷ []
+pub discharge-taken : taken start discharge ≡ draw three minute ∷ draw three one ∷ []
 discharge-taken = discharge-drawn .calls
 
-pub discharge-counted : K start discharge ≡ 3
+pub discharge-counted : K start discharge ≡ 66
 discharge-counted = discharge-drawn .count
 
-pub stronger-taken : taken later stronger ≡ draw four two ∷ draw four one ∷ []
+pub stronger-taken : taken later stronger ≡ draw four minute ∷ draw four one ∷ []
 stronger-taken = stronger-drawn .calls
 
-pub discharge-conditions : (e : Electrode) → StepConditionsAt e start discharge
-discharge-conditions e = drawn-conditions e three start discharge (current-range three (currents-fit .0)) (small .0) start-made discharge-drawn
+pub discharge-bounds : (e : Electrode) → FluxBoundAt e start discharge
+discharge-bounds e = drawn-bounds e three start discharge (current-range three (currents-fit .0)) (small .0) start-made discharge-drawn
 
-pub stronger-conditions : (e : Electrode) → StepConditionsAt e later stronger
-stronger-conditions e = drawn-conditions e four later stronger (current-range four (currents-fit .1)) (small .1) later-made stronger-drawn
+pub stronger-bounds : (e : Electrode) → FluxBoundAt e later stronger
+stronger-bounds e = drawn-bounds e four later stronger (current-range four (currents-fit .1)) (small .1) later-made stronger-drawn
 
 -- THEOREM 2: five calls, three refused
 pub discharge-near : (e : Electrode) (i : ℕ) → i < 11
-    → place e start discharge i -F exactPlace e start discharge i within nat 3 *F val (particleAt e start .params .«c_s_max») /F pow2 49
-discharge-near e i l = rw (← discharge-counted) (solver-near e start discharge start-passes (discharge-conditions e) i (rw (nodes-are start start-passes e) l))
+    → place e start discharge i -F exactPlace e start discharge i within nat 66 *F val (particleAt e start .params .«c_s_max») /F pow2 49
+discharge-near e i l = rw (← discharge-counted) (solver-near e start discharge start-passes (discharge-bounds e) i (rw (nodes-are start start-passes e) l))
 
 -- THEOREM 3: two clocks, refused calls at other places of the two lists
 more-current : T (le three four)
@@ -447,5 +444,5 @@ stronger-paired dt = record { dt = refl; temp = refl; current = more-current }
 
 pub discharge-ranked : Ranked start later discharge stronger
 discharge-ranked =
-    solver-ranking start later discharge stronger start-passes later-passes twins discharge-conditions stronger-conditions
-    (rw (discharge-taken, stronger-taken) (Both.more (stronger-paired two) (Both.more (stronger-paired one) Both.none)))
+    solver-ranking start later discharge stronger start-passes later-passes twins discharge-bounds stronger-bounds
+    (rw (discharge-taken, stronger-taken) (Both.more (stronger-paired minute) (Both.more (stronger-paired one) Both.none)))

@@ -2,12 +2,12 @@
 --
 -- WHERE TO START
 --   Demand      THEOREM 2, `solver-near`: a cell that passes the checks, a list of calls of any length, each any three floats, and one of the electrodes; where every accepted call keeps
---               6·D·t ≤ h² and 2·h·∣flux∣ ≤ D·M at that electrode, every node of it is within K·M / 2 ^ 49 of the exact scheme from the same start, K the sub-steps that the answers
---               report. What is folded (`cellAfter`, `taken`, `K`) is `stepped`, the definition that the contract of `step` cites; each sub-step is dt / count long, in binary64.
+--               2·h·∣flux∣ ≤ D·M at that electrode, every node of it is within K·M / 2 ^ 49 of the exact scheme from the same start, K the sub-steps that the answers
+--               report. `accepted-stable`: 6·D·t ≤ h², the demand's other condition, holds of every accepted call. What is folded (`cellAfter`, `taken`, `K`) is `stepped`, the definition that the contract of `step` cites; each sub-step is dt / count long, in binary64.
 --               `after-passes`: after any list of calls the cell passes the checks, so its nodes are finite
---   Ranking     THEOREM 3, `solver-ranking`: two cells of one make with equal profiles (`Twins`), two lists that keep the conditions at both electrodes, their accepted calls paired
+--   Ranking     THEOREM 3, `solver-ranking`: two cells of one make with equal profiles (`Twins`), two lists that keep that bound at both electrodes, their accepted calls paired
 --               (`Paired`): then (`Ranked`) at no place is the second cathode more than 2·K·M / 2 ^ 49 below the first, or the second anode more than that above
---   RunLists    `run-is-list`: the cell that a run leaves is the cell after one call of `step` for each of its rows, all of them accepted (`run-accepted`);  `run-near`: theorem 2 for it
+--   RunLists    `run-is-list`: the cell that a run leaves is the cell after one call of `step` for each of its rows, all of them accepted (`run-accepted`);  `run-near`, `run-ranked`: theorems 2 and 3 for it
 --   ReplayLists `replay-is-list`, `replay-accepted`: the same for a replay, whose calls are the numbers of its lines in order (`ReplayCalls: callsOf`);  `replay-row`: row j is the row of the
 --               solver's own step with line j on the cell that the lines above left, `replay-line`: and that line is of its form and accepted;  `replay-kept`: the places after the last
 --               row are as they were;  `replay-ends`: how it ends, `replay-done`, `replay-all-read`: done exactly where no byte is left and the last row did not cut off
@@ -17,9 +17,9 @@
 --               places after the last row are as they were;  `rows-most`, `cycle-room`: no more rows than the budget, and room for them;  `cycle-ends`: how it ends, `cycle-done`,
 --               `cycle-done-only`: done exactly where no phase is left, `cycle-spent`, `cycle-spent-only`: spent exactly where the budget is made and a phase is left, `cycle-refused`,
 --               `cycle-refused-step`: refused with which number, `cycle-no-row`: a cycle without a row is refused
---   CycleDemand  `cycle-near`, `cycle-ranked`: theorems 2 and 3 for the cells that cycles leave; the two conditions are asked of each phase, wherever the phases end
---   Instance    the ready cell of graphite and lithium iron phosphate, 11 nodes: `discharge-near`, theorem 2 for a call of two sub-steps and one on what it leaves, refused calls before,
---               between and after them, K = 3;  `discharge-ranked`, theorem 3 for that list and one at 4 A with its refused calls elsewhere, from a cell of another clock.
+--   CycleDemand  `cycle-near`, `cycle-ranked`: theorems 2 and 3 for the cells that cycles leave; the bound is asked of each phase, wherever the phases end
+--   Instance    the ready cell of graphite and lithium iron phosphate, 11 nodes: `discharge-near`, theorem 2 for a call of 64 sub-steps and one on what it leaves, refused calls before,
+--               between and after them, K = 66;  `discharge-ranked`, theorem 3 for that list and one at 4 A with its refused calls elsewhere, from a cell of another clock.
 --               Every premise is computed or proved, that the cells accept the calls too
 --   ReplayInstance  that cell and a text of three lines, the third in lower case: `text-near`, theorem 2 for what the replay leaves, with one row or two
 --   CycleInstance  that cell, a discharge and a rest, twice, four steps at most: `phases-unrefused`, the cycle is not refused;  `phases-near`, theorem 2 for what it leaves, wherever the
@@ -36,6 +36,11 @@
 --   LowRates    `step-kept`: a step whose arguments of H are not below 2 ^ -10 in size is the step with H by the logarithm at every argument (`steppedByLog`)
 --   EarlierReference  `step-kept`: a step of a cell whose two sheets carry 298.15 K is the step with both diffusivities from the fixed 298.15 K (`steppedFrom298`)
 --   EarlierOhmicDrop  `step-kept`: a step at a current whose sign is not negative is the step with the ohmic drop times the current's sign (`steppedBySignum`)
+--   EarlierSubSteps  `step-kept`: a step that has as many sub-steps as with 0.45 of the stability limit is the step with 0.45 (`steppedEarlier`);
+--               `count-grows`: a plan that is not refused was not refused with 0.45, and has as many sub-steps or more;  EarlierOvershoot: `centre-overshoots`, with 0.45 a sub-step could take the exact centre
+--               beyond where its neighbour stood
+--   Stability   `sub-step-stable`: 6·D·t ≤ h² at both electrodes for the sub-steps of a step that neither its input nor its plan refuses;  SubStepLength: `part-most`, a part of an interval is
+--               longer than what it was divided by through roundings alone;  DtUse: that divisor, the least of the interval and the electrodes' longest sub-steps
 --   AcceptedLists  lists whose calls are all accepted, and one call more at their end;  ListedDemand: theorems 2 and 3 for them;  ReplayTurns, CycleTurns: where a replay or a cycle stands
 --               after each turn
 --   RunEnds     `run-ends`: a run is refused before its first row or not at all
@@ -45,6 +50,9 @@
 --               `cathode-flux`, `anode-flux`: with the current the flux grows at the cathode and falls at the anode
 --   Ordered     the exact scheme keeps the order of two profiles over two lists of calls
 pub mod Electrodes
+pub mod DtUse
+pub mod SubStepLength
+pub mod Stability
 pub mod Closure
 pub mod Build
 pub mod Acceptance
@@ -53,6 +61,7 @@ pub mod Clock
 pub mod LowRates
 pub mod EarlierReference
 pub mod EarlierOhmicDrop
+pub mod EarlierSubSteps
 pub mod OhmicRise
 pub mod Ordered
 pub mod Ranking
@@ -71,5 +80,6 @@ pub mod CycleDemand
 pub mod RunEnds
 pub mod CycleEnds
 pub mod Instance
+pub mod EarlierOvershoot
 pub mod ReplayInstance
 pub mod CycleInstance

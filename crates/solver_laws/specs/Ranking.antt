@@ -11,25 +11,23 @@ use Rattle.fraction.specs.Certificate.{quote, le-by, up, hi, lo, _⊞_}
 use Rattle.binary64.specs.Operators.{_⊘_, count}
 use Rattle.binary64.specs.Range.{Sized}
 use Rattle.binary64.specs.Value.{val}
-use Rattle.diffusion.specs.Exact.{numbers}
-use Rattle.diffusion.specs.Premises.{StepConditions, ParametersInRange}
+use Rattle.diffusion.specs.Premises.{FluxBound, StepConditions, ParametersInRange}
 use Rattle.diffusion.specs.Profile.{values-at}
-use Rattle.diffusion.specs.Run.{Grid, subStepParams, Each, Both, AllReady, Stronger}
+use Rattle.diffusion.specs.Run.{subStepParams, Each, Both, AllReady, Stronger}
 use Rattle.diffusion.specs.RunLaws.{share, bound}
 use Rattle.diffusion.specs.Calls.{accepted, exactAfter}
 use Rattle.diffusion.specs.CallLaws.{each-with, both-flip, of-accepted, calls-total}
 use Rattle.particle.specs.Particle.{placeOf}
 use Rattle.solver.specs.declared.SpmSolver.{SpmSolver}
 use Rattle.solver.specs.declared.SpmStepAnswer.{SpmStepAnswer}
-use Rattle.solver_step.specs.declared.plan.Plan.{Plan}
 use Rattle.solver.specs.Cell.{cellRefusal}
 use Rattle.solver_step.specs.Plans.{subStepsOf}
 use Rattle.solver.specs.Step.{planOf}
 use Rattle.solver_laws.specs.Electrodes.{Electrode, particleAt, diffusivityIn, nodes-are, current-fits, cathode-flux, anode-flux}
-use Rattle.solver_laws.specs.Closure.{SameMake, Leads, leads}
+use Rattle.solver_laws.specs.Closure.{Leads, leads}
 use Rattle.diffusion.specs.Ordered.{Ordered}
 use Rattle.solver_laws.specs.Ordered.{ordered-calls, both-with, both-copied}
-use Rattle.solver_laws.specs.Demand.{Call, answer, taken, K, planFor, moveBy, movesBy, gridAt, steps, numbersAt, StepConditionsAt, place, Inv, itself, same-plan, same-grid, lawful, taken-is, total-is, keeps, in-range, near-from}
+use Rattle.solver_laws.specs.Demand.{Call, answer, taken, K, planFor, moveBy, movesBy, gridAt, steps, numbersAt, FluxBoundAt, place, Inv, itself, same-numbers, lawful, taken-is, total-is, conditions-hold, keeps, in-range, near-from}
 
 -- two accepted calls: alike in interval and temperature, the second's current no less
 pub record Paired (q q' : Call) : Type 0 where
@@ -124,37 +122,35 @@ pub record Twins (s s' : SpmSolver) : Type 0 where
 twins-make : (s s' : SpmSolver) → cellRefusal s ≡ 0 → cellRefusal s' ≡ 0 → Twins s s' → Inv s s'
 twins-make s s' h h' w = record { passes = h'; make = record { config = w .config; sheet = w .sheet; nodes = λ e. nodes-are s' h' e ∙ ap (λ c. c .«n_nodes») (w .config) ∙ sym (nodes-are s h e) } }
 
-pub same-numbers : (e : Electrode) (s r : SpmSolver) (q : Call) → SameMake s r → numbersAt e r q ≡ numbersAt e s q
-same-numbers e s r q m =
-    ap (λ (p : Plan). numbers (subStepParams (gridAt e r) (moveBy e p (q .dt)))) (same-plan s r q m) ∙ ap (λ (b : Grid). numbers (subStepParams b (moveBy e (planFor s q) (q .dt)))) (same-grid e s r m)
-
 -- what ranks: at no place of the cathode is the second list's value more than 2·K·M / 2 ^ 49 below, and at no place of the anode more than that above
 pub record Ranked (s s' : SpmSolver) (qs qs' : List Call) : Type 0 where
   pub count : K s' qs' ≡ K s qs
   pub cathode : (i : ℕ) → i < s .config .«n_nodes» → place Electrode.cathode s qs i -F nat 2 *F nat (K s qs) *F val (s .cathode .params .«c_s_max») /F pow2 49 ≤F place Electrode.cathode s' qs' i
   pub anode : (i : ℕ) → i < s .config .«n_nodes» → place Electrode.anode s' qs' i ≤F place Electrode.anode s qs i +F nat 2 *F nat (K s qs) *F val (s .anode .params .«c_s_max») /F pow2 49
 
--- THEOREM 3. Two cells of one make with equal profiles pass the checks; each list keeps the two conditions at both electrodes; the accepted calls, in order, are equally many and
+-- THEOREM 3. Two cells of one make with equal profiles pass the checks; the accepted calls of each list keep 2·h·∣flux∣ ≤ D·M at both electrodes; the accepted calls, in order, are equally many and
 -- paired: alike in interval and temperature, the second's current no less. Refused calls may stand anywhere in either list.
 pub solver-ranking : (s s' : SpmSolver) (qs qs' : List Call) → cellRefusal s ≡ 0 → cellRefusal s' ≡ 0 → Twins s s'
-    → ((e : Electrode) → StepConditionsAt e s qs) → ((e : Electrode) → StepConditionsAt e s' qs') → Both Paired (taken s qs) (taken s' qs') → Ranked s s' qs qs'
-solver-ranking s s' qs qs' h h' w ks ks' ps =
+    → ((e : Electrode) → FluxBoundAt e s qs) → ((e : Electrode) → FluxBoundAt e s' qs') → Both Paired (taken s qs) (taken s' qs') → Ranked s s' qs qs'
+solver-ranking s s' qs qs' h h' w bs bs' ps =
     let v = itself s h in
     let v' = twins-make s s' h h' w in
-    let conditions : (e : Electrode) → Each (λ q. StepConditions (numbersAt e s q)) (taken s' qs') = λ e. each-with (λ q k k'. subst StepConditions (same-numbers e s s' q (v' .make)) k) (ks' e) (ks' e) in
+    let ks : (e : Electrode) → Each (λ q. StepConditions (numbersAt e s q)) (taken s qs) = λ e. conditions-hold e s s qs v (bs e) in
+    let ks' : (e : Electrode) → Each (λ q. StepConditions (numbersAt e s q)) (taken s' qs') =
+    λ e. conditions-hold e s s' qs' v' (each-with (λ q b c. subst FluxBound (same-numbers e s s' q (v' .make)) b) (bs' e) (bs' e)) in
     let m = sized-current Electrode.cathode s s qs v in
     let m' = sized-current Electrode.cathode s s' qs' v' in
     let more : Both (StrongerAt Electrode.cathode s) (taken s qs) (taken s' qs') = both-with (λ q q' k a b. cathode-stronger s h q q' k a b) ps m m' in
     let less : Both (StrongerAt Electrode.anode s) (taken s' qs') (taken s qs) = both-flip (both-with (λ q q' k a b. anode-stronger s h q q' k a b) ps m m') in
-    let same = same-count Electrode.cathode s s s' qs qs' v v' (ks Electrode.cathode) (conditions Electrode.cathode) more in
+    let same = same-count Electrode.cathode s s s' qs qs' v v' (ks Electrode.cathode) (ks' Electrode.cathode) more in
     record {
       count = same;
       cathode = λ i l.
           let x = place Electrode.cathode s qs i in
           let y = place Electrode.cathode s' qs' i in
           let M = val (s .cathode .params .«c_s_max») in
-          let z : x ≤F y +F nat 2 *F nat (K s qs) *F M /F pow2 49 = ranked-at Electrode.cathode s s s' qs qs' v v' (ks Electrode.cathode) (conditions Electrode.cathode) more (λ k o. ≤F-of-≈F (≈F-sym (w .nodes Electrode.cathode k (subst (λ (n : ℕ). k < n) (nodes-are s h Electrode.cathode) o)))) i (rw (nodes-are s h Electrode.cathode) l) in
+          let z : x ≤F y +F nat 2 *F nat (K s qs) *F M /F pow2 49 = ranked-at Electrode.cathode s s s' qs qs' v v' (ks Electrode.cathode) (ks' Electrode.cathode) more (λ k o. ≤F-of-≈F (≈F-sym (w .nodes Electrode.cathode k (subst (λ (n : ℕ). k < n) (nodes-are s h Electrode.cathode) o)))) i (rw (nodes-are s h Electrode.cathode) l) in
           let d : x -F nat 2 *F nat (K s qs) *F M /F pow2 49 ≤F y = le-by (x ∷ y ∷ nat (K s qs) ∷ M ∷ share ∷ []) 0 (up z) (search quote depth 24) tt in
           d;
-      anode = λ i l. rw (← same) (ranked-at Electrode.anode s s' s qs' qs v' v (conditions Electrode.anode) (ks Electrode.anode) less (λ k o. ≤F-of-≈F (w .nodes Electrode.anode k (subst (λ (n : ℕ). k < n) (nodes-are s h Electrode.anode) o))) i (rw (nodes-are s h Electrode.anode) l));
+      anode = λ i l. rw (← same) (ranked-at Electrode.anode s s' s qs' qs v' v (ks' Electrode.anode) (ks Electrode.anode) less (λ k o. ≤F-of-≈F (w .nodes Electrode.anode k (subst (λ (n : ℕ). k < n) (nodes-are s h Electrode.anode) o))) i (rw (nodes-are s h Electrode.anode) l));
     }

@@ -1,4 +1,4 @@
--- A worked instance of theorem 2 for a replay: the cell of `Instance` and a text of three lines, 2 s and then 1 s at 3 A, and one in lower case, which is refused with 11. Computed.
+-- A worked instance of theorem 2 for a replay: the cell of `Instance` and a text of three lines, 60 s and then 1 s at 3 A, and one in lower case, which is refused with 11. Computed.
 -- Assumes nothing.
 use Prim.Native.Nat.{ℕ, zero, suc, _<_}
 use mathlib.Core.Path.{_≡_, refl, sym, ap, _∙_, subst}
@@ -16,7 +16,7 @@ use Rattle.iterate.specs.Iterate.{allBelow}
 use Rattle.refusal.specs.Numbers.{firstRefusal, refusalUnless}
 use Rattle.refusal.specs.Ranges.{temperatureFits}
 use Rattle.runs.specs.Endings.{Ended, byRefusal}
-use Rattle.diffusion.specs.Premises.{StepConditions}
+use Rattle.diffusion.specs.Premises.{FluxBound}
 use Rattle.particle.specs.Particle.{placeOf}
 use Rattle.solver.specs.Cell.{gridFits, cellFits, cell-valid}
 use Rattle.replay_run.specs.declared.lines.LoadLine.{LoadLine}
@@ -26,8 +26,8 @@ use Rattle.solver_laws.specs.Electrodes.{Electrode, particleAt, nodes-ar
 use Rattle.solver_laws.specs.Demand.{Call, cellAfter, K, numbersAt, exactPlace}
 use Rattle.solver_laws.specs.ReplayCalls.{callAt, callsOf, cutoffAfter, lineRefusal, endedAfter}
 use Rattle.solver_laws.specs.ReplayLists.{replay-line, replay-ends, replay-refused}
-use Rattle.solver_laws.specs.ReplayDemand.{LineConditions, replay-near}
-use Rattle.solver_laws.specs.Instance.{start, start-passes, start-made, room, room-fits, two, three, draw, Split, one-split, two-split, draw-accepted, draw-conditions, currents-fit, small, clocks}
+use Rattle.solver_laws.specs.ReplayDemand.{LineFluxBounds, replay-near}
+use Rattle.solver_laws.specs.Instance.{start, start-passes, start-made, room, room-fits, minute, three, draw, minute-split, draw-accepted, draw-bound, currents-fit, small, clocks}
 
 -- ---- the text
 abbrev zeros : ℕ → List ℕ
@@ -37,12 +37,12 @@ zeros k = replicate k 48
 abbrev rest : List ℕ
 rest = 9 ∷ 52 ∷ 48 ∷ 48 ∷ 56 ∷ zeros 12 ++ 10 ∷ []
 
--- 2 s as 4000000000000000, 1 s as 3FF0000000000000, and as 3ff0000000000000
+-- 60 s as 404E000000000000, 1 s as 3FF0000000000000, and as 3ff0000000000000
 abbrev pub text : List ℕ
-text = 52 ∷ zeros 15 ++ rest ++ 51 ∷ 70 ∷ 70 ∷ zeros 13 ++ rest ++ 51 ∷ 102 ∷ 102 ∷ zeros 13 ++ rest
+text = 52 ∷ 48 ∷ 52 ∷ 69 ∷ zeros 12 ++ rest ++ 51 ∷ 70 ∷ 70 ∷ zeros 13 ++ rest ++ 51 ∷ 102 ∷ 102 ∷ zeros 13 ++ rest
 
 record Lines : Type 0 where
-  first : lineAt text 0 ≡ record { «well_formed» = true; dt = two; «current_a» = three }
+  first : lineAt text 0 ≡ record { «well_formed» = true; dt = minute; «current_a» = three }
   second : lineAt text 1 ≡ record { «well_formed» = true; dt = one; «current_a» = three }
   third : lineAt text 2 .«well_formed» ≡ false
 
@@ -50,7 +50,7 @@ lines : Lines
 unfolding lineAt lineFrom numberAt digitOf allBelow
 lines = record { first = refl; second = refl; third = refl }
 
-first-call : callAt text room 0 ≡ draw three two
+first-call : callAt text room 0 ≡ draw three minute
 first-call = ap (λ (w : LoadLine). record { current = w .«current_a»; dt = w .dt; temp = room }) (lines .first)
 
 second-call : callAt text room 1 ≡ draw three one
@@ -67,7 +67,7 @@ rows = replayed text room start 24 .rows
 -- the first line is taken
 first-accepted : lineRefusal text room start 0 ≡ 0
 unfolding callsOf cellAfter
-first-accepted = rw (lines .first) (draw-accepted start start-made three two 2 two-split (currents-fit .0) (clocks .0 .0))
+first-accepted = rw (lines .first) (draw-accepted start start-made three minute 64 minute-split (currents-fit .0) (clocks .0 .0))
 
 pub some-row : rows ≡ 0 → ⊥
 unfolding endedAfter cutoffAfter
@@ -79,17 +79,17 @@ some-row z =
 lower-case : 2 < rows → ⊥
 lower-case m = subst T (sym (replay-line text room start 24 2 m .form) ∙ lines .third) tt
 
--- ---- both lines keep the two conditions
-kept : (e : Electrode) (q : Call) (dt : Float) (k : ℕ) → Split dt k → q ≡ draw three dt → StepConditions (numbersAt e start q)
-kept e q dt k c h = subst (λ (x : Call). StepConditions (numbersAt e start x)) (sym h) (draw-conditions e three dt k c (current-range three (currents-fit .0)) (small .0))
+-- ---- both lines keep 2·h·∣flux∣ ≤ D·M
+bounded : (e : Electrode) (q : Call) (dt : Float) → q ≡ draw three dt → FluxBound (numbersAt e start q)
+bounded e q dt h = subst (λ (x : Call). FluxBound (numbersAt e start x)) (sym h) (draw-bound e three dt (current-range three (currents-fit .0)) (small .0))
 
-pub text-conditions : (e : Electrode) → LineConditions e text room start 24
-text-conditions e zero m = kept e (callAt text room 0) two 2 two-split first-call
-text-conditions e (suc zero) m = kept e (callAt text room 1) one 1 one-split second-call
-text-conditions e (suc (suc j)) m = absurd (lower-case (omega (arith, m)))
+pub text-bounds : (e : Electrode) → LineFluxBounds e text room start 24
+text-bounds e zero m = bounded e (callAt text room 0) minute first-call
+text-bounds e (suc zero) m = bounded e (callAt text room 1) one second-call
+text-bounds e (suc (suc j)) m = absurd (lower-case (omega (arith, m)))
 
 -- THEOREM 2 for the cell that the replay leaves
 pub text-near : (e : Electrode) (i : ℕ) → i < 11
     → val (placeOf (particleAt e (replayed text room start 24 .solver)) i) -F exactPlace e start (callsOf text room rows) i
     within nat (K start (callsOf text room rows)) *F val (particleAt e start .params .«c_s_max») /F pow2 49
-text-near e i l = replay-near e text room start 24 start-passes (text-conditions e) i (rw (nodes-are start start-passes e) l)
+text-near e i l = replay-near e text room start 24 start-passes (text-bounds e) i (rw (nodes-are start start-passes e) l)

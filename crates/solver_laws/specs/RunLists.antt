@@ -1,4 +1,4 @@
--- The rows of a run are a list of the solver's calls, so theorem 2 holds of the cell that the run leaves. Assumes nothing.
+-- The rows of a run are a list of the solver's calls, so theorem 2 holds of the cell that the run leaves, and theorem 3 of those that two runs leave. Assumes nothing.
 use Prim.Native.Nat.{ℕ, zero, suc, _*_, _/_, _<_}
 use mathlib.Core.Path.{_≡_, refl, sym, ap, _∙_}
 use mathlib.Core.Bool.{Bool, true, false, cond}
@@ -10,8 +10,9 @@ use lib.ListN.{replicate, replicate-append-replicate}
 use Rattle.fraction.specs.Fraction.{nat, pow2, _-F_, _*F_, _/F_, _within_}
 use Rattle.binary64.specs.Value.{val}
 use Rattle.refusal.specs.Numbers.{firstRefusal, refusalUnless, grid, sheet, neither-refused}
-use Rattle.diffusion.specs.Premises.{StepConditions}
+use Rattle.diffusion.specs.Premises.{FluxBound}
 use Rattle.diffusion.specs.Copies.{each-copies}
+use Rattle.diffusion.specs.Run.{Both}
 use Rattle.particle.specs.Particle.{placeOf}
 use Rattle.runs.specs.Laws.{run-keeps}
 use Rattle.solver.specs.declared.SpmSolver.{SpmSolver}
@@ -24,7 +25,9 @@ use Rattle.solver_laws.specs.Electrodes.{Electrode, particleAt}
 use Rattle.solver_laws.specs.Closure.{step-refused, step-count}
 use Rattle.solver_laws.specs.Demand.{Call, answer, cellAfter, taken, K, planFor, numbersAt, exactPlace, Inv, itself, stays, same-plan}
 use Rattle.solver_laws.specs.AcceptedLists.{AllAccepted, all-taken, Listed, listed-none, listed-more}
-use Rattle.solver_laws.specs.ListedDemand.{listed-near}
+use Rattle.solver_laws.specs.Ordered.{both-copied}
+use Rattle.solver_laws.specs.Ranking.{Paired, Twins}
+use Rattle.solver_laws.specs.ListedDemand.{listed-near, CellsRanked, listed-ranked}
 
 -- ---- what a run gives each step, and its list of calls: one for each row. A step that is refused ends the run without a row: it leaves the cell as it was, and adds no call.
 abbrev pub callOf : RunSettings → Call
@@ -71,7 +74,7 @@ run-is-list w s places = discharged-listed w s places .cell
 pub run-accepted : (w : RunSettings) (s : SpmSolver) (places : ℕ) → taken s (callsOf w s places) ≡ callsOf w s places
 run-accepted w s places = all-taken (discharged-listed w s places .accepted)
 
--- ---- THEOREM 2 for a run
+-- ---- THEOREMS 2 AND 3 for runs
 -- the count of sub-steps is the same at each call
 all-counted : (s : SpmSolver) (q : Call) (n : ℕ) (r : SpmSolver) → Inv s r → AllAccepted r (replicate n q) → K r (replicate n q) ≡ n * subStepsOf (planFor s q)
 unfolding K
@@ -90,14 +93,30 @@ pub run-passes : (w : RunSettings) (s : SpmSolver) (places : ℕ) → runRefusal
 unfolding cellRefusal firstRefusal
 run-passes w s places h = let a = run-tests w s places h in rw (a .0, a .1)
 
--- Nothing refuses the whole run; at the electrode e its step keeps the two conditions. Then every node of e in the cell that the run leaves is within K·M / 2 ^ 49 of the exact
+-- THEOREM 2. Nothing refuses the whole run; at the electrode e its step keeps 2·h·∣flux∣ ≤ D·M. Then every node of e in the cell that the run leaves is within K·M / 2 ^ 49 of the exact
 -- scheme from the same start over the run's calls, where K = rows · sub-steps of one step.
-pub run-near : (e : Electrode) (w : RunSettings) (s : SpmSolver) (places : ℕ) → runRefusal w s places ≡ 0 → StepConditions (numbersAt e s (callOf w)) → (i : ℕ) → i < particleAt e s .«n_nodes»
+pub run-near : (e : Electrode) (w : RunSettings) (s : SpmSolver) (places : ℕ) → runRefusal w s places ≡ 0 → FluxBound (numbersAt e s (callOf w)) → (i : ℕ) → i < particleAt e s .«n_nodes»
     → val (placeOf (particleAt e (discharged w s places .solver)) i) -F exactPlace e s (callsOf w s places) i
     within nat (discharged w s places .rows * subStepsOf (planFor s (callOf w))) *F val (particleAt e s .params .«c_s_max») /F pow2 49
 run-near e w s places h k i l =
     let c = run-passes w s places h in
     let n = discharged w s places .rows in
-    let k' = each-copies (λ q. StepConditions (numbersAt e s q)) (callOf w) n k in
+    let k' = each-copies (λ q. FluxBound (numbersAt e s q)) (callOf w) n k in
     let near = listed-near e s (discharged w s places .solver) (callsOf w s places) (discharged-listed w s places) c k' i l in
     rw (all-counted s (callOf w) n s (itself s c) (discharged-listed w s places .accepted)) at near
+
+-- THEOREM 3 for two runs. Nothing refuses either as a whole; two cells of one make with equal profiles; the steps of each keep 2·h·∣flux∣ ≤ D·M at both electrodes; the rows are equally many,
+-- and the steps paired: alike in interval and temperature, the second's current no less.
+pub run-ranked : (w w' : RunSettings) (s s' : SpmSolver) (places places' : ℕ) → runRefusal w s places ≡ 0 → runRefusal w' s' places' ≡ 0 → Twins s s'
+    → ((e : Electrode) → FluxBound (numbersAt e s (callOf w))) → ((e : Electrode) → FluxBound (numbersAt e s' (callOf w')))
+    → discharged w' s' places' .rows ≡ discharged w s places .rows → Paired (callOf w) (callOf w')
+    → CellsRanked s (discharged w s places .solver) (discharged w' s' places' .solver) (discharged w s places .rows * subStepsOf (planFor s (callOf w)))
+run-ranked w w' s s' places places' h h' t bs bs' m p =
+    let c = run-passes w s places h in
+    let n = discharged w s places .rows in
+    let n' = discharged w' s' places' .rows in
+    let pairs : Both Paired (callsOf w s places) (callsOf w' s' places') = rw m (both-copied Paired (callOf w) (callOf w') n p) in
+    let ranked =
+    listed-ranked s s' (discharged w s places .solver) (discharged w' s' places' .solver) (callsOf w s places) (callsOf w' s' places') (discharged-listed w s places) (discharged-listed w' s' places')
+    c (run-passes w' s' places' h') t (λ e. each-copies (λ q. FluxBound (numbersAt e s q)) (callOf w) n (bs e)) (λ e. each-copies (λ q. FluxBound (numbersAt e s' q)) (callOf w') n' (bs' e)) pairs in
+    rw (all-counted s (callOf w) n s (itself s c) (discharged-listed w s places .accepted)) at ranked

@@ -3,7 +3,7 @@ use Prim.Native.Nat.{ℕ}
 use mathlib.Core.Bool.{not, _&&_}
 use lib.Ieee.{Float, lt, neg}
 use Rattle.binary64.specs.Operators.{_⊗_, _⊘_}
-use Rattle.binary64.specs.Literals.{«1e-20», «1e-8», «0·45», «4096·0»}
+use Rattle.binary64.specs.Literals.{«1e-20», «1e-8», «0·3», «4096·0»}
 use Rattle.min_max.specs.MinMax.{minOf}
 use Rattle.min_max.specs.Count.{ceilOf}
 use Rattle.refusal.specs.Numbers.{firstRefusal, refusalUnless, diffusivity, subSteps}
@@ -14,13 +14,20 @@ use Rattle.particle.specs.Particle.{stableStep}
 use Rattle.kinetics.specs.Kinetics.{surfaceCurrent}
 use Rattle.solver_step.specs.declared.plan.Plan.{Plan}
 
--- an electrode's longest sub-step: dt_stable * 0.45
-abbrev longest : ElectrodeParams → ℕ → Float → Float
-longest e n d = stableStep e n d ⊗ «0·45»
+-- the part of dt_stable, which is h² / (2·D), that a sub-step has at most
+abbrev pub subStepFactor : Float
+subStepFactor = «0·3»
+
+-- an electrode's longest sub-step: dt_stable times a factor
+abbrev pub longestBy : Float → ElectrodeParams → ℕ → Float → Float
+longestBy factor e n d = stableStep e n d ⊗ factor
 
 -- dt / dt_use, dt_use the least of dt and the electrodes' longest sub-steps
+abbrev pub quotientBy : Float → ElectrodeParams → ℕ → ElectrodeParams → ℕ → Float → Float → Float → Float
+quotientBy factor a n c m dt dNeg dPos = dt ⊘ minOf (minOf dt (longestBy factor a n dNeg)) (longestBy factor c m dPos)
+
 abbrev pub quotientWith : ElectrodeParams → ℕ → ElectrodeParams → ℕ → Float → Float → Float → Float
-quotientWith a n c m dt dNeg dPos = dt ⊘ minOf (minOf dt (longest a n dNeg)) (longest c m dPos)
+quotientWith a n c m dt dNeg dPos = quotientBy subStepFactor a n c m dt dNeg dPos
 
 -- the anode's sheet and count of nodes, the cathode's, Faraday's constant, current density, interval, and both diffusivities
 abbrev pub planBy : ElectrodeParams → ℕ → ElectrodeParams → ℕ → Float → Float → Float → Float → Float → Plan

@@ -34,8 +34,8 @@ pub fn plan_for(
 {
     let d_neg = neg.diffusivity_at(temp_k);
     let d_pos = pos.diffusivity_at(temp_k);
-    let dt_neg = stable_step(neg, n_neg, d_neg) * 0.45;
-    let dt_pos = stable_step(pos, n_pos, d_pos) * 0.45;
+    let dt_neg = stable_step(neg, n_neg, d_neg) * 0.30;
+    let dt_pos = stable_step(pos, n_pos, d_pos) * 0.30;
     let dt_use = min_max::min(min_max::min(dt, dt_neg), dt_pos);
     Plan {
         d_neg,
