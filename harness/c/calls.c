@@ -572,6 +572,23 @@ static void ohmic_drops(void)
     EXPECT(voltage_at(0.0, 1.0) == voltage_at(0.0, 0.0) && voltage_at(-0.0, 1.0) == voltage_at(0.0, 0.0));
 }
 
+/* The count of sub-steps of a step of this cell, 0 where it is refused with 7. */
+static uint64_t sub_steps_in(const uint8_t *cell, double dt)
+{
+    static uint8_t step[PJ_CELL_STEP_BYTES];
+    const uint64_t refusal = pj_cell_step(cell, PJ_CELL_BYTES, 3.0, dt, T, step, sizeof step);
+    EXPECT(refusal == PJ_REFUSAL_NONE || refusal == PJ_REFUSAL_SUB_STEPS);
+    return refusal == PJ_REFUSAL_NONE ? pj_get_u64(step + PJ_AT_CELL_REPORT, PJ_AT_REPORT_SUB_STEPS) : 0;
+}
+
+/* A sub-step is at most 0.30 h^2/(2 D), 0.9375 s of the LFP cell, and the longest intervals are those of the header. */
+static void sub_steps(void)
+{
+    EXPECT(sub_steps_in(cell_lfp, 0.9) == 1 && sub_steps_in(cell_lfp, 1.0) == 2 && sub_steps_in(cell_lfp, 60.0) == 64);
+    EXPECT(sub_steps_in(cell_lfp, 3840.0) == 4096 && sub_steps_in(cell_lfp, 3840.1) == 0);
+    EXPECT(sub_steps_in(cell_nmc, 10240.0) == 4096 && sub_steps_in(cell_nmc, 10240.1) == 0);
+}
+
 static void dfn_steps(void)
 {
     static uint8_t salted[PJ_ELECTROLYTE_BYTES], dfn_step[PJ_DFN_STEP_BYTES];
@@ -1112,6 +1129,7 @@ int main(void)
     earlier_layout();
     single_particle_steps();
     ohmic_drops();
+    sub_steps();
     dfn_steps();
     discharges();
     galvanostatic_runs();

@@ -406,7 +406,8 @@ uint64_t pj_particle_step(const uint8_t *particle, size_t particle_len, double j
 
 /* One step of a single-particle cell.
  * current_a  A, at most 1e6 in size; above 0 discharges, below 0 charges
- * dt         s, above 0, at most 86,400, and at most 4,096 sub-steps
+ * dt         s, above 0, at most 86,400, and at most 4,096 sub-steps, each at most 0.30 h^2/(2 D) of either electrode:
+ *            PJ_BUILD_CELL_LFP with 11 nodes takes up to 3,840 s at 298.15 K, PJ_BUILD_CELL_NMC up to 10,240 s
  * temp_k     K, 200 to 400
  * answer     cell and report, PJ_CELL_STEP_BYTES
  * WARNINGS, faults of the model that the port keeps:
@@ -415,7 +416,9 @@ uint64_t pj_particle_step(const uint8_t *particle, size_t particle_len, double j
  * - with an LFP cathode the voltage rises during most of a discharge, since the curve of the Rust rises with lithium;
  * - a graphite anode below about 0.1 makes the voltage of any cell rise a little before it falls.
  * The drop in the electrolyte, current_a / area * r_electrolyte_ohm_m2, is subtracted with its sign: it lowers the voltage on
- * discharge and raises it on charge. (Rows of a charge from an earlier release, in which it lowered both, are too low by twice that.) */
+ * discharge and raises it on charge. (Rows of a charge from an earlier release, in which it lowered both, are too low by twice that.)
+ * In an earlier release sub-steps were up to half as long again: that LFP cell took up to 5,760 s, that NMC cell up to 15,360 s, the centre of a
+ * particle could swing, and rows of the two differ from today's by fractions of a millivolt. */
 uint64_t pj_cell_step(const uint8_t *cell, size_t cell_len, double current_a, double dt, double temp_k,
                       uint8_t *answer, size_t answer_len);
 

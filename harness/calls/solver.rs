@@ -9,6 +9,8 @@ use oracle::solver::{SpmConfig, SpmSolver, SpmState};
 /// v_min, v_max, faraday, r_gas, r_electrolyte_ohm_m2
 pub const RANGES: [Range; 5] = [range(-10.0, 10.0), range(-10.0, 10.0), range(9e4, 1e5), range(8.0, 9.0), range(0.0, 1.0)];
 pub const DIFFUSIVITY: Range = range(1e-20, 1e-8);
+/// The largest part of the stability limit that a sub-step is.
+pub const SUB_STEP: f64 = 0.30;
 pub const MOST_SUB_STEPS: f64 = 4096.0;
 
 #[derive(Clone, Copy)]
@@ -70,6 +72,24 @@ pub fn least_count(q: f64) -> u64 {
     } else {
         whole
     }
+}
+
+/// The longest sub-step that is at most this part of each electrode's stability limit.
+fn longest_sub_step(cell: &SpmSolver, part: f64, temp_k: f64) -> f64 {
+    let dt_neg = cell.anode.dt_stable(temp_k) * part;
+    let dt_pos = cell.cathode.dt_stable(temp_k) * part;
+    dt_neg.min(dt_pos)
+}
+
+/// How many sub-steps of at most this length an interval takes; 7 where they are too many.
+pub fn count_sub_steps(dt: f64, longest: f64) -> Result<u64, u64> {
+    let q = dt / dt.min(longest);
+    if q > MOST_SUB_STEPS {
+        return Err(7);
+    }
+    let count = least_count(q);
+    assert_eq!(count, q.ceil() as u64, "the Rust's count");
+    Ok(count)
 }
 
 impl Cell {
@@ -153,17 +173,19 @@ impl Cell {
         let mut made = self.spm();
         let in_range = |p: &oracle::electrode::ParticleDiffusion| DIFFUSIVITY.holds(p.params.d_s(temp_k));
         met.when(6, !in_range(&made.anode) || !in_range(&made.cathode));
-        let dt_neg = made.anode.dt_stable(temp_k) * 0.45;
-        let dt_pos = made.cathode.dt_stable(temp_k) * 0.45;
-        let q = dt / dt.min(dt_neg).min(dt_pos);
-        met.when(7, q > MOST_SUB_STEPS);
+        let counted = count_sub_steps(dt, longest_sub_step(&made, SUB_STEP, temp_k));
+        met.when(7, counted.is_err());
         met.refuse()?;
-        let sub_steps = least_count(q);
-        assert_eq!(sub_steps, q.ceil() as u64, "the Rust's count");
+        let sub_steps = counted?;
         let state = made.step(current_a, dt, temp_k);
         let report = Report { state, sub_steps };
         finite_or_8(&[&made.anode.c_s, &made.cathode.c_s, &[made.time_s], &report.row()])?;
         Ok((self.after(&made), report))
+    }
+
+    /// The longest sub-step of a cell that fits, by the part of the stability limit.
+    pub fn longest_sub_step(&self, part: f64, temp_k: f64) -> f64 {
+        longest_sub_step(&self.spm(), part, temp_k)
     }
 
     pub fn ocv(&self) -> Result<f64, u64> {

@@ -12,7 +12,7 @@ use calls::electrolyte::{Electrolyte, POROSITY};
 use calls::particle::Particle;
 use calls::replay::MOST_LINES;
 use calls::runs::ROW;
-use calls::solver::{Cell, Config, DIFFUSIVITY};
+use calls::solver::{Cell, Config, DIFFUSIVITY, SUB_STEP};
 use calls::table::{Range, TEMPERATURE};
 use calls::words::{word, Slot};
 
@@ -299,10 +299,10 @@ fn ready(draw: &mut Draw, turn: u64) -> Case {
     Case { start: Vec::new(), turns }
 }
 
-/// An interval in which so many sub-steps of the given length go, up to 2^14 of them.
+/// An interval in which so many sub-steps of the given length go, up to 6,144 of them: 4,096 of the length before change request (vii).
 pub fn interval_of(draw: &mut Draw, least: f64) -> f64 {
     let count = match draw.below(8) {
-        0 => draw.pick(&[0.01, 0.5, 1.0, 2.0, 3.0, 4095.0, 4096.0, 4097.0]),
+        0 => draw.pick(&[0.01, 0.5, 1.0, 1.5, 2.0, 3.0, 4095.0, 4096.0, 4097.0, 5000.0, 6143.0, 6144.0]),
         1 => draw.count(1, 40) as f64,
         2..=6 => records::power(draw, -3.0, 7.0),
         _ => records::power(draw, 3.0, 12.5),
@@ -334,6 +334,7 @@ fn particle_steps(draw: &mut Draw, turn: u64) -> Case {
     let mut turns = Vec::new();
     for _ in 0..draw.count(1, 8) {
         let temp_k = records::temperature(draw, &[sheet.numbers[9]]);
+        // near the stability limit: a particle's own step has no factor of it
         let least = 0.45 * particle.dt_stable(temp_k).expect("a particle in range");
         let d_s = sheet.d_s(temp_k).expect("a sheet in range");
         let flux = match draw.below(8) {
@@ -356,8 +357,8 @@ fn particle_steps(draw: &mut Draw, turn: u64) -> Case {
 }
 
 fn least_interval(cell: &Cell, temp_k: f64) -> f64 {
-    let stable = |p: &Particle| 0.45 * p.dt_stable(temp_k).expect("a particle in range");
-    stable(&cell.anode).min(stable(&cell.cathode))
+    let longest = |p: &Particle| SUB_STEP * p.dt_stable(temp_k).expect("a particle in range");
+    longest(&cell.anode).min(longest(&cell.cathode))
 }
 
 /// A cell, and how it can be built where it is as it was built.
@@ -664,7 +665,7 @@ fn cycles(draw: &mut Draw, turn: u64) -> Case {
     let (mut cell, mut build) = some_cell(draw, n);
     let temp_k = cell_temperature(draw, &cell);
     let least = least_interval(&cell, temp_k);
-    let dt = if draw.below(20) == 0 { interval_of(draw, least) } else { least * records::power(draw, -4.0, 2.0) };
+    let dt = if draw.below(12) == 0 { interval_of(draw, least) } else { least * records::power(draw, -4.0, 2.0) };
     let dt = dt.clamp(f64::from_bits(1), 86_400.0);
     let size = cell.anode.sheet.numbers[6] * records::power(draw, -4.0, 6.0);
     let (phases, count, repeats) = (schedules::phases(draw, size, dt), draw.count(1, PLACES as u64), schedules::repeats(draw));

@@ -1,23 +1,12 @@
-//! Rows of the single-particle cell asked once more of the solver as it was before change request (v), whose ohmic drop was multiplied by
+//! Rows of the single-particle cell asked once more of a solver without change request (v), whose ohmic drop is multiplied by
 //! the current's sign. A row whose current has no negative sign has to keep its bits; one of a charge may have a higher voltage, and with it
 //! another cutoff, and nothing else.
-use crate::call::{Answer, Argument, Call, Function};
-use crate::images::{slots_of, words_of};
-use calls::earlier::EarlierCell;
-use calls::replay::LINE;
-use calls::runs::ROW;
-use calls::solver::Cell;
-use calls::words::Reader;
+use crate::call::{Answer, Call, Function};
+use crate::rows::{cell_of, interval, rows_of, temperature, Row, CURRENT, CUTOFF, FUNCTIONS, VOLTAGE};
+use calls::earlier::EarlierOhmicDrop;
 use std::collections::{BTreeMap, BTreeSet};
 
-const FUNCTIONS: [Function; 4] = [Function::CellStep, Function::Discharge, Function::Replay, Function::Cycle];
 const COLUMNS: [&str; 5] = ["not negative", "-0", "charge, same", "higher", "and cutoff"];
-/// places of a row
-const VOLTAGE: usize = 0;
-const CURRENT: usize = 1;
-const CUTOFF: usize = 7;
-
-type Row = [f64; ROW];
 
 /// Rows by `COLUMNS`.
 type Counts = [u64; COLUMNS.len()];
@@ -26,33 +15,6 @@ type Counts = [u64; COLUMNS.len()];
 pub struct OhmicDrop {
     by_function: BTreeMap<Function, Counts>,
     wrong: BTreeSet<String>,
-}
-
-/// The rows of an accepted call; a step has one, its report.
-fn rows_of(call: &Call, oracle: &Answer) -> Vec<Row> {
-    let floats = |words: &[u64]| -> Row { std::array::from_fn(|at| f64::from_bits(words[at])) };
-    if call.function.is_run() {
-        return oracle.rows.chunks(ROW).map(floats).collect();
-    }
-    let words = words_of(oracle.image.as_deref().expect("an accepted step"));
-    let report = &words[words.len() - ROW - 1..];
-    let mut row = floats(report);
-    row[CUTOFF] = report[CUTOFF] as f64;
-    vec![row]
-}
-
-/// The call's number of this meaning.
-fn number(call: &Call, meant: fn(&Argument) -> bool) -> f64 {
-    f64::from_bits(call.numbers[call.function.arguments().iter().position(meant).expect("such a number")])
-}
-
-/// The interval of a call's row.
-fn interval(call: &Call, row: usize) -> f64 {
-    if call.function != Function::Replay {
-        return number(call, |argument| matches!(argument, Argument::Interval));
-    }
-    let digits = std::str::from_utf8(&call.text[row * LINE..][..16]).expect("digits");
-    f64::from_bits(u64::from_str_radix(digits, 16).expect("digits"))
 }
 
 /// Whether a call can have a row in a column: a cycle's currents are never -0.
@@ -87,9 +49,7 @@ impl OhmicDrop {
         if !FUNCTIONS.contains(&function) || oracle.image.is_none() {
             return;
         }
-        let slots = slots_of(function.record().parts(), &call.image);
-        let mut earlier = EarlierCell::of(&Cell::read(&mut Reader::new(&slots)));
-        let temp_k = number(call, |argument| matches!(argument, Argument::Temperature));
+        let (mut earlier, temp_k) = (EarlierOhmicDrop::of(&cell_of(call)), temperature(call));
         let counts = self.by_function.entry(function).or_default();
         for (number, now) in rows_of(call, oracle).iter().enumerate() {
             let before = earlier.row(now[CURRENT], interval(call, number), temp_k);

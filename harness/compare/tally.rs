@@ -5,6 +5,7 @@ use crate::earlier::Earlier;
 use crate::images::words_of;
 use crate::ohmic_drop::OhmicDrop;
 use crate::references::References;
+use crate::sub_steps::SubSteps;
 use crate::weights::Weights;
 use calls::replay::MOST_LINES;
 use calls::runs::Ending;
@@ -37,6 +38,7 @@ pub struct Tally {
     references: References,
     weights: Weights,
     ohmic_drop: OhmicDrop,
+    by_sub_steps: SubSteps,
     cycles: Cycles,
 }
 
@@ -74,6 +76,7 @@ impl Tally {
         self.references.add(call, oracle);
         self.weights.add(call, oracle);
         self.ohmic_drop.add(call, oracle);
+        self.by_sub_steps.add(call, oracle);
         self.cycles.add(call, oracle);
         self.calls += 1;
         self.kept_bytes += kept_bytes;
@@ -138,6 +141,7 @@ impl Tally {
         self.references.join(other.references);
         self.weights.join(other.weights);
         self.ohmic_drop.join(other.ohmic_drop);
+        self.by_sub_steps.join(other.by_sub_steps);
         self.cycles.join(other.cycles);
     }
 
@@ -188,6 +192,8 @@ impl Tally {
         missing.extend(self.references.print());
         println!();
         missing.extend(self.ohmic_drop.print());
+        println!();
+        missing.extend(self.by_sub_steps.print());
         println!();
         missing.extend(self.cycles.print());
         println!("rows of the longest replay: {} of {MOST_LINES}", self.longest_replay);

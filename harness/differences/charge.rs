@@ -1,5 +1,5 @@
 //! Rows of a charge before change request (v), when the ohmic drop was multiplied by the current's sign, and now.
-use calls::earlier::EarlierCell;
+use calls::earlier::EarlierOhmicDrop;
 use calls::runs::ROW;
 use calls::solver::{Cell, Config};
 
@@ -15,16 +15,16 @@ fn config(v_max: f64, resistance: f64) -> Config {
 
 pub fn print_step() {
     let cell = Cell::graphite_lfp(config(V_MAX, 2e-4)).expect("the ready cell");
-    let now = cell.step(-3.0, 1.0, T).expect("a step in range").1.state.voltage;
-    let before = EarlierCell::of(&cell).row(-3.0, 1.0, T)[0];
-    println!("ohmic rise: graphite_lfp, 11 nodes, -3 A, 1 s: {before:.6} V before, {now:.6} V now");
+    let now = cell.step(-3.0, 0.5, T).expect("a step in range").1.state.voltage;
+    let before = EarlierOhmicDrop::of(&cell).row(-3.0, 0.5, T)[0];
+    println!("ohmic rise: graphite_lfp, 11 nodes, -3 A, 0.5 s: {before:.6} V before, {now:.6} V now");
 }
 
 /// The ready NMC cell after 1,200 s at 5 A, charged with 5 A for so long or until a row is above v_max: before and now.
 fn charge(v_max: f64, resistance: f64, seconds: f64) -> [Vec<Row>; 2] {
     let full = Cell::graphite_nmc(config(v_max, resistance)).expect("the ready cell");
     let cell = Cell { time_s: 0.0, ..full.simulate_discharge(5.0, DT, T, 1200.0, 120 * ROW).cell };
-    let (mut earlier, mut before) = (EarlierCell::of(&cell), Vec::<Row>::new());
+    let (mut earlier, mut before) = (EarlierOhmicDrop::of(&cell), Vec::<Row>::new());
     while before.last().map_or(true, |row| row[6] < seconds && row[7] == 0.0) {
         before.push(earlier.row(-5.0, DT, T));
     }

@@ -1,8 +1,9 @@
 //! Prints, for each entry of docs/DIFFERENCES.md, what the oracle gives for the input that shows it, beside what the source
 //! of the model or the plain formula would give; with the argument `low_rates` the curve of the overpotential at tiny currents,
-//! with `charge` that of a charge.
+//! with `charge` that of a charge, with `sub_steps` that of a particle's centre.
 mod charge;
 mod low_rates;
+mod sub_steps;
 
 use calls::dfn;
 use calls::electrode::Sheet;
@@ -89,17 +90,6 @@ fn even_nodes() {
     }
 }
 
-fn stability() {
-    let cell = spm(11);
-    for dt in [1.0, 60.0] {
-        let (_, report) = cell.step(3.0, dt, T).unwrap();
-        let h = cell.cathode.sheet.numbers[0] / 10.0;
-        let t = dt / report.sub_steps as f64;
-        let d = cell.cathode.sheet.d_s(T).unwrap();
-        println!("stability: graphite_lfp, 11 nodes, {dt} s: {} sub-steps, 6 D t / h^2 at the cathode {:.3}", report.sub_steps, 6.0 * d * t / (h * h));
-    }
-}
-
 fn soc_window() {
     let mut cell = spm(11);
     cell.anode.c_s[..11].fill(0.9 * cell.anode.sheet.c_s_max());
@@ -176,8 +166,9 @@ fn main() {
         None => print_differences(),
         Some("low_rates") => low_rates::print_curve(),
         Some("charge") => charge::print_curve(),
+        Some("sub_steps") => sub_steps::print_curve(),
         Some(_) => {
-            eprintln!("differences: no argument, low_rates or charge");
+            eprintln!("differences: no argument, low_rates, charge or sub_steps");
             std::process::exit(2);
         }
     }
@@ -189,7 +180,7 @@ fn print_differences() {
     clamped_run();
     graphite_bump();
     even_nodes();
-    stability();
+    sub_steps::print_stability();
     soc_window();
     dfn_signs();
     dfn_discharge();
@@ -200,4 +191,7 @@ fn print_differences() {
     reference_temperature();
     charge::print_step();
     charge::print_charges();
+    sub_steps::print_counts();
+    sub_steps::print_centre();
+    sub_steps::print_rows();
 }

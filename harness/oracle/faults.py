@@ -45,6 +45,7 @@ NAN = because("a NaN goes through what follows and comes out as a NaN, whose bit
 SAME_PRODUCT = because("a product of two numbers is the same either way round")
 FINITE = because("no call that the table lets pass gives a NaN or an infinity there")
 BUILT = because("the particle that is built of it asks it, and answers the same number")
+SAME_LEAST = because("of two numbers the smaller has the smaller product, rounded too")
 FIRST_STEP = because("a first step is always made, and answers the same number with no row written")
 
 TERM = "a = 1.0 + (a * y) / f64::from(k);"
@@ -176,6 +177,7 @@ SKIPPED = because("the loop passes over that node anyway")
 UNREAD = because("that entry is not read again")
 NO_I0 = because("an exchange current of 0 and one that is a NaN are both not above 1e-30")
 
+STABILITY_LIMIT = "0.5 * self.dr * self.dr / d_s"
 AT_298 = "let d_s = ElectrodeParams { t_ref: 298.15, ..self.params.clone() }.d_s(temp_k);"
 
 ELECTRODE = [
@@ -206,6 +208,10 @@ ELECTRODE = [
     ("step: 298.15 for t_ref", "let d_s = self.params.d_s(temp_k);", AT_298, nth(1)),
     ("dt_stable: 298.15 for t_ref", "let d_s = self.params.d_s(temp_k);", AT_298, nth(2)),
     ("new: the particle's t_ref is 298.15", "dr,\n            params,", "dr,\n            params: ElectrodeParams { t_ref: 298.15, ..params },"),
+    ("dt_stable: h*h/D", STABILITY_LIMIT, "self.dr * self.dr / d_s"),
+    ("dt_stable: h*h/(6*D)", STABILITY_LIMIT, "self.dr * self.dr / (6.0 * d_s)"),
+    ("dt_stable: h*(h/(2*D))", STABILITY_LIMIT, "self.dr * (self.dr / (2.0 * d_s))"),
+    ("dt_stable: h*h/(2*D)", STABILITY_LIMIT, "self.dr * self.dr / (2.0 * d_s)", because("a half and twice are exact, far from the least and the largest binary64")),
     ("sphere_volume: (r*r)*r first", "4.0 / 3.0 * PI * r * r * r", "4.0 / 3.0 * PI * (r * r * r)"),
 ]
 
@@ -244,7 +250,40 @@ def swapped_interval(own, other):
             f"ParticleDiffusion::new({sheet}, self.{own}.n_nodes).dt_stable(temp_k)")
 
 
+LEAST = "dt.min(dt_neg).min(dt_pos)"
+
+
+def longest(anode, cathode, least=LEAST):
+    """The lines of the longest sub-step, with these factors of the electrodes' stability limits."""
+    rows = [("neg", "anode", anode), ("pos", "cathode", cathode)]
+    lines = [f"let dt_{name} = self.{electrode}.dt_stable(temp_k) * {factor};" for name, electrode, factor in rows]
+    return "\n        ".join([*lines, f"let dt_use = {least};"])
+
+
+def other_factors(what, factor):
+    """Another factor in one electrode alone, and in both."""
+    right = longest("0.30", "0.30")
+    return [
+        (f"step: {what} in the anode", right, longest(factor, "0.30")),
+        (f"step: {what} in the cathode", right, longest("0.30", factor)),
+        (f"step: {what} in both", right, longest(factor, factor)),
+    ]
+
+
 SOLVER = [
+    *other_factors("0.45", "0.45"),
+    *other_factors("0.34", "0.34"),
+    *other_factors("the number before 0.30", as_rust(below(0.30))),
+    *other_factors("the number after 0.30", as_rust(above(0.30))),
+    *other_factors("0.30 of h*h/D", "0.60"),
+    *other_factors("3/10 by two roundings", "3.0 / 10.0"),
+    *other_factors("the whole limit", "1.0"),
+    ("step: the factor of the interval too", longest("0.30", "0.30"), longest("1.0", "1.0", f"(0.30 * {LEAST}).max(f64::from_bits(1))")),
+    ("step: the factor of the smaller limit", longest("0.30", "0.30"), longest("1.0", "1.0", "dt.min(0.30 * dt_neg.min(dt_pos))"), SAME_LEAST),
+    ("step: the longest sub-step by the anode alone", LEAST, "{ let _ = dt_pos; dt.min(dt_neg) }"),
+    ("step: the longest sub-step by the cathode alone", LEAST, "{ let _ = dt_neg; dt.min(dt_pos) }"),
+    ("step: the longest sub-step by the larger limit", LEAST, "dt.min(dt_neg.max(dt_pos))"),
+    ("step: sub-steps of the longest length", "dt / n_sub as f64", "dt_use"),
     ("step: the anode has the cathode's t_ref", AREA, AREA + " self.anode.params.t_ref = self.cathode.params.t_ref;"),
     ("step: the cathode has the anode's t_ref", AREA, AREA + " self.cathode.params.t_ref = self.anode.params.t_ref;"),
     ("step: 298.15 for both t_ref", AREA, AREA + " (self.anode.params.t_ref, self.cathode.params.t_ref) = (298.15, 298.15);"),
@@ -503,7 +542,9 @@ CALLS_PARTICLE = [
 
 def with_298(electrode):
     """An electrode's stable interval with 298.15."""
-    return f"{{ let mut other = self.{electrode}.clone(); other.sheet.numbers[9] = 298.15; other.diffusion() }}.dt_stable(temp_k)"
+    particle = f"cell.{electrode}"
+    sheet = f"oracle::electrode::ElectrodeParams {{ t_ref: 298.15, ..{particle}.params.clone() }}"
+    return f"oracle::electrode::ParticleDiffusion::new({sheet}, {particle}.n_nodes).dt_stable(temp_k)"
 
 
 CALLS_SOLVER = [
@@ -511,8 +552,16 @@ CALLS_SOLVER = [
     ("count: the whole number below q", "whole + 1", "whole"),
     ("q of 4,096 is too many", "q > MOST_SUB_STEPS", "q >= MOST_SUB_STEPS"),
     ("q: one binary64 more", "MOST_SUB_STEPS: f64 = 4096.0", "MOST_SUB_STEPS: f64 = " + as_rust(above(4096.0))),
-    ("q: the anode's interval is not asked", "dt.min(dt_neg).min(dt_pos)", "{ let _ = dt_neg; dt.min(dt_pos) }"),
-    ("q: the cathode's interval is not asked", "dt.min(dt_neg).min(dt_pos)", "{ let _ = dt_pos; dt.min(dt_neg) }"),
+    ("q: the anode's interval is not asked", "dt_neg.min(dt_pos)", "{ let _ = dt_neg; dt_pos }"),
+    ("q: the cathode's interval is not asked", "dt_neg.min(dt_pos)", "{ let _ = dt_pos; dt_neg }"),
+    ("q: the longer interval of both", "dt_neg.min(dt_pos)", "dt_neg.max(dt_pos)"),
+    ("q: the whole limit of the anode", "cell.anode.dt_stable(temp_k) * part", "cell.anode.dt_stable(temp_k)"),
+    ("q: the whole limit of the cathode", "cell.cathode.dt_stable(temp_k) * part", "cell.cathode.dt_stable(temp_k)"),
+    ("q: the factor of the interval too", "dt / dt.min(longest)", "dt / longest.min(SUB_STEP * dt)"),
+    ("q: a shorter interval by the longest sub-step", "dt / dt.min(longest)", "dt / longest"),
+    *((f"q: {what} for 0.30", "SUB_STEP: f64 = 0.30", f"SUB_STEP: f64 = {factor}") for what, factor in [
+        ("0.45", "0.45"), ("0.34", "0.34"), ("0.60", "0.60"), ("the number before", as_rust(below(0.30))), ("the number after", as_rust(above(0.30))),
+    ]),
     ("new: the count is not asked", "        met.when(1, !nodes_fit(config.n_nodes));\n", "", nth(1)),
     ("ready cells: the count is not asked", "        met.when(1, !nodes_fit(config.n_nodes));\n", "", nth(2)),
     ("new: the config is not asked", "!all_in(&config.numbers, &RANGES) || !anode.fits() || !cathode.fits()", "!anode.fits() || !cathode.fits()"),
@@ -538,11 +587,11 @@ CALLS_SOLVER = [
         "            std::mem::swap(&mut anode.sheet.numbers[9], &mut cathode.sheet.numbers[9]);\n"
         "            !in_range(&anode.diffusion()) || !in_range(&cathode.diffusion())\n        }",
     ),
-    ("q: 298.15 for the anode's t_ref", "made.anode.dt_stable(temp_k)", with_298("anode")),
-    ("q: 298.15 for the cathode's t_ref", "made.cathode.dt_stable(temp_k)", with_298("cathode")),
+    ("q: 298.15 for the anode's t_ref", "cell.anode.dt_stable(temp_k)", with_298("anode")),
+    ("q: 298.15 for the cathode's t_ref", "cell.cathode.dt_stable(temp_k)", with_298("cathode")),
     ("step: the anode's diffusivity is not asked", "!in_range(&made.anode) || ", ""),
     ("step: the cathode's diffusivity is not asked", " || !in_range(&made.cathode)", ""),
-    ("step: 7 is not asked", "        met.when(7, q > MOST_SUB_STEPS);\n", ""),
+    ("step: 7 is not asked", "if q > MOST_SUB_STEPS {", "if false {"),
     ("step: an anode that is not finite", "&made.anode.c_s, ", "", FINITE),
     ("step: a cathode that is not finite", "&made.cathode.c_s, ", "", FINITE),
     ("step: a clock that is not finite", "&[made.time_s], ", "", FINITE),

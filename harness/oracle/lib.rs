@@ -17,9 +17,14 @@ pub mod solver {
     include!(concat!(env!("ORACLE_SOURCES"), "/solver.rs"));
 }
 
-/// solver.rs before change request (v): its ohmic drop is multiplied by the current's sign.
-pub mod earlier_solver {
-    include!(concat!(env!("ORACLE_SOURCES"), "/earlier_solver.rs"));
+/// solver.rs without change request (v): its ohmic drop is multiplied by the current's sign.
+pub mod earlier_ohmic_drop {
+    include!(concat!(env!("ORACLE_SOURCES"), "/earlier_ohmic_drop.rs"));
+}
+
+/// solver.rs without change request (vii): its sub-steps are up to half as long again.
+pub mod earlier_sub_steps {
+    include!(concat!(env!("ORACLE_SOURCES"), "/earlier_sub_steps.rs"));
 }
 
 pub mod dfn {

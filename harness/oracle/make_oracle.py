@@ -3,17 +3,19 @@
 
     make_oracle.py --out FOLDER [--source FOLDER]
 
-Five textual edits, none of which moves a line:
+Six textual edits, none of which moves a line:
   1. the line that uses serde becomes one that uses the stand-ins' trait;
   2. `Serialize, Deserialize` leave the derives;
   3. `.exp(`, `.ln(`, `.powf(`, `.asinh(` and `.powi(` become `.oracle_exp(` and so on, methods of that trait on f64, so that
      receiver, argument and precedence stay;
   4. the reference temperature: both records of electrode.rs and electrolyte.rs gain a last field `t_ref`, which is 298.15 in the
      four ready records and stands in the three formulas in place of their constant 298.15;
-  5. the ohmic drop: the terminal voltage of solver.rs loses the factor `* current_a.signum()` of v_ohm.
+  5. the ohmic drop: the terminal voltage of solver.rs loses the factor `* current_a.signum()` of v_ohm;
+  6. the sub-step: the two factors 0.45 of `dt_stable` in `step` of solver.rs become 0.30.
 The diff is printed. A source that is missing or changed, a count of edits other than the expected one, a transcendental
-method, a fixed reference temperature or a sign of the current that is left ends the script with one line and status 1, and
-nothing is written. Beside solver.rs stands earlier_solver.rs, without edit 5: what is said of rows before and after it is asked of both.
+method, a fixed reference temperature, a sign of the current or a factor 0.45 that is left ends the script with one line and
+status 1, and nothing is written. Beside solver.rs stand earlier_ohmic_drop.rs, which lacks edit 5 alone, and
+earlier_sub_steps.rs, which lacks edit 6 alone: what is said of rows before and after an edit is asked of solver.rs and of these.
 """
 import argparse
 import difflib
@@ -23,6 +25,7 @@ import re
 import shutil
 import sys
 import tempfile
+from collections import Counter
 
 HERE = os.path.dirname(os.path.abspath(__file__))
 REPOSITORY = os.path.dirname(os.path.dirname(HERE))
@@ -48,14 +51,23 @@ REFERENCE = {
     "t_ref formulas": (r"(        self\.\w+ \* \(self\.\w+ / R_GAS \* \(1\.0 / )T_REF( - 1\.0 / temp_k\)\)\.exp\(\))", r"\1self.t_ref\2"),
 }
 FIXED = re.compile(r"T_REF|(?<!t_ref: )298\.15")
-WITH_DROP, EARLIER = "solver.rs", "earlier_solver.rs"
-# edit 5: the whole line, and what stands in its place
-VOLTAGE_BY_SIGNUM = "        let voltage = (u_pos + eta_pos) - (u_neg + eta_neg) - v_ohm * current_a.signum();"
-VOLTAGE = "        let voltage = (u_pos + eta_pos) - (u_neg + eta_neg) - v_ohm;"
+SOLVER = "solver.rs"
+STABLE = "        let dt_{} = self.{}.dt_stable(temp_k) * {};"
+ELECTRODES = (("neg", "anode"), ("pos", "cathode"))
+# edits 5 and 6: whole lines, and what stands in their place
+OF_SOLVER = {
+    "signum factors": {
+        "        let voltage = (u_pos + eta_pos) - (u_neg + eta_neg) - v_ohm * current_a.signum();":
+        "        let voltage = (u_pos + eta_pos) - (u_neg + eta_neg) - v_ohm;",
+    },
+    "sub-step factors": {STABLE.format(*names, "0.45"): STABLE.format(*names, "0.30") for names in ELECTRODES},
+}
+# the solvers that lack one of these
+EARLIER = {"earlier_ohmic_drop.rs": "signum factors", "earlier_sub_steps.rs": "sub-step factors"}
 EXPECTED = {
     "method calls": 28, "use lines": 4, "derives": 10,
     "t_ref fields": 2, "t_ref ready values": 4, "t_ref constants": 3, "t_ref formulas": 3,
-    "signum factors": 1,
+    "signum factors": 1, "sub-step factors": 2,
 }
 
 
@@ -110,10 +122,13 @@ def edited(name, text, counts):
     return "\n".join(lines)
 
 
-def with_signed_drop(text, counts):
-    lines = text.split("\n")
-    counts["signum factors"] += lines.count(VOLTAGE_BY_SIGNUM)
-    return "\n".join(VOLTAGE if line == VOLTAGE_BY_SIGNUM else line for line in lines)
+def solver_with(text, kinds, counts):
+    """solver.rs with these of its own edits."""
+    for kind in kinds:
+        lines = text.split("\n")
+        counts[kind] += sum(line in OF_SOLVER[kind] for line in lines)
+        text = "\n".join(OF_SOLVER[kind].get(line, line) for line in lines)
+    return text
 
 
 def code_of(line):
@@ -126,8 +141,10 @@ def refuse_left(path, name, text):
             refuse(f"{path}:{number}: a method that the stand-ins do not cover is left: {line.strip()}")
         if name in WITH_REFERENCE and FIXED.search(code_of(line)):
             refuse(f"{path}:{number}: a fixed reference temperature is left: {line.strip()}")
-        if name == WITH_DROP and "signum" in code_of(line):
+        if name == SOLVER and "signum" in code_of(line):
             refuse(f"{path}:{number}: a sign of the current is left: {line.strip()}")
+        if name == SOLVER and "0.45" in code_of(line):
+            refuse(f"{path}:{number}: a factor 0.45 is left: {line.strip()}")
 
 
 def main():
@@ -146,9 +163,10 @@ def main():
     for path, content in sources.items():
         before, name = content.decode("utf-8"), os.path.basename(path)
         after = edited(name, before, counts)
-        if name == WITH_DROP:
-            results[EARLIER] = after
-            after = with_signed_drop(after, counts)
+        if name == SOLVER:
+            for earlier, lacking in EARLIER.items():
+                results[earlier] = solver_with(after, OF_SOLVER.keys() - {lacking}, Counter())
+            after = solver_with(after, OF_SOLVER, counts)
         refuse_left(path, name, after)
         results[name] = after
         diff += difflib.unified_diff(before.split("\n"), after.split("\n"), path, f"oracle/{name}", lineterm="", n=0)

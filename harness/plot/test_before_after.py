@@ -1,5 +1,5 @@
 #!/usr/bin/env python3
-"""Holds before_after.py to what it must draw, and docs/low_rates.svg and docs/charge.svg to the curves of harness/differences.
+"""Holds before_after.py to what it must draw, and docs/low_rates.svg, docs/charge.svg and docs/sub_steps.svg to the curves of harness/differences.
 
     python3 harness/plot/test_before_after.py
 """
@@ -16,6 +16,7 @@ ROOT = HERE.parent.parent
 TITLES = {
     "low_rates": "Overpotential of both electrodes at tiny currents, before change request (ii) and now",
     "charge": "A charge of graphite_nmc at 5 A with 1e-3 Ω·m², before change request (v) and now",
+    "sub_steps": "Centre of a cathode particle of graphite_lfp at rest, before change request (vii) and now",
 }
 
 

@@ -55,6 +55,7 @@ fn write_all(folder: &Path) -> io::Result<()> {
         lines += write_list(list, 1 + number as u64, &fresh.join(format!("{}.txt", list.name)))?;
     }
     lists::reference::check_turned();
+    lists::sub_steps::check_counts();
     let _ = fs::remove_dir_all(folder);
     fs::rename(&fresh, folder)?;
     println!("vectors: {} lists, {lines} lines", lists::ALL.len());

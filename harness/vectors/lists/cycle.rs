@@ -1,7 +1,7 @@
 //! A list of phases on the single-particle cell.
 use super::charge::{self, between};
 use super::solver::{alike_counts, cell_kinds, config, diffusivity_out, equal_electrodes, pairs_of_sheets, random_cell};
-use super::{low_current, reference};
+use super::{low_current, reference, sub_steps};
 use crate::cover::{arguments, one_fault, pairs, singles, Argument, Kind};
 use crate::draw::Draw;
 use calls::cycle::Phase::{Charge, Discharge, Rest};
@@ -376,6 +376,7 @@ pub fn cases(draw: &mut Draw) -> Vec<Vec<Slot>> {
     all.extend(other_cells(draw, &nmc));
     all.extend(reference::cycles(draw));
     all.extend(charge::cycles());
+    all.extend(sub_steps::cycles(draw));
     all
 }
 

@@ -15,6 +15,7 @@ mod particle;
 pub mod reference;
 mod replay;
 mod solver;
+pub mod sub_steps;
 
 pub struct List {
     pub name: &'static str,

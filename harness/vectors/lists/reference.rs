@@ -11,10 +11,11 @@ use crate::cover::one_fault;
 use crate::draw::Draw;
 use calls::cycle::Phase::{Charge, Discharge, Rest};
 use calls::cycle::Schedule;
+use calls::earlier;
 use calls::electrode::{Sheet, RANGES};
 use calls::electrolyte::{Electrolyte, Params, Regions, POROSITY};
 use calls::particle::Particle;
-use calls::solver::{Cell, MOST_SUB_STEPS};
+use calls::solver::{Cell, MOST_SUB_STEPS, SUB_STEP};
 use calls::table::{Range, MOST_FLUX, TEMPERATURE};
 use calls::words::{float, Slot};
 
@@ -223,12 +224,13 @@ fn turned_by_6(at_anode: bool) -> Vec<Turned> {
     all
 }
 
-/// Accepted, or refused with 7, by the reference temperature alone: a small particle, and an interval about which 4,096 sub-steps end.
-fn turned_by_7(at_anode: bool) -> Vec<Turned> {
+/// Accepted, or refused with 7, by the reference temperature alone: a small particle, and an interval about which 4,096 sub-steps end that are at
+/// most this part of the stability limit.
+fn turned_by_7(at_anode: bool, part: f64) -> Vec<Turned> {
     let (anode, cathode) = pairs_of_sheets()[0];
     let mut cell = Cell::new(config(3), anode, cathode).expect("ready sheets");
     sheet_of(&mut cell, at_anode).numbers[0] = 1e-7;
-    let longest = |cell: &Cell, temp_k: f64| MOST_SUB_STEPS * one_sub_step(cell, temp_k);
+    let longest = |cell: &Cell, temp_k: f64| MOST_SUB_STEPS * one_sub_step(cell, part, temp_k);
     let mut all = Vec::new();
     for temp_k in [298.15, 310.0] {
         let before = longest(&cell, temp_k);
@@ -243,18 +245,49 @@ fn turned_by_7(at_anode: bool) -> Vec<Turned> {
     all
 }
 
-fn all_turned() -> Vec<Turned> {
-    [true, false].into_iter().flat_map(|at_anode| turned_by_6(at_anode).into_iter().chain(turned_by_7(at_anode))).collect()
+fn all_turned(part: f64) -> Vec<Turned> {
+    [true, false].into_iter().flat_map(|at_anode| turned_by_6(at_anode).into_iter().chain(turned_by_7(at_anode, part))).collect()
+}
+
+pub fn turned_steps(part: f64) -> Vec<Vec<Slot>> {
+    all_turned(part).iter().map(|t| solver::stepping(&t.cell, 3.0, t.dt, t.temp_k)).collect()
+}
+
+/// No step is due, one is, two are.
+pub fn turned_runs(part: f64) -> Vec<Vec<Slot>> {
+    let run = |Turned { cell, dt, temp_k, .. }| [0.0, dt, 2.0 * dt].map(|limit| solver::running(&cell, [3.0, dt, temp_k, limit], 24));
+    all_turned(part).into_iter().flat_map(run).collect()
+}
+
+/// No line; the line alone; after one that is accepted, but for 6.
+pub fn turned_replays(part: f64) -> Vec<Vec<Slot>> {
+    let mut all = Vec::new();
+    for Turned { cell, dt, temp_k, .. } in all_turned(part) {
+        for lines in [&[][..], &[[dt, 3.0]], &[[1e-3, 1.0], [dt, 3.0]]] {
+            all.push(replaying(&cell, &text(lines), temp_k, 24));
+        }
+    }
+    all
+}
+
+pub fn turned_cycles(part: f64) -> Vec<Vec<Slot>> {
+    let mut all = Vec::new();
+    for Turned { cell, dt, temp_k, .. } in all_turned(part) {
+        for first in [Charge(3.0), Rest(dt), Discharge(3.0)] {
+            all.push(fitting(&cell, &Schedule { temp_k, ..schedule(&[first, Rest(0.0)], 1, 2, dt) }));
+        }
+    }
+    all
 }
 
 pub fn cell_steps(draw: &mut Draw) -> Vec<Vec<Slot>> {
     let mut all = Vec::new();
     for (cell, temp_k) in ready_cells(draw) {
-        let dt = interval(one_sub_step(&cell, temp_k) * draw.pick(&[0.5, 1.0, 2.5, 30.0]));
+        let dt = interval(one_sub_step(&cell, earlier::SUB_STEP, temp_k) * draw.pick(&[0.5, 1.0, 2.5, 30.0]));
         all.push(solver::stepping(&cell, draw.uniform(-20.0, 20.0), dt, temp_k));
     }
-    let turned = all_turned();
-    all.extend(turned.iter().map(|t| solver::stepping(&t.cell, 3.0, t.dt, t.temp_k)));
+    all.extend(turned_steps(earlier::SUB_STEP));
+    let turned = all_turned(earlier::SUB_STEP);
     // 6 and 7, each with a fault of a lower number
     for number in [6, 7] {
         let t = turned.iter().find(|t| t.numbers[1] == number).expect("a refused step");
@@ -266,7 +299,7 @@ pub fn cell_steps(draw: &mut Draw) -> Vec<Vec<Slot>> {
         let cell = cell(draw, n);
         let t_ref = draw.pick(&[&cell.anode, &cell.cathode]).sheet.numbers[9];
         let temp_k = temperature(draw, t_ref);
-        let dt = interval(one_sub_step(&cell, temp_k) * draw.pick(&[0.5, 1.0, 2.5, 30.0]));
+        let dt = interval(one_sub_step(&cell, earlier::SUB_STEP, temp_k) * draw.pick(&[0.5, 1.0, 2.5, 30.0]));
         let current = cell.anode.sheet.numbers[6] * draw.pick(&[0.0, -0.0, 1.0, -1.0, 30.0]) * draw.unit();
         all.push(solver::stepping(&cell, current, dt, temp_k));
     }
@@ -276,47 +309,35 @@ pub fn cell_steps(draw: &mut Draw) -> Vec<Vec<Slot>> {
 pub fn runs(draw: &mut Draw) -> Vec<Vec<Slot>> {
     let mut all = Vec::new();
     for (cell, temp_k) in ready_cells(draw) {
-        let dt = interval(one_sub_step(&cell, temp_k) * draw.pick(&[0.5, 1.0, 4.0]));
+        let dt = interval(one_sub_step(&cell, earlier::SUB_STEP, temp_k) * draw.pick(&[0.5, 1.0, 4.0]));
         let numbers = [current(draw), dt, temp_k, dt * draw.uniform(0.0, 12.0)];
         all.push(solver::running(&cell, numbers, draw.count(8, 80)));
     }
-    for Turned { cell, dt, temp_k, .. } in all_turned() {
-        // no step is due, one is, two are
-        all.extend([0.0, dt, 2.0 * dt].map(|limit| solver::running(&cell, [3.0, dt, temp_k, limit], 24)));
-    }
+    all.extend(turned_runs(earlier::SUB_STEP));
     all
 }
 
 pub fn replays(draw: &mut Draw) -> Vec<Vec<Slot>> {
     let mut all = Vec::new();
     for (cell, temp_k) in ready_cells(draw) {
-        let least = one_sub_step(&cell, temp_k);
+        let least = one_sub_step(&cell, earlier::SUB_STEP, temp_k);
         let loads: Vec<[f64; 2]> = (0..draw.count(1, 6)).map(|_| [interval(least * draw.uniform(0.1, 4.0)), current(draw)]).collect();
         all.push(replaying(&cell, &text(&loads), temp_k, draw.count(8, 56)));
     }
-    for Turned { cell, dt, temp_k, .. } in all_turned() {
-        // no line; the line alone; after one that is accepted, but for 6
-        for lines in [&[][..], &[[dt, 3.0]], &[[1e-3, 1.0], [dt, 3.0]]] {
-            all.push(replaying(&cell, &text(lines), temp_k, 24));
-        }
-    }
+    all.extend(turned_replays(earlier::SUB_STEP));
     all
 }
 
 pub fn cycles(draw: &mut Draw) -> Vec<Vec<Slot>> {
     let mut all = Vec::new();
     for (cell, temp_k) in ready_cells(draw) {
-        let dt = interval(one_sub_step(&cell, temp_k) * draw.uniform(0.1, 4.0));
+        let dt = interval(one_sub_step(&cell, earlier::SUB_STEP, temp_k) * draw.uniform(0.1, 4.0));
         let (out, back) = (Discharge(current(draw).abs()), Charge(current(draw).abs()));
         let phases = draw.pick(&[[out, Rest(1.5 * dt), back], [Rest(2.0 * dt), back, out], [back, out, Rest(dt)]]);
         let repeats = draw.count(1, 3);
         all.push(fitting(&cell, &Schedule { temp_k, ..schedule(&phases, repeats, draw.count(1, 7), dt) }));
     }
-    for Turned { cell, dt, temp_k, .. } in all_turned() {
-        for first in [Charge(3.0), Rest(dt), Discharge(3.0)] {
-            all.push(fitting(&cell, &Schedule { temp_k, ..schedule(&[first, Rest(0.0)], 1, 2, dt) }));
-        }
-    }
+    all.extend(turned_cycles(earlier::SUB_STEP));
     all
 }
 
@@ -380,7 +401,7 @@ const LONG_STEP: [f64; 4] = [0.0, 0.0, 86_400.0, 400.0];
 
 /// Ends the program where a case is not turned by its reference temperature, after the lists are written.
 pub fn check_turned() {
-    all_turned().iter().for_each(Turned::check);
+    all_turned(SUB_STEP).iter().for_each(Turned::check);
     for (d_e_ref, t_ref, numbers) in TURNED_BY_8 {
         let [j_n_neg, j_n_pos, dt, temp_k] = LONG_STEP;
         let number = |t_ref: f64| peaks(d_e_ref, t_ref).step_concentration(j_n_neg, j_n_pos, dt, temp_k).err().unwrap_or(0);

@@ -1,5 +1,5 @@
 //! A recorded load on the single-particle cell.
-use super::{charge, low_current, reference};
+use super::{charge, low_current, reference, sub_steps};
 use super::solver::{alike_counts, cell_kinds, config, diffusivity_out, equal_electrodes, pairs_of_sheets, random_cell};
 use crate::cover::{arguments, one_fault, pairs, singles, Argument, Kind};
 use crate::draw::Draw;
@@ -289,6 +289,7 @@ pub fn cases(draw: &mut Draw) -> Vec<Vec<Slot>> {
     }
     all.extend(reference::replays(draw));
     all.extend(charge::replays());
+    all.extend(sub_steps::replays(draw));
     all
 }
 

@@ -1,8 +1,9 @@
 //! The single-particle cell's calls and its run.
 use super::electrode::{self, random_sheet, ready_sheets};
-use super::{about_small_limit, charge, low_current, number, particle, reference, READY_REFERENCE};
+use super::{about_small_limit, charge, low_current, number, particle, reference, sub_steps, READY_REFERENCE};
 use crate::cover::{arguments, one_fault, pairs, singles, Argument, Kind};
 use crate::draw::Draw;
+use calls::earlier;
 use calls::electrode::Sheet;
 use calls::runs::ROW;
 use calls::solver::{Cell, Config, DIFFUSIVITY, RANGES};
@@ -84,10 +85,10 @@ pub(super) fn step_base(cell: &Cell, current_a: f64, dt: f64, temp_k: f64) -> Ve
     arguments(stepping(cell, current_a, dt, temp_k), kinds)
 }
 
-/// The largest dt that makes one sub-step.
-pub(super) fn one_sub_step(cell: &Cell, temp_k: f64) -> f64 {
-    let stable = |p: &calls::particle::Particle| p.dt_stable(temp_k).expect("a particle in range") * 0.45;
-    stable(&cell.anode).min(stable(&cell.cathode))
+/// The largest dt that makes one sub-step of at most this part of the stability limit.
+pub(super) fn one_sub_step(cell: &Cell, part: f64, temp_k: f64) -> f64 {
+    let longest = |p: &calls::particle::Particle| p.dt_stable(temp_k).expect("a particle in range") * part;
+    longest(&cell.anode).min(longest(&cell.cathode))
 }
 
 /// Cells whose three counts of nodes are alike, at the limits and outside: neither particle's count differs from the config's.
@@ -177,8 +178,8 @@ pub fn step_cases(draw: &mut Draw) -> Vec<Vec<Slot>> {
     let mut quick = random_cell(draw, config(3), pairs_of_sheets()[0]);
     quick.anode.sheet.numbers[0] = 1e-7;
     all.extend(one_fault(&step_base(&quick, 3.0, 86_400.0, 298.15)));
-    // a quotient of 4,096 exactly and its neighbours
-    let least = one_sub_step(&quick, 298.15);
+    // a quotient of 4,096 exactly and its neighbours, by the earlier sub-steps
+    let least = one_sub_step(&quick, earlier::SUB_STEP, 298.15);
     for whole in [1.0, 2.0, 4096.0] {
         for dt in [(least * whole).next_down(), least * whole, (least * whole).next_up()] {
             all.push(stepping(&quick, 0.5, dt, 298.15));
@@ -200,7 +201,7 @@ pub fn step_cases(draw: &mut Draw) -> Vec<Vec<Slot>> {
         if refused && draw.below(8) != 0 {
             continue;
         }
-        let dt = (one_sub_step(&cell, temp_k) * draw.pick(&[0.5, 1.0, 2.5, 30.0])).clamp(f64::MIN_POSITIVE, 86_400.0);
+        let dt = (one_sub_step(&cell, earlier::SUB_STEP, temp_k) * draw.pick(&[0.5, 1.0, 2.5, 30.0])).clamp(f64::MIN_POSITIVE, 86_400.0);
         let current = cell.anode.sheet.numbers[6] * draw.pick(&[0.0, -0.0, 1.0, -1.0, 30.0, 1e3]) * draw.unit();
         all.push(stepping(&cell, current.clamp(-MOST_CURRENT, MOST_CURRENT), dt, temp_k));
     }
@@ -218,6 +219,7 @@ pub fn step_cases(draw: &mut Draw) -> Vec<Vec<Slot>> {
     all.extend(low_rate_steps(draw));
     all.extend(reference::cell_steps(draw));
     all.extend(charge::cell_steps(draw));
+    all.extend(sub_steps::cell_steps(draw));
     all
 }
 
@@ -315,6 +317,7 @@ pub fn run_cases(draw: &mut Draw) -> Vec<Vec<Slot>> {
     }
     all.extend(reference::runs(draw));
     all.extend(charge::runs());
+    all.extend(sub_steps::runs(draw));
     all
 }
 
