@@ -2,20 +2,14 @@
 //! the current's sign. A row whose current has no negative sign has to keep its bits; one of a charge may have a higher voltage, and with it
 //! another cutoff, and nothing else.
 use crate::call::{Answer, Call, Function};
-use crate::rows::{cell_of, interval, rows_of, temperature, Row, CURRENT, CUTOFF, FUNCTIONS, VOLTAGE};
+use crate::rows::{cell_of, interval, rows_of, temperature, Row, Table, CURRENT, CUTOFF, FUNCTIONS, VOLTAGE};
 use calls::earlier::EarlierOhmicDrop;
-use std::collections::{BTreeMap, BTreeSet};
 
 const COLUMNS: [&str; 5] = ["not negative", "-0", "charge, same", "higher", "and cutoff"];
 
 /// Rows by `COLUMNS`.
-type Counts = [u64; COLUMNS.len()];
-
 #[derive(Default)]
-pub struct OhmicDrop {
-    by_function: BTreeMap<Function, Counts>,
-    wrong: BTreeSet<String>,
-}
+pub struct OhmicDrop(Table<{ COLUMNS.len() }>);
 
 /// Whether a call can have a row in a column: a cycle's currents are never -0.
 fn can(function: Function, column: &str) -> bool {
@@ -50,32 +44,24 @@ impl OhmicDrop {
             return;
         }
         let (mut earlier, temp_k) = (EarlierOhmicDrop::of(&cell_of(call)), temperature(call));
-        let counts = self.by_function.entry(function).or_default();
         for (number, now) in rows_of(call, oracle).iter().enumerate() {
             let before = earlier.row(now[CURRENT], interval(call, number), temp_k);
             match column(&before, now) {
-                Some(at) => counts[at] += 1,
-                None => {
-                    self.wrong.insert(format!("{}, a row at {:e} A: before {before:?}, now {now:?}", function.name(), now[CURRENT]));
-                }
+                Some(at) => self.0.add(function, at),
+                None => self.0.add_wrong(format!("{}, a row at {:e} A: before {before:?}, now {now:?}", function.name(), now[CURRENT])),
             }
         }
     }
 
     pub fn join(&mut self, other: Self) {
-        for (function, counts) in other.by_function {
-            let own = self.by_function.entry(function).or_default();
-            own.iter_mut().zip(counts).for_each(|(own, count)| *own += count);
-        }
-        self.wrong.extend(other.wrong);
+        self.0.join(other.0);
     }
 
     /// The table, and what a comparison that has seen everything would have.
     pub fn print(&self) -> Vec<String> {
-        let mut missing: Vec<String> = self.wrong.iter().take(10).cloned().collect();
-        println!("{:<24}{}", "rows, by the current", COLUMNS.map(|name| format!("{name:>14}")).concat());
+        let mut missing = self.0.print_head("rows, by the current", COLUMNS);
         for function in FUNCTIONS {
-            let counts = self.by_function.get(&function).copied().unwrap_or_default();
+            let counts = self.0.counts(function);
             let mut line = format!("{:<24}", function.name());
             for (count, name) in counts.into_iter().zip(COLUMNS) {
                 line += &if can(function, name) { format!("{count:>14}") } else { format!("{:>14}", "-") };

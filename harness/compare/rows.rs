@@ -1,10 +1,11 @@
-//! The rows of an accepted call of the single-particle cell, and with what each was asked.
+//! The rows of an accepted call of the single-particle cell, with what each was asked, and a table of what became of calls or rows since a change request.
 use crate::call::{Answer, Argument, Call, Function};
 use crate::images::{slots_of, words_of};
 use calls::replay::LINE;
 use calls::runs::ROW;
 use calls::solver::Cell;
 use calls::words::Reader;
+use std::collections::{BTreeMap, BTreeSet};
 
 /// The calls that have such rows.
 pub const FUNCTIONS: [Function; 4] = [Function::CellStep, Function::Discharge, Function::Replay, Function::Cycle];
@@ -49,4 +50,44 @@ pub fn interval(call: &Call, row: usize) -> f64 {
     }
     let digits = std::str::from_utf8(&call.text[row * LINE..][..16]).expect("digits");
     f64::from_bits(u64::from_str_radix(digits, 16).expect("digits"))
+}
+
+/// Counts by call and column, and what was wrong.
+pub struct Table<const N: usize> {
+    by_function: BTreeMap<Function, [u64; N]>,
+    wrong: BTreeSet<String>,
+}
+
+impl<const N: usize> Default for Table<N> {
+    fn default() -> Self {
+        Self { by_function: BTreeMap::new(), wrong: BTreeSet::new() }
+    }
+}
+
+impl<const N: usize> Table<N> {
+    pub fn add(&mut self, function: Function, column: usize) {
+        self.by_function.entry(function).or_insert([0; N])[column] += 1;
+    }
+
+    pub fn add_wrong(&mut self, why: String) {
+        self.wrong.insert(why);
+    }
+
+    pub fn counts(&self, function: Function) -> [u64; N] {
+        self.by_function.get(&function).copied().unwrap_or([0; N])
+    }
+
+    pub fn join(&mut self, other: Self) {
+        for (function, counts) in other.by_function {
+            let own = self.by_function.entry(function).or_insert([0; N]);
+            own.iter_mut().zip(counts).for_each(|(own, count)| *own += count);
+        }
+        self.wrong.extend(other.wrong);
+    }
+
+    /// Prints the names of the columns; the first ten of what was wrong.
+    pub fn print_head(&self, title: &str, columns: [&str; N]) -> Vec<String> {
+        println!("{title:<24}{}", columns.map(|name| format!("{name:>14}")).concat());
+        self.wrong.iter().take(10).cloned().collect()
+    }
 }

@@ -2,22 +2,16 @@
 //! cell have to have the bits that a solver without that request gives. No count may be less, and no step that was refused with 7 may be accepted.
 use crate::call::{Answer, Call, Function};
 use crate::images::{image_of, words_of, Record};
-use crate::rows::{cell_of, interval, rows_of, temperature, Row, CURRENT, FUNCTIONS};
+use crate::rows::{cell_of, interval, rows_of, temperature, Row, Table, CURRENT, FUNCTIONS};
 use calls::earlier::{self, EarlierSubSteps};
 use calls::solver::{count_sub_steps, Cell, SUB_STEP};
-use std::collections::{BTreeMap, BTreeSet};
 
 /// All counts are alike; one is more; a step is refused with 7 that was not before.
 const COLUMNS: [&str; 3] = ["alike", "more", "now 7"];
 
 /// Calls by `COLUMNS`.
-type Counts = [u64; COLUMNS.len()];
-
 #[derive(Default)]
-pub struct SubSteps {
-    by_function: BTreeMap<Function, Counts>,
-    wrong: BTreeSet<String>,
-}
+pub struct SubSteps(Table<{ COLUMNS.len() }>);
 
 /// Whether a solver without the request makes the same rows and the same cell of them.
 fn same_before(call: &Call, oracle: &Answer, cell: &Cell, rows: &[Row]) -> bool {
@@ -73,26 +67,21 @@ impl SubSteps {
             return;
         }
         match column(call, oracle) {
-            Ok(Some(at)) => self.by_function.entry(function).or_default()[at] += 1,
+            Ok(Some(at)) => self.0.add(function, at),
             Ok(None) => {}
-            Err(why) => drop(self.wrong.insert(format!("{}: {why}", function.name()))),
+            Err(why) => self.0.add_wrong(format!("{}: {why}", function.name())),
         }
     }
 
     pub fn join(&mut self, other: Self) {
-        for (function, counts) in other.by_function {
-            let own = self.by_function.entry(function).or_default();
-            own.iter_mut().zip(counts).for_each(|(own, count)| *own += count);
-        }
-        self.wrong.extend(other.wrong);
+        self.0.join(other.0);
     }
 
     /// The table, and what a comparison that has seen everything would have.
     pub fn print(&self) -> Vec<String> {
-        let mut missing: Vec<String> = self.wrong.iter().take(10).cloned().collect();
-        println!("{:<24}{}", "calls, by sub-steps", COLUMNS.map(|name| format!("{name:>14}")).concat());
+        let mut missing = self.0.print_head("calls, by sub-steps", COLUMNS);
         for function in FUNCTIONS {
-            let counts = self.by_function.get(&function).copied().unwrap_or_default();
+            let counts = self.0.counts(function);
             println!("{:<24}{}", function.name(), counts.map(|count| format!("{count:>14}")).concat());
             for (_, name) in counts.into_iter().zip(COLUMNS).filter(|(count, _)| *count == 0) {
                 missing.push(format!("sub-steps before and now: {} has no call under '{name}'", function.name()));
