@@ -6,6 +6,7 @@ use lib.Dec.{eqb}
 use lib.ListN.{length}
 use lib.Ieee.{Float}
 use Rattle.refusal.specs.Numbers as N
+use Rattle.runs.specs.Lowest.{Room}
 use Rattle.replay_run.specs.Replay.{textFits}
 use Rattle.cycle_run.specs.declared.CycleSettings.{CycleSettings}
 use Rattle.cell_calls.specs.Runs as C
@@ -15,14 +16,17 @@ use Rattle.image_layout.specs.Layout.{cellBytes, cellRunBytes, phasesBytes, dfn
 
 -- ---- a single-particle cell
 
-unfoldable pub dischargeReturn : List ℕ → Float → Float → Float → Float → ℕ → ℕ → ℕ
-dischargeReturn s i dt t limit places answer = afterLengths (lengths (length s) cellBytes answer cellRunBytes) (C.dischargeReturn s i dt t limit places)
+unfoldable pub dischargeReturn : List ℕ → Float → Float → Float → Float → Room → ℕ → ℕ
+dischargeReturn s i dt t limit room answer = afterLengths (lengths (length s) cellBytes answer cellRunBytes) (C.dischargeReturn s i dt t limit room)
 
-unfoldable pub dischargeRows : List ℕ → Float → Float → Float → Float → List Float → ℕ → List Float
-dischargeRows s i dt t limit l answer = cond (lengths (length s) cellBytes answer cellRunBytes) (C.dischargeRows s i dt t limit l) l
+unfoldable pub dischargeRows : List ℕ → Float → Float → Float → Float → List Float → List Float → ℕ → List Float
+dischargeRows s i dt t limit rows lowest answer = cond (lengths (length s) cellBytes answer cellRunBytes) (C.dischargeRows s i dt t limit rows lowest) rows
 
-unfoldable pub dischargeAfter : List ℕ → Float → Float → Float → Float → ℕ → List ℕ → List ℕ
-dischargeAfter s i dt t limit places a = cond (lengths (length s) cellBytes (length a) cellRunBytes) (C.dischargeAfter s i dt t limit places a) a
+unfoldable pub dischargeLowest : List ℕ → Float → Float → Float → Float → List Float → List Float → ℕ → List Float
+dischargeLowest s i dt t limit rows lowest answer = cond (lengths (length s) cellBytes answer cellRunBytes) (C.dischargeLowest s i dt t limit rows lowest) lowest
+
+unfoldable pub dischargeAfter : List ℕ → Float → Float → Float → Float → Room → List ℕ → List ℕ
+dischargeAfter s i dt t limit room a = cond (lengths (length s) cellBytes (length a) cellRunBytes) (C.dischargeAfter s i dt t limit room a) a
 
 -- ---- a recorded load on a single-particle cell: 12 before the lengths
 
@@ -53,12 +57,15 @@ cycleAfter s phases g places a = cond (cycleLengths (length s) (length phases) (
 
 -- ---- a Doyle-Fuller-Newman cell
 
-unfoldable pub galvanostaticReturn : List ℕ → Float → Float → Float → ℕ → ℕ → ℕ
-galvanostaticReturn s i dt limit places answer = afterLengths (lengths (length s) dfnBytes answer dfnRunBytes) (P.galvanostaticReturn s i dt limit places)
+unfoldable pub galvanostaticReturn : List ℕ → Float → Float → Float → Room → ℕ → ℕ
+galvanostaticReturn s i dt limit room answer = afterLengths (lengths (length s) dfnBytes answer dfnRunBytes) (P.galvanostaticReturn s i dt limit room)
 
-unfoldable pub galvanostaticRows : List ℕ → Float → Float → Float → List Float → ℕ → List Float
-galvanostaticRows s i dt limit l answer = cond (lengths (length s) dfnBytes answer dfnRunBytes) (P.galvanostaticRows s i dt limit l) l
+unfoldable pub galvanostaticRows : List ℕ → Float → Float → Float → List Float → List Float → ℕ → List Float
+galvanostaticRows s i dt limit rows lowest answer = cond (lengths (length s) dfnBytes answer dfnRunBytes) (P.galvanostaticRows s i dt limit rows lowest) rows
 
-unfoldable pub galvanostaticAfter : List ℕ → Float → Float → Float → ℕ → List ℕ → List ℕ
-galvanostaticAfter s i dt limit places a =
-    cond (lengths (length s) dfnBytes (length a) dfnRunBytes) (P.galvanostaticAfter s i dt limit places a) a
+unfoldable pub galvanostaticLowest : List ℕ → Float → Float → Float → List Float → List Float → ℕ → List Float
+galvanostaticLowest s i dt limit rows lowest answer = cond (lengths (length s) dfnBytes answer dfnRunBytes) (P.galvanostaticLowest s i dt limit rows lowest) lowest
+
+unfoldable pub galvanostaticAfter : List ℕ → Float → Float → Float → Room → List ℕ → List ℕ
+galvanostaticAfter s i dt limit room a =
+    cond (lengths (length s) dfnBytes (length a) dfnRunBytes) (P.galvanostaticAfter s i dt limit room a) a

@@ -11,6 +11,9 @@ use image_layout::DFN_BYTES;
 use image_layout::DFN_RUN_BYTES;
 use image_layout::DFN_STEP_BYTES;
 use image_layout::ELECTROLYTE_BYTES;
+use image_layout::FOUND_BYTES;
+use image_layout::FOUND_HOW;
+use image_layout::FOUND_ROW;
 use image_layout::NUMBER_BYTES;
 use image_layout::PARTICLE_BYTES;
 use image_layout::PHASES_BYTES;
@@ -18,12 +21,15 @@ use image_layout::SOLUTION_BYTES;
 use image_numbers::number_length;
 use image_numbers::number_of;
 use refusal::Answer;
+use row_search::Found;
 ghost use mathlib.Core.Path.{_≡_};
 ghost use lib.ListN.{length};
 ghost use Rattle.codec.specs.Words.{putRow};
+ghost use Rattle.runs.specs.Lowest.{roomOf};
 ghost use Rattle.cycle_run.specs.Cycle.{cycleSettings};
 ghost use Rattle.boundary.specs.Calls.{listed, lengths, numberCall, buildReturn, buildAfter, particleReturn, particleAfter, cellReturn, cellAfter, electrolyteReturn, electrolyteAfter, dfnReturn, dfnAfter, denseReturn, denseAfter};
-ghost use Rattle.boundary.specs.Runs.{dischargeReturn, dischargeRows, dischargeAfter, replayReturn, replayRows, replayAfter, cycleLengths, cycleReturn, cycleRows, cycleAfter, galvanostaticReturn, galvanostaticRows, galvanostaticAfter};
+ghost use Rattle.boundary.specs.Search.{searchReturn, searchAfter};
+ghost use Rattle.boundary.specs.Runs.{dischargeReturn, dischargeRows, dischargeLowest, dischargeAfter, replayReturn, replayRows, replayAfter, cycleLengths, cycleReturn, cycleRows, cycleAfter, galvanostaticReturn, galvanostaticRows, galvanostaticLowest, galvanostaticAfter};
 
 // Whether a call is listed: 1 to n.
 fn is_listed(call: u64, n: u64) -> bool
@@ -166,16 +172,27 @@ pub extern "C" fn pj_simulate_discharge(
     temp_k: f64,
     max_time_s: f64,
     rows: &mut [f64],
+    lowest: &mut [f64],
     answer: &mut [u8],
 ) -> u64
-    ensures number { λ r. ⌜ r ≡ dischargeReturn (now (cell .entry)) «current_a» dt «temp_k» «max_time_s» (length (now (rows .entry))) (length (now (answer .entry))) ⌝ }
-    ensures rows { λ _. ⌜ now (rows .exit) ≡ dischargeRows (now (cell .entry)) «current_a» dt «temp_k» «max_time_s» (now (rows .entry)) (length (now (answer .entry))) ⌝ }
-    ensures written { λ _. ⌜ now (answer .exit) ≡ dischargeAfter (now (cell .entry)) «current_a» dt «temp_k» «max_time_s» (length (now (rows .entry))) (now (answer .entry)) ⌝ }
+    ensures number { λ r. ⌜ r ≡ dischargeReturn (now (cell .entry)) «current_a» dt «temp_k» «max_time_s» (roomOf (length (now (rows .entry))) (length (now (lowest .entry)))) (length (now (answer .entry))) ⌝ }
+    ensures rows { λ _. ⌜ now (rows .exit) ≡ dischargeRows (now (cell .entry)) «current_a» dt «temp_k» «max_time_s» (now (rows .entry)) (now (lowest .entry)) (length (now (answer .entry))) ⌝ }
+    ensures lowest { λ _. ⌜ now (lowest .exit) ≡ dischargeLowest (now (cell .entry)) «current_a» dt «temp_k» «max_time_s» (now (rows .entry)) (now (lowest .entry)) (length (now (answer .entry))) ⌝ }
+    ensures written { λ _. ⌜ now (answer .exit) ≡ dischargeAfter (now (cell .entry)) «current_a» dt «temp_k» «max_time_s» (roomOf (length (now (rows .entry))) (length (now (lowest .entry)))) (now (answer .entry)) ⌝ }
 {
     if !lengths_fit(cell.len(), CELL_BYTES, answer.len(), CELL_RUN_BYTES) {
         return refusal::LENGTH;
     }
-    cell_calls::simulate_discharge(cell, current_a, dt, temp_k, max_time_s, rows, answer)
+    cell_calls::simulate_discharge(
+        cell,
+        current_a,
+        dt,
+        temp_k,
+        max_time_s,
+        rows,
+        lowest,
+        answer,
+    )
 }
 
 // A recorded load replayed on a single-particle cell; its answer as in a run. A text that is too long is 12, whatever the lengths.
@@ -248,16 +265,50 @@ pub extern "C" fn pj_run_galvanostatic(
     dt_s: f64,
     max_time_s: f64,
     rows: &mut [f64],
+    lowest: &mut [f64],
     answer: &mut [u8],
 ) -> u64
-    ensures number { λ r. ⌜ r ≡ galvanostaticReturn (now (cell .entry)) «current_a» «dt_s» «max_time_s» (length (now (rows .entry))) (length (now (answer .entry))) ⌝ }
-    ensures rows { λ _. ⌜ now (rows .exit) ≡ galvanostaticRows (now (cell .entry)) «current_a» «dt_s» «max_time_s» (now (rows .entry)) (length (now (answer .entry))) ⌝ }
-    ensures written { λ _. ⌜ now (answer .exit) ≡ galvanostaticAfter (now (cell .entry)) «current_a» «dt_s» «max_time_s» (length (now (rows .entry))) (now (answer .entry)) ⌝ }
+    ensures number { λ r. ⌜ r ≡ galvanostaticReturn (now (cell .entry)) «current_a» «dt_s» «max_time_s» (roomOf (length (now (rows .entry))) (length (now (lowest .entry)))) (length (now (answer .entry))) ⌝ }
+    ensures rows { λ _. ⌜ now (rows .exit) ≡ galvanostaticRows (now (cell .entry)) «current_a» «dt_s» «max_time_s» (now (rows .entry)) (now (lowest .entry)) (length (now (answer .entry))) ⌝ }
+    ensures lowest { λ _. ⌜ now (lowest .exit) ≡ galvanostaticLowest (now (cell .entry)) «current_a» «dt_s» «max_time_s» (now (rows .entry)) (now (lowest .entry)) (length (now (answer .entry))) ⌝ }
+    ensures written { λ _. ⌜ now (answer .exit) ≡ galvanostaticAfter (now (cell .entry)) «current_a» «dt_s» «max_time_s» (roomOf (length (now (rows .entry))) (length (now (lowest .entry)))) (now (answer .entry)) ⌝ }
 {
     if !lengths_fit(cell.len(), DFN_BYTES, answer.len(), DFN_RUN_BYTES) {
         return refusal::LENGTH;
     }
-    dfn_calls::run_galvanostatic(cell, current_a, dt_s, max_time_s, rows, answer)
+    dfn_calls::run_galvanostatic(cell, current_a, dt_s, max_time_s, rows, lowest, answer)
+}
+
+// The first of `count` rows under a voltage, found by the lowest of each group; its answer is 1 and the row, or 2 and 0 for none.
+#[no_mangle]
+pub extern "C" fn pj_first_below(
+    which: u64,
+    rows: &[f64],
+    lowest: &[f64],
+    count: usize,
+    voltage: f64,
+    answer: &mut [u8],
+) -> u64
+    ensures number { λ r. ⌜ r ≡ searchReturn which (now (rows .entry)) (now (lowest .entry)) count voltage (length (now (answer .entry))) ⌝ }
+    ensures written { λ _. ⌜ now (answer .exit) ≡ searchAfter which (now (rows .entry)) (now (lowest .entry)) count voltage (now (answer .entry)) ⌝ }
+{
+    if answer.len() != FOUND_BYTES {
+        return refusal::LENGTH;
+    }
+    let found = row_search::first_below(which, rows, lowest, count, voltage);
+    match found {
+        Found::Row(j) => {
+            codec::write_word(answer, FOUND_HOW, 1);
+            codec::write_word(answer, FOUND_ROW, j as u64);
+            0
+        }
+        Found::None => {
+            codec::write_word(answer, FOUND_HOW, 2);
+            codec::write_word(answer, FOUND_ROW, 0);
+            0
+        }
+        Found::Refused(k) => k,
+    }
 }
 
 // The solution of n equations.

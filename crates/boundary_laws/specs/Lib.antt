@@ -10,6 +10,7 @@
 --   MixedDemand       theorem 2 of lists that mix builds, steps, runs, replays and cycles, `mixed-images-near`, from the cell of the last accepted build
 --   Instance          the cell of `pj_build` 8 and six calls of `pj_cell_step`, three refused and one with a short answer: `image-near`, `image-ranked`
 --   ParticleInstance  the particle of `pj_build` 7 and six calls of `pj_particle_step`: `particle-image-near`, K = 3
+--   SearchedRuns      `discharge-first-below`, `galvanostatic-first-below`: on the rows and the summary that a run from C left, the search from C answers what a full read gives
 --   MixedInstance     two builds, three steps, a run, a replay and a cycle from an image of zeros: `mixed-image-near`
 --
 -- WHAT THEY STAND ON
@@ -28,3 +29,4 @@ pub mod MixedDemand
 pub mod Instance
 pub mod ParticleInstance
 pub mod MixedInstance
+pub mod SearchedRuns

@@ -9,6 +9,7 @@ use lib.Dec.{lit≤}
 use Rattle.fraction.specs.Fraction.{nat, pow2, _-F_, _*F_, _/F_, _within_}
 use Rattle.elementary.specs.Exp.{one}
 use Rattle.iterate.specs.Iterate.{allBelow}
+use Rattle.runs.specs.Lowest.{roomOf}
 use Rattle.solver.specs.declared.SpmSolver.{SpmSolver}
 use Rattle.solver_laws.specs.Electrodes.{Electrode}
 use Rattle.solver_laws.specs.Demand as SD
@@ -43,7 +44,7 @@ graphiteLfp = record { call = 8; least = lit≤ tt; most = lit≤ tt; image = co
 
 -- no place for a row
 abbrev noRoom : CellRun
-noRoom = record { current = draw three one .current; dt = draw three one .dt; temp = draw three one .temp; limit = one; places = 0 }
+noRoom = record { current = draw three one .current; dt = draw three one .dt; temp = draw three one .temp; limit = one; places = roomOf 0 0 }
 
 -- no line
 abbrev noLines : CellReplay
@@ -73,8 +74,8 @@ unfolding wellFormed buildLength
 formed-calls = rw config-length
 
 -- a run without room makes no step
-no-rows : (w : RunSettings) (c : SpmSolver) → discharged w c 0 .rows ≡ 0
-no-rows w c = let m = rows-most w c 0 in omega (arith, m)
+no-rows : (w : RunSettings) (c : SpmSolver) → discharged w c (roomOf 0 0) .rows ≡ 0
+no-rows w c = let m = rows-most w c (roomOf 0 0) in omega (arith, m)
 
 no-turns : (c : SpmSolver) → turnsOf c noRoom ≡ []
 no-turns c = rw (no-rows _ c)

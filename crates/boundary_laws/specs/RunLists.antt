@@ -10,6 +10,7 @@ use lib.Seq.{length-take-le}
 use lib.Ieee.{Float}
 use Rattle.binary64.specs.Operators.{f64}
 use Rattle.runs.specs.RunAnswers.{writesAnswer}
+use Rattle.runs.specs.Lowest.{Room}
 use Rattle.solver.specs.declared.SpmSolver.{SpmSolver}
 use Rattle.dfn.specs.declared.DfnSolver.{DfnSolver}
 use Rattle.discharge_run.specs.Discharge as DR
@@ -27,19 +28,19 @@ use Rattle.image_laws.specs.ReadBack.{discharge-read-back, galvanostatic-read-b
 use Rattle.boundary_laws.specs.CallLists.{Calls, Implements, writes-on-implements}
 use Rattle.image_layout.specs.Layout.{cellBytes, cellRunBytes, dfnBytes, dfnRunBytes}
 
--- ---- runs: the rows that are lent count only by their number of places
+-- ---- runs: the rows and the summary that are lent count only by their numbers of places
 pub record CellRun : Type 0 where
   pub current : Float
   pub dt : Float
   pub temp : Float
   pub limit : Float
-  pub places : ℕ
+  pub places : Room
 
 pub record DfnRun : Type 0 where
   pub bits : ℕ
   pub dt : Float
   pub limit : Float
-  pub places : ℕ
+  pub places : Room
 
 -- what a run gives
 abbrev pub discharge : SpmSolver → CellRun → DR.RunOutcome

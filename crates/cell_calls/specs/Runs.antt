@@ -6,6 +6,7 @@ use mathlib.Core.List.{List}
 use lib.Ieee.{Float}
 use Rattle.refusal.specs.Numbers as N
 use Rattle.runs.specs.RunAnswers.{writesAnswer}
+use Rattle.runs.specs.Lowest.{Room}
 use Rattle.solver.specs.declared.SpmSolver.{SpmSolver}
 use Rattle.discharge_run.specs.Discharge as S
 use Rattle.replay_run.specs.Replay as R
@@ -22,17 +23,20 @@ runWritten r a = cond (writesAnswer (r .ended .refusal) (r .rows)) (putEnding (p
 
 -- ---- a constant current
 
-abbrev discharge : List ℕ → Float → Float → Float → Float → ℕ → S.RunOutcome
-discharge s i dt t limit places = S.discharged (S.runSettings i dt t limit) (cellAt s) places
+abbrev discharge : List ℕ → Float → Float → Float → Float → Room → S.RunOutcome
+discharge s i dt t limit room = S.discharged (S.runSettings i dt t limit) (cellAt s) room
 
-unfoldable pub dischargeReturn : List ℕ → Float → Float → Float → Float → ℕ → ℕ
-dischargeReturn s i dt t limit places = discharge s i dt t limit places .ended .refusal
+unfoldable pub dischargeReturn : List ℕ → Float → Float → Float → Float → Room → ℕ
+dischargeReturn s i dt t limit room = discharge s i dt t limit room .ended .refusal
 
-unfoldable pub dischargeRows : List ℕ → Float → Float → Float → Float → List Float → List Float
-dischargeRows s i dt t limit l = S.dischargedRows (S.runSettings i dt t limit) (cellAt s) l
+unfoldable pub dischargeRows : List ℕ → Float → Float → Float → Float → List Float → List Float → List Float
+dischargeRows s i dt t limit rows lowest = S.dischargedRows (S.runSettings i dt t limit) (cellAt s) rows lowest
 
-unfoldable pub dischargeAfter : List ℕ → Float → Float → Float → Float → ℕ → List ℕ → List ℕ
-dischargeAfter s i dt t limit places a = runWritten (discharge s i dt t limit places) a
+unfoldable pub dischargeLowest : List ℕ → Float → Float → Float → Float → List Float → List Float → List Float
+dischargeLowest s i dt t limit rows lowest = S.dischargedLowest (S.runSettings i dt t limit) (cellAt s) rows lowest
+
+unfoldable pub dischargeAfter : List ℕ → Float → Float → Float → Float → Room → List ℕ → List ℕ
+dischargeAfter s i dt t limit room a = runWritten (discharge s i dt t limit room) a
 
 -- ---- a recorded load
 

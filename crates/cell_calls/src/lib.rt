@@ -19,9 +19,10 @@ use solver_step::report::SpmState;
 ghost use mathlib.Core.Path.{_≡_};
 ghost use lib.ListN.{length};
 ghost use Rattle.cell_calls.specs.Steps.{particleReturn, particleAfter, putStepped, cellReturn, cellAfter};
+ghost use Rattle.runs.specs.Lowest.{roomOf};
 ghost use Rattle.discharge_run.specs.Discharge.{runOutcome};
 ghost use Rattle.cycle_run.specs.Cycle.{cycleSettings};
-ghost use Rattle.cell_calls.specs.Runs.{runWritten, dischargeReturn, dischargeRows, dischargeAfter, replayReturn, replayRows, replayAfter, cycleReturn, cycleRows, cycleAfter};
+ghost use Rattle.cell_calls.specs.Runs.{runWritten, dischargeReturn, dischargeRows, dischargeLowest, dischargeAfter, replayReturn, replayRows, replayAfter, cycleReturn, cycleRows, cycleAfter};
 
 // A step of a particle.
 pub fn particle_step(particle: &[u8], j_n: f64, dt: f64, temp_k: f64, answer: &mut [u8]) -> u64
@@ -107,11 +108,13 @@ pub fn simulate_discharge(
     temp_k: f64,
     max_time_s: f64,
     rows: &mut [f64],
+    lowest: &mut [f64],
     answer: &mut [u8],
 ) -> u64
-    ensures number { λ r. ⌜ r ≡ dischargeReturn (now (cell .entry)) «current_a» dt «temp_k» «max_time_s» (length (now (rows .entry))) ⌝ }
-    ensures rows { λ _. ⌜ now (rows .exit) ≡ dischargeRows (now (cell .entry)) «current_a» dt «temp_k» «max_time_s» (now (rows .entry)) ⌝ }
-    ensures written { λ _. ⌜ now (answer .exit) ≡ dischargeAfter (now (cell .entry)) «current_a» dt «temp_k» «max_time_s» (length (now (rows .entry))) (now (answer .entry)) ⌝ }
+    ensures number { λ r. ⌜ r ≡ dischargeReturn (now (cell .entry)) «current_a» dt «temp_k» «max_time_s» (roomOf (length (now (rows .entry))) (length (now (lowest .entry)))) ⌝ }
+    ensures rows { λ _. ⌜ now (rows .exit) ≡ dischargeRows (now (cell .entry)) «current_a» dt «temp_k» «max_time_s» (now (rows .entry)) (now (lowest .entry)) ⌝ }
+    ensures lowest { λ _. ⌜ now (lowest .exit) ≡ dischargeLowest (now (cell .entry)) «current_a» dt «temp_k» «max_time_s» (now (rows .entry)) (now (lowest .entry)) ⌝ }
+    ensures written { λ _. ⌜ now (answer .exit) ≡ dischargeAfter (now (cell .entry)) «current_a» dt «temp_k» «max_time_s» (roomOf (length (now (rows .entry))) (length (now (lowest .entry)))) (now (answer .entry)) ⌝ }
 {
     let run = discharge_run::simulate_discharge(
         cell_images::cell_at(cell),
@@ -120,6 +123,7 @@ pub fn simulate_discharge(
         temp_k,
         max_time_s,
         rows,
+        lowest,
     );
     put_run(answer, run)
 }

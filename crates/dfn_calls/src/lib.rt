@@ -16,7 +16,8 @@ use image_rows::put_ending;
 ghost use mathlib.Core.Path.{_≡_};
 ghost use lib.ListN.{length};
 ghost use Rattle.dfn_calls.specs.Steps.{electrolyteReturn, electrolyteAfter, putStepped, dfnReturn, dfnAfter};
-ghost use Rattle.dfn_calls.specs.Runs.{galvanostaticReturn, galvanostaticRows, galvanostaticAfter};
+ghost use Rattle.runs.specs.Lowest.{roomOf};
+ghost use Rattle.dfn_calls.specs.Runs.{galvanostaticReturn, galvanostaticRows, galvanostaticLowest, galvanostaticAfter};
 
 // A step of an electrolyte.
 pub fn electrolyte_step(
@@ -98,11 +99,13 @@ pub fn run_galvanostatic(
     dt_s: f64,
     max_time_s: f64,
     rows: &mut [f64],
+    lowest: &mut [f64],
     answer: &mut [u8],
 ) -> u64
-    ensures number { λ r. ⌜ r ≡ galvanostaticReturn (now (cell .entry)) «current_a» «dt_s» «max_time_s» (length (now (rows .entry))) ⌝ }
-    ensures rows { λ _. ⌜ now (rows .exit) ≡ galvanostaticRows (now (cell .entry)) «current_a» «dt_s» «max_time_s» (now (rows .entry)) ⌝ }
-    ensures written { λ _. ⌜ now (answer .exit) ≡ galvanostaticAfter (now (cell .entry)) «current_a» «dt_s» «max_time_s» (length (now (rows .entry))) (now (answer .entry)) ⌝ }
+    ensures number { λ r. ⌜ r ≡ galvanostaticReturn (now (cell .entry)) «current_a» «dt_s» «max_time_s» (roomOf (length (now (rows .entry))) (length (now (lowest .entry)))) ⌝ }
+    ensures rows { λ _. ⌜ now (rows .exit) ≡ galvanostaticRows (now (cell .entry)) «current_a» «dt_s» «max_time_s» (now (rows .entry)) (now (lowest .entry)) ⌝ }
+    ensures lowest { λ _. ⌜ now (lowest .exit) ≡ galvanostaticLowest (now (cell .entry)) «current_a» «dt_s» «max_time_s» (now (rows .entry)) (now (lowest .entry)) ⌝ }
+    ensures written { λ _. ⌜ now (answer .exit) ≡ galvanostaticAfter (now (cell .entry)) «current_a» «dt_s» «max_time_s» (roomOf (length (now (rows .entry))) (length (now (lowest .entry)))) (now (answer .entry)) ⌝ }
 {
     let run = galvanostatic_run::run_galvanostatic(
         dfn_images::cell_at(cell),
@@ -110,6 +113,7 @@ pub fn run_galvanostatic(
         dt_s,
         max_time_s,
         rows,
+        lowest,
     );
     let ending = run.ending;
     let refusal = runs::ending_refusal(ending);

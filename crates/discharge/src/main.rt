@@ -30,7 +30,8 @@ fn given(first: &[u8], program: &[u8]) -> Settings {
 
 fn run(v: [f64; NONE], cell: SpmSolver, named: &[u8]) {
     let mut rows = [0.0; 80000];
-    let r = discharge_run::simulate_discharge(cell, v[0], v[1], v[2], v[3], &mut rows);
+    let mut lowest = [0.0; 157];
+    let r = discharge_run::simulate_discharge(cell, v[0], v[1], v[2], v[3], &mut rows, &mut lowest);
     let e = r.ending;
     csv_rows::write_rows(&rows, r.rows);
     ending::write_cell(named);

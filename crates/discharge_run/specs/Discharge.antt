@@ -2,7 +2,7 @@
 use Prim.Native.Nat.{ℕ, _+_, _/_}
 use mathlib.Core.Bool.{Bool, false, cond, not, _&&_}
 use mathlib.Core.List.{List, [], _∷_}
-use lib.Dec.{eqb, leb}
+use lib.Dec.{eqb}
 use lib.ListN.{length}
 use lib.Ieee.{Float, lt}
 use Rattle.binary64.specs.Operators.{_⊕_}
@@ -11,6 +11,7 @@ use Rattle.refusal.specs.Numbers as N
 use Rattle.refusal.specs.Ranges.{finite, loadFits, intervalFits, temperatureFits}
 use Rattle.runs.specs.Endings.{Ended, endedBy, endingOf, byRefusal}
 use Rattle.runs.specs.Rows.{runAfter, rowsAfter}
+use Rattle.runs.specs.Lowest.{Room, roomOf, roomFits, summary}
 use Rattle.solver.specs.declared.SpmSolver.{SpmSolver}
 use Rattle.solver_step.specs.declared.report.SpmState.{SpmState}
 use Rattle.solver_step.specs.Report.{noState}
@@ -86,11 +87,11 @@ allTurns w r total = finishedRun (runAfter overOf (turned w) lastRow total r)
 unfoldable pub allRows : RunSettings → RunState → ℕ → List Float → List Float
 allRows w r total l = rowsAfter overOf (turned w) lastRow total r l
 
--- ---- refusals of the whole run, before the first step even if none is due
-unfoldable pub runRefusal : RunSettings → SpmSolver → ℕ → ℕ
-runRefusal w s places =
+-- ---- refusals of the whole run on slices of so many places, before the first step even if none is due
+unfoldable pub runRefusal : RunSettings → SpmSolver → Room → ℕ
+runRefusal w s room =
     N.firstRefusal (N.refusalUnless (gridFits s) N.grid)
-    (N.firstRefusal (N.refusalUnless (leb 8 places) N.badLength)
+    (N.firstRefusal (N.refusalUnless (roomFits room) N.badLength)
     (N.firstRefusal (N.refusalUnless (cellFits s) N.sheet)
     (N.firstRefusal (N.refusalUnless (loadFits (w .«current_a») «1e6») N.load)
     (N.firstRefusal (N.refusalUnless (intervalFits (w .dt) && finite (w .«max_time_s»)) N.interval)
@@ -99,9 +100,12 @@ runRefusal w s places =
 abbrev pub refusedRun : ℕ → SpmSolver → RunOutcome
 refusedRun k s = record { ended = record { ending = byRefusal; refusal = k }; rows = 0; solver = s }
 
-unfoldable pub discharged : RunSettings → SpmSolver → ℕ → RunOutcome
-discharged w s places = cond (eqb (runRefusal w s places) 0) (allTurns w (started w s) (places / 8)) (refusedRun (runRefusal w s places) s)
+unfoldable pub discharged : RunSettings → SpmSolver → Room → RunOutcome
+discharged w s room = cond (eqb (runRefusal w s room) 0) (allTurns w (started w s) (room .rows / 8)) (refusedRun (runRefusal w s room) s)
 
--- the final content of the lent slice
-unfoldable pub dischargedRows : RunSettings → SpmSolver → List Float → List Float
-dischargedRows w s l = cond (eqb (runRefusal w s (length l)) 0) (allRows w (started w s) (length l / 8) l) l
+-- ---- the final content of the lent slices: the rows, and the summary of as many as were written
+unfoldable pub dischargedRows : RunSettings → SpmSolver → List Float → List Float → List Float
+dischargedRows w s rows lowest = cond (eqb (runRefusal w s (roomOf (length rows) (length lowest))) 0) (allRows w (started w s) (length rows / 8) rows) rows
+
+unfoldable pub dischargedLowest : RunSettings → SpmSolver → List Float → List Float → List Float
+dischargedLowest w s rows lowest = summary (discharged w s (roomOf (length rows) (length lowest)) .rows) (dischargedRows w s rows lowest) lowest

@@ -6,13 +6,16 @@ use runs::REFUSED;
 use runs::TIME;
 use runs::VOLTAGE;
 use runs::ending_of;
+use runs::lowest::room_fits;
+use runs::lowest::update_lowest;
 use runs::put_row;
 use solver::SpmSolver;
 use solver_step::report::SpmState;
 ghost use mathlib.Core.Path.{_≡_};
 ghost use Prim.Native.Nat.{_<_, _≤_, _^_, _*_};
 ghost use lib.ListN.{length};
-ghost use Rattle.discharge_run.specs.Discharge.{timeOver, overAfter, started, turned, rowOf, runOutcome, finishedRun, allTurns, allRows, runRefusal, discharged, dischargedRows, runSettings};
+ghost use Rattle.runs.specs.Lowest.{groupCount, summary, roomOf};
+ghost use Rattle.discharge_run.specs.Discharge.{timeOver, overAfter, started, turned, rowOf, runOutcome, finishedRun, allTurns, allRows, runRefusal, discharged, dischargedRows, dischargedLowest, runSettings};
 
 // What each step of a run is given, and the run's time limit.
 pub struct RunSettings {
@@ -139,11 +142,11 @@ fn finished(s: RunState) -> CellRun
 }
 
 // The number that refuses the whole run: 1, 10, 2, 3, 4, 5.
-fn run_refusal(w: RunSettings, s: SpmSolver, places: usize) -> u64
-    ensures { λ r. ⌜ r ≡ runRefusal w s places ⌝ }
+fn run_refusal(w: RunSettings, s: SpmSolver, rows: usize, lowest: usize) -> u64
+    ensures { λ r. ⌜ r ≡ runRefusal w s (roomOf rows lowest) ⌝ }
 {
     let grid = refusal::refusal_unless(s.grid_fits(), refusal::GRID);
-    let length = refusal::refusal_unless(8 <= places, refusal::LENGTH);
+    let length = refusal::refusal_unless(room_fits(rows, lowest), refusal::LENGTH);
     let cell = s.refusal();
     let load = refusal::refusal_unless(refusal::load_fits(w.current_a, 1e6), refusal::LOAD);
     let times = refusal::interval_fits(w.dt) & refusal::is_finite(w.max_time_s);
@@ -159,11 +162,18 @@ fn run_refusal(w: RunSettings, s: SpmSolver, places: usize) -> u64
     )
 }
 
-// At most `total` turns of a run, each step with its row.
-fn run_rows(w: RunSettings, first: RunState, out: &mut [f64], total: usize) -> CellRun
-    requires { ⌜ (first .rows ≡ 0) × ((total < 2 ^ 61) × (total * 8 ≤ length (now out))) ⌝ }
+// At most `total` turns of a run, each step with its row and the lowest voltage of its group.
+fn run_rows(
+    w: RunSettings,
+    first: RunState,
+    out: &mut [f64],
+    lowest: &mut [f64],
+    total: usize,
+) -> CellRun
+    requires { ⌜ (first .rows ≡ 0) × ((total < 2 ^ 61) × ((total * 8 ≤ length (now out)) × (groupCount total ≤ length (now lowest)))) ⌝ }
     ensures result { λ r. ⌜ runOutcome r ≡ allTurns w first total ⌝ }
     ensures rows { λ r. ⌜ now (out .exit) ≡ allRows w first total (now (out .entry)) ⌝ }
+    ensures lowest { λ r. ⌜ now (lowest .exit) ≡ summary (allTurns w first total .rows) (allRows w first total (now (out .entry))) (now (lowest .entry)) ⌝ }
 {
     let mut run = first;
     if run.over != GOING {
@@ -175,7 +185,9 @@ fn run_rows(w: RunSettings, first: RunState, out: &mut [f64], total: usize) -> C
         if run.over == REFUSED {
             return finished(run);
         }
-        put_row(out, i * 8, row_of(run.state));
+        let row = row_of(run.state);
+        put_row(out, i * 8, row);
+        update_lowest(lowest, i, row[0]);
         i += 1;
         if run.over != GOING {
             return finished(run);
@@ -184,7 +196,8 @@ fn run_rows(w: RunSettings, first: RunState, out: &mut [f64], total: usize) -> C
     finished(run)
 }
 
-// Discharges, or charges at a negative current, until the voltage, the time or a refusal ends the run or the slice is full.
+// Discharges, or charges at a negative current, until the voltage, the time or a refusal ends the run or the slice is full. `lowest` is kept beside the
+// rows: the lowest voltage of each group of 64.
 // WARNING: see `SpmSolver::step`; a run may sit at one voltage until its time is over.
 pub fn simulate_discharge(
     s: SpmSolver,
@@ -193,9 +206,11 @@ pub fn simulate_discharge(
     temp_k: f64,
     max_time_s: f64,
     out: &mut [f64],
+    lowest: &mut [f64],
 ) -> CellRun
-    ensures result { λ r. ⌜ runOutcome r ≡ discharged (runSettings «current_a» dt «temp_k» «max_time_s») s (length (now (out .entry))) ⌝ }
-    ensures rows { λ r. ⌜ now (out .exit) ≡ dischargedRows (runSettings «current_a» dt «temp_k» «max_time_s») s (now (out .entry)) ⌝ }
+    ensures result { λ r. ⌜ runOutcome r ≡ discharged (runSettings «current_a» dt «temp_k» «max_time_s») s (roomOf (length (now (out .entry))) (length (now (lowest .entry)))) ⌝ }
+    ensures rows { λ r. ⌜ now (out .exit) ≡ dischargedRows (runSettings «current_a» dt «temp_k» «max_time_s») s (now (out .entry)) (now (lowest .entry)) ⌝ }
+    ensures lowest { λ r. ⌜ now (lowest .exit) ≡ dischargedLowest (runSettings «current_a» dt «temp_k» «max_time_s») s (now (out .entry)) (now (lowest .entry)) ⌝ }
 {
     let w = RunSettings {
         current_a,
@@ -203,7 +218,7 @@ pub fn simulate_discharge(
         temp_k,
         max_time_s,
     };
-    let number = run_refusal(w, s, out.len());
+    let number = run_refusal(w, s, out.len(), lowest.len());
     if number != 0 {
         return CellRun {
             ending: Ending::Refused(number),
@@ -212,5 +227,5 @@ pub fn simulate_discharge(
         };
     }
     let total = out.len() / 8;
-    run_rows(w, start(w, s), out, total)
+    run_rows(w, start(w, s), out, lowest, total)
 }

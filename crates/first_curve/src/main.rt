@@ -14,8 +14,9 @@ fn main() {
     };
     let built = SpmSolver::graphite_nmc(config);
     if built.refusal == 0 {
-        // at most 10,000 rows of eight numbers; a row each 10 s for an hour, at 298.15 K
+        // at most 10,000 rows of eight numbers, in groups of 64; a row each 10 s for an hour, at 298.15 K
         let mut rows = [0.0; 80000];
+        let mut lowest = [0.0; 157];
         let r = discharge_run::simulate_discharge(
             built.solver,
             5.0,
@@ -23,6 +24,7 @@ fn main() {
             298.15,
             3600.0,
             &mut rows,
+            &mut lowest,
         );
         csv_rows::write_rows(&rows, r.rows);
         // for who draws the rows

@@ -2,7 +2,7 @@
 use Prim.Native.Nat.{ℕ, _+_, _/_}
 use mathlib.Core.Bool.{Bool, cond}
 use mathlib.Core.List.{List, [], _∷_}
-use lib.Dec.{eqb, leb}
+use lib.Dec.{eqb}
 use lib.ListN.{length, replicate}
 use lib.Ieee.{Float, le}
 use Rattle.elementary.specs.Exp.{one}
@@ -11,6 +11,7 @@ use Rattle.refusal.specs.Numbers.{firstRefusal, refusalUnless}
 use Rattle.refusal.specs.Ranges.{finite}
 use Rattle.runs.specs.Endings.{Ended, byVoltage, byTime, byRefusal, endedBy, endingOf}
 use Rattle.runs.specs.Rows.{runAfter, rowsAfter}
+use Rattle.runs.specs.Lowest.{Room, roomOf, roomFits, summary}
 use Rattle.dfn_parameters.specs.Ranges.{gridFits}
 use Rattle.dfn.specs.Checks.{stepRefusal}
 use Rattle.dfn.specs.Step.{stepped}
@@ -76,22 +77,27 @@ allTurns w s total = finishedRun (runAfter overOf (turned w) lastRow total s)
 unfoldable pub allRows : RunSettings → RunState → ℕ → List Float → List Float
 allRows w s total l = rowsAfter overOf (turned w) lastRow total s l
 
--- 1, 10, 2, 3, 4, tested before the first step
-unfoldable pub runRefusal : DfnSolver → RunSettings → ℕ → ℕ
-runRefusal d w n =
+-- 1, 10, 2, 3, 4, tested before the first step, on slices of so many places
+unfoldable pub runRefusal : DfnSolver → RunSettings → Room → ℕ
+runRefusal d w room =
     firstRefusal (refusalUnless (gridFits (d .config)) Numbers.grid)
-    (firstRefusal (refusalUnless (leb 8 n) Numbers.badLength)
+    (firstRefusal (refusalUnless (roomFits room) Numbers.badLength)
     (firstRefusal (stepRefusal d (w .current) (w .dt)) (refusalUnless (finite (w .limit)) Numbers.interval)))
 
 abbrev pub runSettings : Float → Float → Float → RunSettings
 runSettings current dt limit = record { current = current; dt = dt; limit = limit }
 
--- what the call answers on a slice of n places, and what it leaves in the slice: as many turns as there are whole rows
-unfoldable pub galvanostatic : DfnSolver → Float → Float → Float → ℕ → RunOutcome
-galvanostatic d current dt limit n =
-    cond (eqb (runRefusal d (runSettings current dt limit) n) 0) (allTurns (runSettings current dt limit) (started d) (n / 8))
-    (record { ended = record { ending = byRefusal; refusal = runRefusal d (runSettings current dt limit) n }; rows = 0; cell = d })
+-- what the call answers: as many turns as there are whole rows
+unfoldable pub galvanostatic : DfnSolver → Float → Float → Float → Room → RunOutcome
+galvanostatic d current dt limit room =
+    cond (eqb (runRefusal d (runSettings current dt limit) room) 0) (allTurns (runSettings current dt limit) (started d) (room .rows / 8))
+    (record { ended = record { ending = byRefusal; refusal = runRefusal d (runSettings current dt limit) room }; rows = 0; cell = d })
 
-unfoldable pub galvanostaticRows : DfnSolver → Float → Float → Float → List Float → List Float
-galvanostaticRows d current dt limit l =
-    cond (eqb (runRefusal d (runSettings current dt limit) (length l)) 0) (allRows (runSettings current dt limit) (started d) (length l / 8) l) l
+-- ---- the final content of the lent slices: the rows, and the summary of as many as were written
+unfoldable pub galvanostaticRows : DfnSolver → Float → Float → Float → List Float → List Float → List Float
+galvanostaticRows d current dt limit rows lowest =
+    cond (eqb (runRefusal d (runSettings current dt limit) (roomOf (length rows) (length lowest))) 0) (allRows (runSettings current dt limit) (started d) (length rows / 8) rows) rows
+
+unfoldable pub galvanostaticLowest : DfnSolver → Float → Float → Float → List Float → List Float → List Float
+galvanostaticLowest d current dt limit rows lowest =
+    summary (galvanostatic d current dt limit (roomOf (length rows) (length lowest)) .rows) (galvanostaticRows d current dt limit rows lowest) lowest

@@ -8,11 +8,14 @@ use runs::REFUSED;
 use runs::TIME;
 use runs::VOLTAGE;
 use runs::ending_of;
+use runs::lowest::room_fits;
+use runs::lowest::update_lowest;
 use runs::put_row;
 ghost use mathlib.Core.Path.{_≡_};
 ghost use Prim.Native.Nat.{_*_, _^_, _≤_, _<_};
 ghost use lib.ListN.{length};
-ghost use Rattle.galvanostatic_run.specs.Galvanostatic.{overAfter, flagOf, rowOf, turned, started, runOutcome, finishedRun, allTurns, allRows, runRefusal, galvanostatic, galvanostaticRows};
+ghost use Rattle.runs.specs.Lowest.{groupCount, summary, roomOf};
+ghost use Rattle.galvanostatic_run.specs.Galvanostatic.{overAfter, flagOf, rowOf, turned, started, runOutcome, finishedRun, allTurns, allRows, runRefusal, galvanostatic, galvanostaticRows, galvanostaticLowest};
 
 // The current, A, the interval and the time limit, s.
 pub struct RunSettings {
@@ -127,11 +130,18 @@ fn finished(s: RunState) -> DfnRun
     }
 }
 
-// At most `total` turns of a run, each step with its row.
-fn run_rows(w: RunSettings, first: RunState, out: &mut [f64], total: usize) -> DfnRun
-    requires { ⌜ (first .over ≡ 0) × ((first .rows ≡ 0) × ((total < 2 ^ 61) × (total * 8 ≤ length (now out)))) ⌝ }
+// At most `total` turns of a run, each step with its row and the lowest voltage of its group.
+fn run_rows(
+    w: RunSettings,
+    first: RunState,
+    out: &mut [f64],
+    lowest: &mut [f64],
+    total: usize,
+) -> DfnRun
+    requires { ⌜ (first .over ≡ 0) × ((first .rows ≡ 0) × ((total < 2 ^ 61) × ((total * 8 ≤ length (now out)) × (groupCount total ≤ length (now lowest))))) ⌝ }
     ensures answer { λ r. ⌜ runOutcome r ≡ allTurns w first total ⌝ }
     ensures rows { λ r. ⌜ now (out .exit) ≡ allRows w first total (now (out .entry)) ⌝ }
+    ensures lowest { λ r. ⌜ now (lowest .exit) ≡ summary (allTurns w first total .rows) (allRows w first total (now (out .entry))) (now (lowest .entry)) ⌝ }
 {
     let mut run = first;
     let mut i = 0;
@@ -142,6 +152,7 @@ fn run_rows(w: RunSettings, first: RunState, out: &mut [f64], total: usize) -> D
         }
         let row = run.row;
         put_row(out, i * 8, row);
+        update_lowest(lowest, i, row[0]);
         i += 1;
         if run.over != GOING {
             return finished(run);
@@ -151,12 +162,12 @@ fn run_rows(w: RunSettings, first: RunState, out: &mut [f64], total: usize) -> D
 }
 
 // The number of the table that refuses the whole run: 1, 10, 2, 3, 4.
-fn run_refusal(cell: DfnSolver, w: RunSettings, places: usize) -> u64
-    ensures { λ r. ⌜ r ≡ runRefusal cell w places ⌝ }
+fn run_refusal(cell: DfnSolver, w: RunSettings, rows: usize, lowest: usize) -> u64
+    ensures { λ r. ⌜ r ≡ runRefusal cell w (roomOf rows lowest) ⌝ }
 {
     let config = cell.config;
     let grid = refusal::refusal_unless(config.grid_fits(), refusal::GRID);
-    let short = refusal::refusal_unless(8 <= places, refusal::LENGTH);
+    let short = refusal::refusal_unless(room_fits(rows, lowest), refusal::LENGTH);
     let limit = refusal::refusal_unless(refusal::is_finite(w.limit), refusal::INTERVAL);
     let step = cell.step_refusal(w.current, w.dt);
     refusal::first_refusal(
@@ -165,7 +176,8 @@ fn run_refusal(cell: DfnSolver, w: RunSettings, places: usize) -> u64
     )
 }
 
-// Runs the cell at a current, A, by intervals of dt_s, until a voltage outside the limits, the cell's clock at max_time_s, or the end of the rows.
+// Runs the cell at a current, A, by intervals of dt_s, until a voltage outside the limits, the cell's clock at max_time_s, or the end of the rows. `lowest` is
+// kept beside the rows: the lowest voltage of each group of 64.
 // WARNING: see `DfnSolver::step`.
 pub fn run_galvanostatic(
     cell: DfnSolver,
@@ -173,16 +185,18 @@ pub fn run_galvanostatic(
     dt_s: f64,
     max_time_s: f64,
     rows: &mut [f64],
+    lowest: &mut [f64],
 ) -> DfnRun
-    ensures answer { λ r. ⌜ runOutcome r ≡ galvanostatic cell «current_a» «dt_s» «max_time_s» (length (now (rows .entry))) ⌝ }
-    ensures rows { λ r. ⌜ now (rows .exit) ≡ galvanostaticRows cell «current_a» «dt_s» «max_time_s» (now (rows .entry)) ⌝ }
+    ensures answer { λ r. ⌜ runOutcome r ≡ galvanostatic cell «current_a» «dt_s» «max_time_s» (roomOf (length (now (rows .entry))) (length (now (lowest .entry)))) ⌝ }
+    ensures rows { λ r. ⌜ now (rows .exit) ≡ galvanostaticRows cell «current_a» «dt_s» «max_time_s» (now (rows .entry)) (now (lowest .entry)) ⌝ }
+    ensures lowest { λ r. ⌜ now (lowest .exit) ≡ galvanostaticLowest cell «current_a» «dt_s» «max_time_s» (now (rows .entry)) (now (lowest .entry)) ⌝ }
 {
     let w = RunSettings {
         current: current_a,
         dt: dt_s,
         limit: max_time_s,
     };
-    let number = run_refusal(cell, w, rows.len());
+    let number = run_refusal(cell, w, rows.len(), lowest.len());
     if number != 0 {
         return DfnRun {
             ending: Ending::Refused(number),
@@ -191,5 +205,5 @@ pub fn run_galvanostatic(
         };
     }
     let total = rows.len() / 8;
-    run_rows(w, start(cell), rows, total)
+    run_rows(w, start(cell), rows, lowest, total)
 }

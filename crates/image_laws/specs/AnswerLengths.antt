@@ -9,6 +9,7 @@ use lib.Ieee.{Float}
 use borrow.Author.Tests.{eq-eqb}
 use Rattle.binary64.specs.Operators.{f64}
 use Rattle.runs.specs.RunAnswers.{writesAnswer}
+use Rattle.runs.specs.Lowest.{Room}
 use Rattle.discharge_run.specs.Discharge as DR
 use Rattle.replay_run.specs.Replay as R
 use Rattle.cycle_run.specs.declared.CycleSettings.{CycleSettings}
@@ -59,7 +60,7 @@ dfn-step-length s bits dt a h =
     ap length (c .writes) ∙ dfn-answer s (f64 bits) dt a (literal bits) (c .refusal) (c .answer) .size ∙ c .answer
 
 -- ---- runs
-pub discharge-length : (s : List ℕ) (i dt t limit : Float) (places : ℕ) (a : List ℕ) → length s ≡ cellBytes → length a ≡ cellRunBytes
+pub discharge-length : (s : List ℕ) (i dt t limit : Float) (places : Room) (a : List ℕ) → length s ≡ cellBytes → length a ≡ cellRunBytes
     → T (writesAnswer (DR.discharged (DR.runSettings i dt t limit) (cellAt s) places .ended .refusal) (DR.discharged (DR.runSettings i dt t limit) (cellAt s) places .rows))
     → length (BR.dischargeAfter s i dt t limit places a) ≡ cellRunBytes
 discharge-length s i dt t limit places a m n h = discharge-held s i dt t limit places a m n h .cell .size ∙ n
@@ -72,7 +73,7 @@ pub cycle-length : (s phases : List ℕ) (g : CycleSettings) (places : ℕ) (a :
     → T (writesAnswer (CR.cycledFrom phases g (cellAt s) places .ended .refusal) (CR.cycledFrom phases g (cellAt s) places .rows)) → length (BR.cycleAfter s phases g places a) ≡ cellRunBytes
 cycle-length s phases g places a m p n h = cycle-held s phases g places a m p n h .cell .size ∙ n
 
-pub galvanostatic-length : (s : List ℕ) (bits : ℕ) (dt limit : Float) (places : ℕ) (a : List ℕ) → length s ≡ dfnBytes → length a ≡ dfnRunBytes
+pub galvanostatic-length : (s : List ℕ) (bits : ℕ) (dt limit : Float) (places : Room) (a : List ℕ) → length s ≡ dfnBytes → length a ≡ dfnRunBytes
     → T (writesAnswer (GR.galvanostatic (I.cellAt s) (f64 bits) dt limit places .ended .refusal) (GR.galvanostatic (I.cellAt s) (f64 bits) dt limit places .rows))
     → length (BR.galvanostaticAfter s (f64 bits) dt limit places a) ≡ dfnRunBytes
 unfolding BR.galvanostaticAfter

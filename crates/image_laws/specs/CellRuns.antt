@@ -15,6 +15,7 @@ use Rattle.matrix_rows.specs.Loops.{either}
 use Rattle.refusal.specs.Numbers.{sheet, file, firstRefusal, neither-refused, passed}
 use Rattle.runs.specs.RunAnswers.{writesAnswer}
 use Rattle.runs.specs.Rows.{runAfter}
+use Rattle.runs.specs.Lowest.{Room}
 use Rattle.solver.specs.declared.SpmSolver.{SpmSolver}
 use Rattle.solver.specs.Cell.{cellRefusal}
 use Rattle.solver.specs.Step.{stepped}
@@ -80,23 +81,23 @@ module _ (w : RunSettings) where
   turned-rows r = either (λ (x : RunState). x .rows ≤ r .rows + 1) (eqb (stepped (r .solver) (w .«current_a») (w .dt) (w .«temp_k») .refusal) 0) _ _ (le-refl (r .rows + 1)) (omega arith)
 
   -- a run without a row leaves the cell
-  pub run-idle : (s : SpmSolver) (places : ℕ) → discharged w s places .rows ≡ 0 → discharged w s places .solver ≡ s
+  pub run-idle : (s : SpmSolver) (places : Room) → discharged w s places .rows ≡ 0 → discharged w s places .solver ≡ s
   unfolding cellAfter
   run-idle s places h = run-is-list w s places ∙ ap (λ (k : ℕ). cellAfter s (replicate k (callOf w))) h
 
-  pub rows-most : (s : SpmSolver) (places : ℕ) → discharged w s places .rows ≤ places
+  pub rows-most : (s : SpmSolver) (places : Room) → discharged w s places .rows ≤ places .rows
   unfolding discharged allTurns finishedRun started
   rows-most s places =
-      let n : runAfter overOf (turned w) lastRow (places / 8) (started w s) .rows ≤ 0 + places / 8 = run-rows overOf (turned w) lastRow (λ (r : RunState). r .rows) turned-rows (places / 8) (started w s) in
-      either (λ (x : RunOutcome). x .rows ≤ places) (eqb (runRefusal w s places) 0) (allTurns w (started w s) (places / 8)) (refusedRun (runRefusal w s places) s) (omega (arith, n)) (omega arith)
+      let n : runAfter overOf (turned w) lastRow (places .rows / 8) (started w s) .rows ≤ 0 + places .rows / 8 = run-rows overOf (turned w) lastRow (λ (r : RunState). r .rows) turned-rows (places .rows / 8) (started w s) in
+      either (λ (x : RunOutcome). x .rows ≤ places .rows) (eqb (runRefusal w s places) 0) (allTurns w (started w s) (places .rows / 8)) (refusedRun (runRefusal w s places) s) (omega (arith, n)) (omega arith)
 
-  run-on : (s : SpmSolver) (places : ℕ) → RunOn s (discharged w s places) places
+  run-on : (s : SpmSolver) (places : Room) → RunOn s (discharged w s places) (places .rows)
   unfolding discharged allTurns finishedRun
   run-on s places = record {
     calls = callsOf w s places;
     is-list = run-is-list w s places;
-    passes = λ t. run-passes w s places (inputs-passed (runRefusal w s places) (allTurns w (started w s) (places / 8)) s t);
-    ending = whole-ending (runRefusal w s places) (allTurns w (started w s) (places / 8)) s (ending-most _ _);
+    passes = λ t. run-passes w s places (inputs-passed (runRefusal w s places) (allTurns w (started w s) (places .rows / 8)) s t);
+    ending = whole-ending (runRefusal w s places) (allTurns w (started w s) (places .rows / 8)) s (ending-most _ _);
     rows = rows-most s places;
   }
 
@@ -189,13 +190,13 @@ module _ (s : List ℕ) (r : RunOutcome) (places : ℕ) (d : RunOn (cellAt s) r 
   })
 
 -- of `pj_simulate_discharge`
-pub discharge-held : (s : List ℕ) (i dt t limit : Float) (places : ℕ) (a : List ℕ) → length s ≡ cellBytes → length a ≡ cellRunBytes
+pub discharge-held : (s : List ℕ) (i dt t limit : Float) (places : Room) (a : List ℕ) → length s ≡ cellBytes → length a ≡ cellRunBytes
     → T (writesAnswer (discharged (runSettings i dt t limit) (cellAt s) places .ended .refusal) (discharged (runSettings i dt t limit) (cellAt s) places .rows))
-    → RunHeld (BR.dischargeAfter s i dt t limit places a) a (discharged (runSettings i dt t limit) (cellAt s) places) places
+    → RunHeld (BR.dischargeAfter s i dt t limit places a) a (discharged (runSettings i dt t limit) (cellAt s) places) (places .rows)
 unfolding BR.dischargeAfter CR.dischargeAfter
 discharge-held s i dt t limit places a m n h =
     rw (eq-eqb (length s) cellBytes m, eq-eqb (length a) cellRunBytes n)
-    (run-held s (discharged (runSettings i dt t limit) (cellAt s) places) places (run-on (runSettings i dt t limit) (cellAt s) places) a n h)
+    (run-held s (discharged (runSettings i dt t limit) (cellAt s) places) (places .rows) (run-on (runSettings i dt t limit) (cellAt s) places) a n h)
 
 -- of `pj_replay`
 pub replay-held : (s text : List ℕ) (t : Float) (places : ℕ) (a : List ℕ) → length s ≡ cellBytes → length a ≡ cellRunBytes

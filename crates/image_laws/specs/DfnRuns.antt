@@ -12,6 +12,7 @@ use lib.Ieee.Bits.{is-true}
 use Rattle.matrix_rows.specs.Loops.{either}
 use Rattle.refusal.specs.Numbers.{neither-refused, notFinite}
 use Rattle.runs.specs.RunAnswers.{writesAnswer}
+use Rattle.runs.specs.Lowest.{Room}
 use Rattle.runs.specs.Rows.{runAfter}
 use Rattle.runs.specs.Laws.{run-keeps}
 use Rattle.runs.specs.Endings.{byRefusal}
@@ -69,9 +70,9 @@ module _ (w : RunSettings) where
           rw (e, eqb·suc-zero k)
           (dfn-step-refused (c .cell) (w .current) (w .dt) (λ (x : D.stepped (c .cell) (w .current) (w .dt) .refusal ≡ 0). let v : suc k ≡ 0 = sym e ∙ x in omega (arith, v)) ∙ f y)
 
-module _ (d : DfnSolver) (i dt limit : Float) (places : ℕ) where
+module _ (d : DfnSolver) (i dt limit : Float) (places : Room) where
   abbrev over : RunOutcome
-  over = allTurns (runSettings i dt limit) (started d) (places / 8)
+  over = allTurns (runSettings i dt limit) (started d) (places .rows / 8)
 
   abbrev none : RunOutcome
   none = record { ended = record { ending = byRefusal; refusal = runRefusal d (runSettings i dt limit) places }; rows = 0; cell = d }
@@ -80,20 +81,20 @@ module _ (d : DfnSolver) (i dt limit : Float) (places : ℕ) where
   unfolding galvanostatic allTurns finishedRun started
   dfn-run-encodable f h =
       either (λ (x : RunOutcome). EncodableDfn (x .cell)) (eqb (runRefusal d (runSettings i dt limit) places) 0) over none
-      (run-keeps overOf (turned (runSettings i dt limit)) lastRow (started d) (λ (c : RunState). EncodableDfn (c .cell)) (λ c o. turned-encodable (runSettings i dt limit) f c) h (places / 8)) h
+      (run-keeps overOf (turned (runSettings i dt limit)) lastRow (started d) (λ (c : RunState). EncodableDfn (c .cell)) (λ c o. turned-encodable (runSettings i dt limit) f c) h (places .rows / 8)) h
 
   pub dfn-run-idle : galvanostatic d i dt limit places .rows ≡ 0 → galvanostatic d i dt limit places .cell ≡ d
   unfolding galvanostatic allTurns finishedRun started
   dfn-run-idle =
       either (λ (x : RunOutcome). x .rows ≡ 0 → x .cell ≡ d) (eqb (runRefusal d (runSettings i dt limit) places) 0) over none
-      (run-keeps overOf (turned (runSettings i dt limit)) lastRow (started d) (λ (c : RunState). c .rows ≡ 0 → c .cell ≡ d) (λ c o. turned-idle (runSettings i dt limit) d c) (λ z. refl) (places / 8)) (λ z. refl)
+      (run-keeps overOf (turned (runSettings i dt limit)) lastRow (started d) (λ (c : RunState). c .rows ≡ 0 → c .cell ≡ d) (λ c o. turned-idle (runSettings i dt limit) d c) (λ z. refl) (places .rows / 8)) (λ z. refl)
 
-  dfn-rows-most : galvanostatic d i dt limit places .rows ≤ places
+  dfn-rows-most : galvanostatic d i dt limit places .rows ≤ places .rows
   unfolding galvanostatic allTurns finishedRun started
   dfn-rows-most =
-      let n : runAfter overOf (turned (runSettings i dt limit)) lastRow (places / 8) (started d) .rows ≤ 0 + places / 8 =
-      run-rows overOf (turned (runSettings i dt limit)) lastRow (λ (c : RunState). c .rows) (turned-rows (runSettings i dt limit)) (places / 8) (started d) in
-      either (λ (x : RunOutcome). x .rows ≤ places) (eqb (runRefusal d (runSettings i dt limit) places) 0) over none (omega (arith, n)) (omega arith)
+      let n : runAfter overOf (turned (runSettings i dt limit)) lastRow (places .rows / 8) (started d) .rows ≤ 0 + places .rows / 8 =
+      run-rows overOf (turned (runSettings i dt limit)) lastRow (λ (c : RunState). c .rows) (turned-rows (runSettings i dt limit)) (places .rows / 8) (started d) in
+      either (λ (x : RunOutcome). x .rows ≤ places .rows) (eqb (runRefusal d (runSettings i dt limit) places) 0) over none (omega (arith, n)) (omega arith)
 
   dfn-run-ending : galvanostatic d i dt limit places .ended .ending ≤ 6
   unfolding galvanostatic allTurns finishedRun
@@ -114,7 +115,7 @@ module _ (d : DfnSolver) (i dt limit : Float) (places : ℕ) where
   run-passes h = DC.step-cell d i dt (neither-refused _ _ (neither-refused _ _ (neither-refused _ _ h .1) .1) .0)
 
 -- ---- the answer
-module _ (s : List ℕ) (i dt limit : Float) (places : ℕ) (a : List ℕ) (l : length a ≡ dfnRunBytes) (f : T (fits binary64 i))
+module _ (s : List ℕ) (i dt limit : Float) (places : Room) (a : List ℕ) (l : length a ≡ dfnRunBytes) (f : T (fits binary64 i))
     (h : T (writesAnswer (galvanostatic (cellAt s) i dt limit places .ended .refusal) (galvanostatic (cellAt s) i dt limit places .rows))) where
   abbrev run : RunOutcome
   run = galvanostatic (cellAt s) i dt limit places
@@ -142,7 +143,7 @@ module _ (s : List ℕ) (i dt limit : Float) (places : ℕ) (a : List ℕ) (l : 
       let m = dfn-run-ending (cellAt s) i dt limit places in
       ap (λ (b : List ℕ). wordAt b 1126) answer-is ∙ ending-read-back new 1126 (run .ended .ending) (run .rows) room (omega (arith, m))
 
-  pub dfn-run-rows-answer : places < 2 ^ 64 → wordAt (galvanostaticAfter s i dt limit places a) 1127 ≡ galvanostatic (cellAt s) i dt limit places .rows
+  pub dfn-run-rows-answer : places .rows < 2 ^ 64 → wordAt (galvanostaticAfter s i dt limit places a) 1127 ≡ galvanostatic (cellAt s) i dt limit places .rows
   dfn-run-rows-answer n =
       let m = dfn-rows-most (cellAt s) i dt limit places in
       ap (λ (b : List ℕ). wordAt b 1127) answer-is ∙ rows-read-back new 1126 (run .ended .ending) (run .rows) room (omega (arith, m, n))

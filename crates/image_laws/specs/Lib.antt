@@ -4,6 +4,7 @@
 --   ReadBack   for each call that returns 0: the record, the report, the ending, the number or the solution in its answer is the one that the call's definition gives. Steps
 --              (`particle-step-read-back`, `cell-step-read-back`, `electrolyte-step-read-back`, `dfn-step-read-back`, with their reports), runs (`discharge-read-back`,
 --              `replay-read-back`, `cycle-read-back`, `galvanostatic-read-back`), builds (`..-build-read-back`, `ready-..-read-back`), `number-read-back`, `solution-read-back`
+--   Searches   what a search from C writes: `search-read-back`
 --   Layout     the law that they go by: a record that can be encoded is read back from an answer with room for it, and from its first bytes alone
 --
 -- WHAT THEY STAND ON
@@ -37,5 +38,6 @@ pub mod DfnBuilds
 pub mod ReadyRecords
 pub mod Numbers
 pub mod Dense
+pub mod Searches
 pub mod AnswerLengths
 pub mod ReadBack

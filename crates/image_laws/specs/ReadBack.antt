@@ -14,6 +14,7 @@ use borrow.Author.Tests.{eq-eqb, ne-eqb, le-leb, lt-leb, eqb-true}
 use Rattle.binary64.specs.Operators.{f64}
 use Rattle.refusal.specs.Numbers as N
 use Rattle.runs.specs.RunAnswers.{writesAnswer}
+use Rattle.runs.specs.Lowest.{Room}
 use Rattle.electrolyte_parameters.specs.Params.{lipf6EcDmc}
 use Rattle.particle.specs.Calls as P
 use Rattle.solver.specs.Step as S
@@ -115,15 +116,15 @@ pub record CellRunReadBack (b : List ℕ) (r : DR.RunOutcome) (places : ℕ) : T
 held-read-back : (b a : List ℕ) (r : DR.RunOutcome) (places : ℕ) → RunHeld b a r places → CellRunReadBack b r places
 held-read-back b a r places d = record { cell = d .cell .first; ending = d .ending; rows = d .rows }
 
-abbrev pub DischargeReadBack : List ℕ → Float → Float → Float → Float → ℕ → List ℕ → Type 0
-DischargeReadBack s i dt t limit places a = CellRunReadBack (BR.dischargeAfter s i dt t limit places a) (DR.discharged (DR.runSettings i dt t limit) (cellAt s) places) places
+abbrev pub DischargeReadBack : List ℕ → Float → Float → Float → Float → Room → List ℕ → Type 0
+DischargeReadBack s i dt t limit places a = CellRunReadBack (BR.dischargeAfter s i dt t limit places a) (DR.discharged (DR.runSettings i dt t limit) (cellAt s) places) (places .rows)
 
-pub discharge-read-back : (s : List ℕ) (i dt t limit : Float) (places : ℕ) (a : List ℕ) → length s ≡ cellBytes → length a ≡ cellRunBytes
+pub discharge-read-back : (s : List ℕ) (i dt t limit : Float) (places : Room) (a : List ℕ) → length s ≡ cellBytes → length a ≡ cellRunBytes
     → T (writesAnswer (DR.discharged (DR.runSettings i dt t limit) (cellAt s) places .ended .refusal) (DR.discharged (DR.runSettings i dt t limit) (cellAt s) places .rows))
     → DischargeReadBack s i dt t limit places a
-discharge-read-back s i dt t limit places a m n h = held-read-back _ a _ places (discharge-held s i dt t limit places a m n h)
+discharge-read-back s i dt t limit places a m n h = held-read-back _ a _ (places .rows) (discharge-held s i dt t limit places a m n h)
 
-pub accepted-discharge-read-back : (s : List ℕ) (i dt t limit : Float) (places : ℕ) (a : List ℕ) → BR.dischargeReturn s i dt t limit places (length a) ≡ 0
+pub accepted-discharge-read-back : (s : List ℕ) (i dt t limit : Float) (places : Room) (a : List ℕ) → BR.dischargeReturn s i dt t limit places (length a) ≡ 0
     → DischargeReadBack s i dt t limit places a
 unfolding BR.dischargeReturn CR.dischargeReturn
 accepted-discharge-read-back s i dt t limit places a h =
@@ -166,12 +167,12 @@ accepted-cycle-read-back s phases g places a h =
     cycle-read-back s phases g places a (eqb-true (length s) cellBytes (e .0)) (eqb-true (length phases) phasesBytes (e .1)) (eqb-true (length a) cellRunBytes (d .1))
     (no-refusal (r .ended .refusal) (r .rows) (c .1))
 
-pub record GalvanostaticReadBack (s : List ℕ) (i dt limit : Float) (places : ℕ) (a : List ℕ) : Type 0 where
+pub record GalvanostaticReadBack (s : List ℕ) (i dt limit : Float) (places : Room) (a : List ℕ) : Type 0 where
   pub cell : I.cellAt (take dfnBytes (BR.galvanostaticAfter s i dt limit places a)) ≡ GR.galvanostatic (I.cellAt s) i dt limit places .cell
   pub ending : wordAt (BR.galvanostaticAfter s i dt limit places a) 1126 ≡ GR.galvanostatic (I.cellAt s) i dt limit places .ended .ending
-  pub rows : places < 2 ^ 64 → wordAt (BR.galvanostaticAfter s i dt limit places a) 1127 ≡ GR.galvanostatic (I.cellAt s) i dt limit places .rows
+  pub rows : places .rows < 2 ^ 64 → wordAt (BR.galvanostaticAfter s i dt limit places a) 1127 ≡ GR.galvanostatic (I.cellAt s) i dt limit places .rows
 
-pub galvanostatic-read-back : (s : List ℕ) (bits : ℕ) (dt limit : Float) (places : ℕ) (a : List ℕ) → length s ≡ dfnBytes → length a ≡ dfnRunBytes
+pub galvanostatic-read-back : (s : List ℕ) (bits : ℕ) (dt limit : Float) (places : Room) (a : List ℕ) → length s ≡ dfnBytes → length a ≡ dfnRunBytes
     → T (writesAnswer (GR.galvanostatic (I.cellAt s) (f64 bits) dt limit places .ended .refusal) (GR.galvanostatic (I.cellAt s) (f64 bits) dt limit places .rows))
     → GalvanostaticReadBack s (f64 bits) dt limit places a
 unfolding BR.galvanostaticAfter
@@ -184,7 +185,7 @@ galvanostatic-read-back s bits dt limit places a m n h =
       rows = λ l. ap (λ (b : List ℕ). wordAt b 1127) e ∙ dfn-run-rows-answer s i dt limit places a n (literal bits) h l;
     }
 
-pub accepted-galvanostatic-read-back : (s : List ℕ) (bits : ℕ) (dt limit : Float) (places : ℕ) (a : List ℕ) → BR.galvanostaticReturn s (f64 bits) dt limit places (length a) ≡ 0
+pub accepted-galvanostatic-read-back : (s : List ℕ) (bits : ℕ) (dt limit : Float) (places : Room) (a : List ℕ) → BR.galvanostaticReturn s (f64 bits) dt limit places (length a) ≡ 0
     → GalvanostaticReadBack s (f64 bits) dt limit places a
 unfolding BR.galvanostaticReturn PR.galvanostaticReturn
 accepted-galvanostatic-read-back s bits dt limit places a h =

@@ -71,6 +71,16 @@ newCellAnode = 6
 abbrev pub newCellCathode : ℕ
 newCellCathode = 17
 
+-- ---- what a search found
+
+-- a row or none
+abbrev pub foundHow : ℕ
+foundHow = 0
+
+-- which row
+abbrev pub foundRow : ℕ
+foundRow = 1
+
 -- ---- a phase of a cycle
 
 -- its kind
@@ -249,6 +259,9 @@ dfnRunBytes = 9024
 abbrev pub solutionBytes : ℕ
 solutionBytes = 256
 
+abbrev pub foundBytes : ℕ
+foundBytes = 16
+
 pub record Layout : Type 0 where
   pub sheet : (sheetBytes ≡ 8 * particleNodes) × (newParticleBytes ≡ 8 * particleProfile)
   pub particle : particleBytes ≡ 8 * (particleProfile + 64)
@@ -261,6 +274,7 @@ pub record Layout : Type 0 where
   pub cell-step : (cellBytes ≡ 8 * cellReport) × ((cellCutoff ≡ cellReport + 7) × (cellStepBytes ≡ 8 * (cellSubSteps + 1)))
   pub cell-run : (cellBytes ≡ 8 * cellEnding) × (cellRunBytes ≡ 8 * (cellEnding + 2))
   pub new-cell : (newCellCathode ≡ newCellAnode + particleNodes) × (newCellBytes ≡ 8 * (newCellCathode + particleNodes))
+  pub found : (foundRow ≡ foundHow + 1) × (foundBytes ≡ 8 * (foundRow + 1))
   pub phase : (phaseNumber ≡ phaseKind + 1) × ((phaseWords ≡ phaseNumber + 1) × (phaseBytes ≡ 8 * phaseWords))
   pub phases : phasesBytes ≡ 8 * phaseBytes
   pub electrolyte : (electrolyteParamsBytes ≡ 8 * electrolyteRegions) × ((regionsBytes ≡ 8 * electrolyteProfile) × (electrolyteBytes ≡ 8 * (electrolyteProfile + 96)))
@@ -284,6 +298,7 @@ layout = record {
   cell-step = (refl, (refl, refl));
   cell-run = (refl, refl);
   new-cell = (refl, refl);
+  found = (refl, refl);
   phase = (refl, (refl, refl));
   phases = refl;
   electrolyte = (refl, (refl, refl));

@@ -46,6 +46,12 @@ pub const NEW_CELL_ANODE: usize = 6;
 // The cathode's sheet.
 pub const NEW_CELL_CATHODE: usize = 17;
 
+// Of what a search found: a row or none.
+pub const FOUND_HOW: usize = 0;
+
+// Which row.
+pub const FOUND_ROW: usize = 1;
+
 // Of a phase: its kind.
 pub const PHASE_KIND: usize = 0;
 
@@ -164,3 +170,5 @@ pub const DFN_STEP_BYTES: usize = 9072;
 pub const DFN_RUN_BYTES: usize = 9024;
 
 pub const SOLUTION_BYTES: usize = 256;
+
+pub const FOUND_BYTES: usize = 16;

@@ -50,7 +50,7 @@ module _ {S : Type 0} (over : S → ℕ) (turned : S → S) (row : S → List Fl
           let n = eqb-false _ _ e in
           Turn.idle (rw (add-one k) at (run-stays over turned row s k 1 n)) (λ l. rw (add-one k) at (rows-stay over turned row s k 1 l n)) n
 
-  rows-length : (k : ℕ) (l : List Float) → length (rows k l) ≡ length l
+  pub rows-length : (k : ℕ) (l : List Float) → length (rows k l) ≡ length l
   unfolding rowsAfter
   rows-length zero l = refl
   rows-length (suc k) l = go (turn k) (rows-length k l)

@@ -1,4 +1,5 @@
-// Runs into a lent slice, eight places a step: how a run ends, and a row in its place.
+// Runs into a lent slice, eight places a step: how a run ends, a row in its place, and the lowest voltage of each group of rows (`lowest`).
+pub mod lowest;
 
 ghost use mathlib.Core.Path.{_≡_};
 ghost use Prim.Native.Nat.{_+_, _≤_};

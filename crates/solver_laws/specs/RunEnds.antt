@@ -9,6 +9,7 @@ use lib.Ieee.{Float, binary64, fits}
 use lib.Ieee.Fits.{add-fits}
 use Rattle.runs.specs.Endings.{byRefusal, endingOf}
 use Rattle.runs.specs.Laws.{run-keeps}
+use Rattle.runs.specs.Lowest.{Room}
 use Rattle.solver.specs.declared.SpmSolver.{SpmSolver}
 use Rattle.discharge_run.specs.declared.RunSettings.{RunSettings}
 use Rattle.discharge_run.specs.declared.RunState.{RunState}
@@ -71,12 +72,12 @@ module _ (w : RunSettings) where
   turns-end s total f n e = ending-other _ _ (run-keeps overOf (turned w) lastRow (started w s) RunInvariant (λ r o c. turned-invariant r c) (start-invariant s f) total .ended n) e
 
 -- A RUN THAT HAS A ROW is not refused. The cell's clock is a number of binary64, as each f64 of a program is.
-pub run-ends : (w : RunSettings) (s : SpmSolver) (places : ℕ) → T (fits binary64 (s .«time_s»)) → (discharged w s places .rows ≡ 0 → ⊥)
+pub run-ends : (w : RunSettings) (s : SpmSolver) (places : Room) → T (fits binary64 (s .«time_s»)) → (discharged w s places .rows ≡ 0 → ⊥)
     → discharged w s places .ended .ending ≡ byRefusal → ⊥
 unfolding discharged
 run-ends w s places f = go (eqb (runRefusal w s places) 0)
   where
-    go : (b : Bool) → (cond b (allTurns w (started w s) (places / 8)) (refusedRun (runRefusal w s places) s) .rows ≡ 0 → ⊥)
-        → cond b (allTurns w (started w s) (places / 8)) (refusedRun (runRefusal w s places) s) .ended .ending ≡ byRefusal → ⊥
-    go true n e = turns-end w s (places / 8) f n e
+    go : (b : Bool) → (cond b (allTurns w (started w s) (places .rows / 8)) (refusedRun (runRefusal w s places) s) .rows ≡ 0 → ⊥)
+        → cond b (allTurns w (started w s) (places .rows / 8)) (refusedRun (runRefusal w s places) s) .ended .ending ≡ byRefusal → ⊥
+    go true n e = turns-end w s (places .rows / 8) f n e
     go false n e = n refl

@@ -15,6 +15,7 @@ use Rattle.diffusion.specs.Copies.{each-copies}
 use Rattle.diffusion.specs.Run.{Both}
 use Rattle.particle.specs.Particle.{placeOf}
 use Rattle.runs.specs.Laws.{run-keeps}
+use Rattle.runs.specs.Lowest.{Room}
 use Rattle.solver.specs.declared.SpmSolver.{SpmSolver}
 use Rattle.solver.specs.Cell.{gridFits, cellFits, cellRefusal}
 use Rattle.solver_step.specs.Plans.{subStepsOf}
@@ -33,7 +34,7 @@ use Rattle.solver_laws.specs.ListedDemand.{listed-near, CellsRanked, lis
 abbrev pub callOf : RunSettings → Call
 callOf w = record { current = w .«current_a»; dt = w .dt; temp = w .«temp_k» }
 
-abbrev pub callsOf : RunSettings → SpmSolver → ℕ → List Call
+abbrev pub callsOf : RunSettings → SpmSolver → Room → List Call
 callsOf w s places = replicate (discharged w s places .rows) (callOf w)
 
 -- ---- the turns of a run: its cell is that after a call for each row, all of them accepted
@@ -57,21 +58,21 @@ module _ (w : RunSettings) (s : SpmSolver) where
   turns-listed total =
       run-keeps overOf (turned w) lastRow (started w s) (λ (r : RunState). Listed s (r .solver) (replicate (r .rows) (callOf w))) (λ r o l. turned-listed r l) (listed-none s) total
 
-  discharged-listed : (places : ℕ) → Listed s (discharged w s places .solver) (callsOf w s places)
+  discharged-listed : (places : Room) → Listed s (discharged w s places .solver) (callsOf w s places)
   unfolding discharged
   discharged-listed places = go (eqb (runRefusal w s places) 0)
     where
-      go : (b : Bool) → Listed s (cond b (allTurns w (started w s) (places / 8)) (refusedRun (runRefusal w s places) s) .solver)
-          (replicate (cond b (allTurns w (started w s) (places / 8)) (refusedRun (runRefusal w s places) s) .rows) (callOf w))
-      go true = turns-listed (places / 8)
+      go : (b : Bool) → Listed s (cond b (allTurns w (started w s) (places .rows / 8)) (refusedRun (runRefusal w s places) s) .solver)
+          (replicate (cond b (allTurns w (started w s) (places .rows / 8)) (refusedRun (runRefusal w s places) s) .rows) (callOf w))
+      go true = turns-listed (places .rows / 8)
       go false = listed-none s
 
 -- THE CELL THAT A RUN LEAVES is the cell after one call of `step` for each row; a run that is refused as a whole has no rows
-pub run-is-list : (w : RunSettings) (s : SpmSolver) (places : ℕ) → discharged w s places .solver ≡ cellAfter s (callsOf w s places)
+pub run-is-list : (w : RunSettings) (s : SpmSolver) (places : Room) → discharged w s places .solver ≡ cellAfter s (callsOf w s places)
 run-is-list w s places = discharged-listed w s places .cell
 
 -- and each of them is accepted
-pub run-accepted : (w : RunSettings) (s : SpmSolver) (places : ℕ) → taken s (callsOf w s places) ≡ callsOf w s places
+pub run-accepted : (w : RunSettings) (s : SpmSolver) (places : Room) → taken s (callsOf w s places) ≡ callsOf w s places
 run-accepted w s places = all-taken (discharged-listed w s places .accepted)
 
 -- ---- THEOREMS 2 AND 3 for runs
@@ -85,17 +86,17 @@ all-counted s q (suc n) r v (AllAccepted.more h a) =
     rw (c, all-counted s q n (answer r q .solver) (stays s r q v) a, suc-mul n k) (add-comm k (n * k))
 
 -- the cell of a run that is not refused as a whole passes the checks
-run-tests : (w : RunSettings) (s : SpmSolver) (places : ℕ) → runRefusal w s places ≡ 0 → (refusalUnless (gridFits s) grid ≡ 0) × (refusalUnless (cellFits s) sheet ≡ 0)
+run-tests : (w : RunSettings) (s : SpmSolver) (places : Room) → runRefusal w s places ≡ 0 → (refusalUnless (gridFits s) grid ≡ 0) × (refusalUnless (cellFits s) sheet ≡ 0)
 unfolding runRefusal
 run-tests w s places h = let a = neither-refused _ _ h in (a .0, neither-refused _ _ (neither-refused _ _ (a .1) .1) .0)
 
-pub run-passes : (w : RunSettings) (s : SpmSolver) (places : ℕ) → runRefusal w s places ≡ 0 → cellRefusal s ≡ 0
+pub run-passes : (w : RunSettings) (s : SpmSolver) (places : Room) → runRefusal w s places ≡ 0 → cellRefusal s ≡ 0
 unfolding cellRefusal firstRefusal
 run-passes w s places h = let a = run-tests w s places h in rw (a .0, a .1)
 
 -- THEOREM 2. Nothing refuses the whole run; at the electrode e its step keeps 2·h·∣flux∣ ≤ D·M. Then every node of e in the cell that the run leaves is within K·M / 2 ^ 49 of the exact
 -- scheme from the same start over the run's calls, where K = rows · sub-steps of one step.
-pub run-near : (e : Electrode) (w : RunSettings) (s : SpmSolver) (places : ℕ) → runRefusal w s places ≡ 0 → FluxBound (numbersAt e s (callOf w)) → (i : ℕ) → i < particleAt e s .«n_nodes»
+pub run-near : (e : Electrode) (w : RunSettings) (s : SpmSolver) (places : Room) → runRefusal w s places ≡ 0 → FluxBound (numbersAt e s (callOf w)) → (i : ℕ) → i < particleAt e s .«n_nodes»
     → val (placeOf (particleAt e (discharged w s places .solver)) i) -F exactPlace e s (callsOf w s places) i
     within nat (discharged w s places .rows * subStepsOf (planFor s (callOf w))) *F val (particleAt e s .params .«c_s_max») /F pow2 49
 run-near e w s places h k i l =
@@ -107,7 +108,7 @@ run-near e w s places h k i l =
 
 -- THEOREM 3 for two runs. Nothing refuses either as a whole; two cells of one make with equal profiles; the steps of each keep 2·h·∣flux∣ ≤ D·M at both electrodes; the rows are equally many,
 -- and the steps paired: alike in interval and temperature, the second's current no less.
-pub run-ranked : (w w' : RunSettings) (s s' : SpmSolver) (places places' : ℕ) → runRefusal w s places ≡ 0 → runRefusal w' s' places' ≡ 0 → Twins s s'
+pub run-ranked : (w w' : RunSettings) (s s' : SpmSolver) (places places' : Room) → runRefusal w s places ≡ 0 → runRefusal w' s' places' ≡ 0 → Twins s s'
     → ((e : Electrode) → FluxBound (numbersAt e s (callOf w))) → ((e : Electrode) → FluxBound (numbersAt e s' (callOf w')))
     → discharged w' s' places' .rows ≡ discharged w s places .rows → Paired (callOf w) (callOf w')
     → CellsRanked s (discharged w s places .solver) (discharged w' s' places' .solver) (discharged w s places .rows * subStepsOf (planFor s (callOf w)))

@@ -9,6 +9,7 @@ use crate::list::same;
 use crate::list::same_arrays;
 use crate::rows::is_ending;
 use crate::rows::is_rows;
+use crate::rows::is_summary;
 use crate::rows::mark_all;
 use dfn::DfnSolver;
 use dfn::DfnStep;
@@ -180,7 +181,7 @@ fn same_config(a: DfnConfig, b: DfnConfig) -> bool {
 }
 
 // A cell whose first number is read already.
-fn next_cell(fd: i32, first: u64) -> DfnSolver {
+pub(crate) fn next_cell(fd: i32, first: u64) -> DfnSolver {
     let params = next_parameters(fd, first);
     let config = next_config(fd);
     let c_s_neg = next_solid(fd);
@@ -345,13 +346,15 @@ fn run_agrees(
     dt: f64,
     limit: f64,
     rows: &mut [f64],
+    lowest: &mut [f64],
 ) -> bool {
     mark_all(rows);
-    let r = run_galvanostatic(cell, current, dt, limit, rows);
-    is_run(fd, cell, r, rows)
+    mark_all(lowest);
+    let r = run_galvanostatic(cell, current, dt, limit, rows, lowest);
+    is_run(fd, cell, r, rows) & is_summary(lowest, rows, r.rows)
 }
 
-// No run of the list has more than 160 places.
+// No run of the list has more than 160 places, which are 20 rows and one group.
 pub(crate) fn run_line(fd: i32, first: u64) -> bool {
     let cell = next_cell(fd, first);
     let current = next_f64(fd);
@@ -360,8 +363,9 @@ pub(crate) fn run_line(fd: i32, first: u64) -> bool {
     let n = next_u64(fd) as usize;
     if n <= 160 {
         let mut rows = [0.0; 160];
+        let mut lowest = [0.0; 1];
         let lent = &mut rows[..n];
-        return run_agrees(fd, cell, current, dt, limit, lent);
+        return run_agrees(fd, cell, current, dt, limit, lent, &mut lowest);
     }
     false
 }

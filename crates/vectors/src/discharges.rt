@@ -7,6 +7,7 @@ use crate::list::next_f64;
 use crate::list::next_u64;
 use crate::rows::is_ending;
 use crate::rows::is_rows;
+use crate::rows::is_summary;
 use crate::rows::mark_all;
 use discharge_run::CellRun;
 use discharge_run::simulate_discharge;
@@ -29,17 +30,19 @@ fn run_agrees(
     fd: i32,
     s: SpmSolver,
     rows: &mut [f64],
+    lowest: &mut [f64],
     current_a: f64,
     dt: f64,
     temp_k: f64,
     limit: f64,
 ) -> bool {
     mark_all(rows);
-    let r = simulate_discharge(s, current_a, dt, temp_k, limit, rows);
-    is_run(fd, s, r, rows)
+    mark_all(lowest);
+    let r = simulate_discharge(s, current_a, dt, temp_k, limit, rows, lowest);
+    is_run(fd, s, r, rows) & is_summary(lowest, rows, r.rows)
 }
 
-// No run of the list has more than 256 places.
+// No run of the list has more than 256 places, which are 32 rows and one group.
 pub(crate) fn run_line(fd: i32, first: u64) -> bool {
     let s = next_solver(fd, first);
     let current_a = next_f64(fd);
@@ -49,8 +52,9 @@ pub(crate) fn run_line(fd: i32, first: u64) -> bool {
     let n = next_u64(fd) as usize;
     if n <= 256 {
         let mut rows = [0.0; 256];
+        let mut lowest = [0.0; 1];
         let lent = &mut rows[..n];
-        return run_agrees(fd, s, lent, current_a, dt, temp_k, limit);
+        return run_agrees(fd, s, lent, &mut lowest, current_a, dt, temp_k, limit);
     }
     false
 }

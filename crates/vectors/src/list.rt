@@ -1,5 +1,7 @@
 // Reading a list, word by word.
 use refusal::Answer;
+ghost use Prim.Native.Nat.{_≤_};
+ghost use lib.ListN.{length};
 
 // A word and the byte after it: a space, a tab before the answer, a line's end; 0 where the list is over.
 pub struct Word {
@@ -114,4 +116,31 @@ pub(crate) fn same_arrays(a: &[f64], b: &[f64]) -> bool {
         }
     }
     agrees
+}
+
+// ---- slices: the length, then the places
+
+// Keeps x after the places that are kept, where there is room, and says how many are then.
+fn keep(room: &mut [f64], kept: usize, x: f64) -> usize
+    requires { ⌜ kept ≤ length (now room) ⌝ }
+    ensures { λ r. ⌜ r ≤ length (now (room .exit)) ⌝ }
+{
+    if kept < room.len() {
+        room[kept] = x;
+        return kept + 1;
+    }
+    kept
+}
+
+// Reads a slice into the room that there is, and says how many places are kept.
+pub(crate) fn read_slice(fd: i32, room: &mut [f64]) -> usize
+    ensures { λ r. ⌜ r ≤ length (now (room .exit)) ⌝ }
+{
+    let mut left = next_u64(fd);
+    let mut kept: usize = 0;
+    while left > 0 {
+        kept = keep(room, kept, next_f64(fd));
+        left -= 1;
+    }
+    kept
 }

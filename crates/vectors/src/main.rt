@@ -8,6 +8,7 @@ mod discharges;
 mod electrolytes;
 mod functions;
 mod list;
+mod lowest;
 mod particles;
 mod ranges;
 mod replays;
@@ -86,6 +87,12 @@ const REPLAY: u64 = 30;
 
 const CYCLE: u64 = 31;
 
+const DISCHARGE_LOWEST: u64 = 32;
+
+const GALVANOSTATIC_LOWEST: u64 = 33;
+
+const FIRST_BELOW: u64 = 34;
+
 // Whether a line agrees, whose first word is read already: of the inner parts, the sheet and the particle.
 fn small_line(which: u64, fd: i32, first: u64) -> bool {
     match which {
@@ -107,7 +114,7 @@ fn small_line(which: u64, fd: i32, first: u64) -> bool {
     }
 }
 
-// The same of the cells, the electrolyte, the equations, E where it is largest and least, recorded loads and phases.
+// The same of the cells, the electrolyte, the equations, E where it is largest and least, recorded loads, phases, and the lowest voltages of groups.
 fn large_line(which: u64, fd: i32, first: u64) -> bool {
     match which {
         READY_CELLS => cells::ready_line(fd, first),
@@ -128,6 +135,9 @@ fn large_line(which: u64, fd: i32, first: u64) -> bool {
         EXP => functions::exp_line(fd, first),
         REPLAY => replays::run_line(fd, first),
         CYCLE => cycles::run_line(fd, first),
+        DISCHARGE_LOWEST => lowest::discharge_line(fd, first),
+        GALVANOSTATIC_LOWEST => lowest::galvanostatic_line(fd, first),
+        FIRST_BELOW => lowest::search_line(fd, first),
         _ => false,
     }
 }
@@ -214,7 +224,7 @@ fn replay_argument(which: usize) -> u64 {
 
 fn replay_all() -> u64 {
     let mut answers: u64 = 0;
-    for which in 0..32 {
+    for which in 0..35 {
         answers = std::num::wrapping_add_u64(answers, replay_argument(which));
     }
     answers

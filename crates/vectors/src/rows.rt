@@ -1,5 +1,6 @@
 // What a run leaves in the slice that it was lent, and how it ended.
 use crate::list::next_u64;
+use crate::list::same;
 use runs::Ending;
 
 // What stands in the place i before a run.
@@ -29,6 +30,32 @@ pub(crate) fn is_rows(fd: i32, rows: &[f64], count: usize) -> bool {
     let mut agrees = count as u64 == written / 8;
     for i in 0..n {
         agrees = agrees & (words::to_bits(rows[i]) == row_word(fd, i, written));
+    }
+    agrees
+}
+
+// The lowest voltage of the rows 64·g to 64·g + 63, of equals the first, as far as `count` rows are written; the mark where none of them is.
+fn lowest_of(rows: &[f64], count: usize, g: usize) -> f64 {
+    let n = rows.len();
+    let mut lowest = mark(g);
+    let mut written = false;
+    for i in 0..n {
+        if (i % 8 == 0) & (i / 8 < count) & (i / 512 == g) {
+            if !written | (rows[i] < lowest) {
+                lowest = rows[i];
+            }
+            written = true;
+        }
+    }
+    lowest
+}
+
+// Whether a summary that was marked before the run holds the lowest voltages of the rows that were written, `count` of them.
+pub(crate) fn is_summary(summary: &[f64], rows: &[f64], count: usize) -> bool {
+    let n = summary.len();
+    let mut agrees = true;
+    for g in 0..n {
+        agrees = agrees & same(summary[g], lowest_of(rows, count, g));
     }
     agrees
 }

@@ -1,37 +1,9 @@
 // The list of `solve_dense`: the order, the matrix and the right side; the number, and where it is 0 the solution.
 use crate::list::is_array;
-use crate::list::next_f64;
 use crate::list::next_u64;
+use crate::list::read_slice;
 use crate::list::same_arrays;
 use dense::Solved;
-ghost use Prim.Native.Nat.{_≤_};
-ghost use lib.ListN.{length};
-
-// Keeps x after the places that are kept, where there is room, and says how many are then.
-fn keep(room: &mut [f64], kept: usize, x: f64) -> usize
-    requires { ⌜ kept ≤ length (now room) ⌝ }
-    ensures { λ r. ⌜ r ≤ length (now (room .exit)) ⌝ }
-{
-    if kept < room.len() {
-        room[kept] = x;
-        return kept + 1;
-    }
-    kept
-}
-
-// Reads a slice, its length and its places, into the room that there is, and says how many are kept. With room for a place
-// more than any order asks for, a slice that is cut is still too long.
-fn read_slice(fd: i32, room: &mut [f64]) -> usize
-    ensures { λ r. ⌜ r ≤ length (now (room .exit)) ⌝ }
-{
-    let mut left = next_u64(fd);
-    let mut kept: usize = 0;
-    while left > 0 {
-        kept = keep(room, kept, next_f64(fd));
-        left -= 1;
-    }
-    kept
-}
 
 // Whether the next answer is s: a solution, or a number with +0 throughout.
 fn agrees(fd: i32, s: Solved) -> bool {
@@ -44,7 +16,7 @@ fn agrees(fd: i32, s: Solved) -> bool {
     (s.refusal == number) & same_arrays(&x, &zeros)
 }
 
-// Solves the next system of the list.
+// Solves the next system of the list. With room for a place more than any order asks for, a slice that is cut is still too long.
 fn solve_next(fd: i32, n: usize, a: &mut [f64], b: &mut [f64]) -> Solved {
     let rows = read_slice(fd, a);
     let side = read_slice(fd, b);

@@ -14,6 +14,9 @@ grid-fits-requires c κs = search needs
 refusal-unless-requires : tie.Need-refusal-unless-requires
 refusal-unless-requires c κs = search needs
 
+room-fits-requires : tie.Need-room-fits-requires
+room-fits-requires c κs = search needs
+
 refusal-unless-requires-2 : tie.Need-refusal-unless-requires-2
 refusal-unless-requires-2 c κs = search needs
 
@@ -72,15 +75,17 @@ returns c =
     let load-fits = c .before .before .before .before .before .before .before .before .before .before .before .load-fits in
     let refusal = c .before .before .before .before .before .before .before .before .before .before .before .before .refusal in
     let refusal-unless2 = c .before .before .before .before .before .before .before .before .before .before .before .before .before .refusal-unless2 in
-    let refusal-unless = c .before .before .before .before .before .before .before .before .before .before .before .before .before .before .refusal-unless in
-    let grid-fits = c .before .before .before .before .before .before .before .before .before .before .before .before .before .before .before .grid-fits in
+    let room-fits = c .before .before .before .before .before .before .before .before .before .before .before .before .before .before .room-fits in
+    let refusal-unless = c .before .before .before .before .before .before .before .before .before .before .before .before .before .before .before .refusal-unless in
+    let grid-fits = c .before .before .before .before .before .before .before .before .before .before .before .before .before .before .before .before .grid-fits in
     let grid = refusal-unless .ensures ∙ equal-unless N.grid (grid-fits .ensures) in
+    let length = refusal-unless2 .ensures ∙ equal-unless N.badLength (room-fits .ensures) in
     let load = refusal-unless3 .ensures ∙ equal-unless N.load (load-fits .ensures) in
     let interval = refusal-unless4 .ensures ∙ equal-unless N.interval (interval-fits .ensures both is-finite .ensures) in
     let temperature = refusal-unless5 .ensures ∙ equal-unless N.temperature (temperature-fits .ensures) in
     let late = first-refusal2 .ensures ∙ equal-first load (first-refusal .ensures ∙ equal-first interval temperature) in
     c .first-refusal5 .ensures
-    ∙ equal-first grid (first-refusal4 .ensures ∙ equal-first (refusal-unless2 .ensures) (first-refusal3 .ensures ∙ equal-first (refusal .ensures) late))
+    ∙ equal-first grid (first-refusal4 .ensures ∙ equal-first length (first-refusal3 .ensures ∙ equal-first (refusal .ensures) late))
     ∙ first-once _ _ _ _
 
 pub run-refusal-spec : {M : Type 1} → statement M
@@ -89,6 +94,7 @@ run-refusal-spec =
     (tie.spec
     grid-fits-requires
     refusal-unless-requires
+    room-fits-requires
     refusal-unless-requires-2
     refusal-requires
     load-fits-requires

@@ -10,6 +10,9 @@ grid-fits-requires c κs = search needs
 refusal-unless-requires : tie.Need-refusal-unless-requires
 refusal-unless-requires c κs = search needs
 
+room-fits-requires : tie.Need-room-fits-requires
+room-fits-requires c κs = search needs
+
 refusal-unless-requires-2 : tie.Need-refusal-unless-requires-2
 refusal-unless-requires-2 c κs = search needs
 
@@ -40,8 +43,9 @@ returns c =
     let refusal-unless3 = c .before .before .before .before .refusal-unless3 in
     let is-finite = c .before .before .before .before .before .is-finite in
     let refusal-unless2 = c .before .before .before .before .before .before .refusal-unless2 in
-    let refusal-unless = c .before .before .before .before .before .before .before .refusal-unless in
-    let grid-fits = c .before .before .before .before .before .before .before .before .grid-fits in
+    let room-fits = c .before .before .before .before .before .before .before .room-fits in
+    let refusal-unless = c .before .before .before .before .before .before .before .before .refusal-unless in
+    let grid-fits = c .before .before .before .before .before .before .before .before .before .grid-fits in
     rw (
       c .first-refusal3 .ensures,
       first-refusal2 .ensures,
@@ -50,6 +54,7 @@ returns c =
       refusal-unless3 .ensures,
       is-finite .ensures,
       refusal-unless2 .ensures,
+      room-fits .ensures,
       refusal-unless .ensures,
       grid-fits .ensures,
     )
@@ -60,6 +65,7 @@ run-refusal-spec =
     (tie.spec
     grid-fits-requires
     refusal-unless-requires
+    room-fits-requires
     refusal-unless-requires-2
     is-finite-requires
     refusal-unless-requires-3

@@ -29,6 +29,9 @@ array-borrow-prefix-rows c = search needs
 slice-aggregate-lent : tie.Need-slice-aggregate-lent
 slice-aggregate-lent c = sym (length-take-le _ _ (c .before .if1 .taken))
 
+slice-aggregate-run-agrees : tie.Need-slice-aggregate-run-agrees
+slice-aggregate-run-agrees c = search needs
+
 run-agrees-requires : tie.Need-run-agrees-requires
 run-agrees-requires c κs = search needs
 
@@ -50,6 +53,7 @@ run-line-spec =
     next-u64-requires
     array-borrow-prefix-rows
     slice-aggregate-lent
+    slice-aggregate-run-agrees
     run-agrees-requires
     returns
     returns-2)

@@ -1,10 +1,10 @@
--- `vectors::systems::read_slice` keeps no more places than there is room for, and ends: the places that are left fall. Assumes nothing.
+-- `vectors::list::read_slice` keeps no more places than there is room for, and ends: the places that are left fall. Assumes nothing.
 use Prim.Native.Nat.{_≤_}
 use mathlib.Core.Path.{_≡_}
 use lib.ListN.{length}
 use borrow.Author.Needs.{needs}
-use Rattle.vectors.proofs.systems.read_slice.Statement.{statement}
-use Rattle.vectors.proofs.systems.read_slice.Tie as tie
+use Rattle.vectors.proofs.list.read_slice.Statement.{statement}
+use Rattle.vectors.proofs.list.read_slice.Tie as tie
 
 abbrev Inv-loop : tie.InvT-loop
 Inv-loop fd room₀ left₀ kept₀ room left kept = (kept ≤ length room) × (length room ≡ length room₀)

@@ -1,9 +1,9 @@
--- `vectors::systems::keep` is safe, and keeps no more places than there is room for. Assumes nothing.
+-- `vectors::list::keep` is safe, and keeps no more places than there is room for. Assumes nothing.
 use native.Mathlib.Omega.{arith}
 use lib.ListN.{length-set}
 use borrow.Author.Needs.{needs}
-use Rattle.vectors.proofs.systems.keep.Statement.{statement}
-use Rattle.vectors.proofs.systems.keep.Tie as tie
+use Rattle.vectors.proofs.list.keep.Statement.{statement}
+use Rattle.vectors.proofs.list.keep.Tie as tie
 
 mul-room : tie.Need-mul-room
 mul-room c = search needs
