@@ -76,6 +76,9 @@ struct solution {
 struct ending {
     uint64_t how, rows;
 };
+struct found {
+    uint64_t how, row;
+};
 struct phase {
     uint64_t kind;
     double number;
@@ -126,6 +129,7 @@ SIZE(dfn_cell, PJ_DFN_CELL_BYTES);
 SIZE(dfn_report, PJ_DFN_REPORT_BYTES);
 SIZE(solution, PJ_SOLUTION_BYTES);
 SIZE(ending, PJ_ENDING_BYTES);
+SIZE(found, PJ_FOUND_BYTES);
 SIZE(phase, PJ_PHASE_BYTES);
 SIZE(phases, PJ_PHASES_BYTES);
 SIZE(new_particle, PJ_NEW_PARTICLE_BYTES);
@@ -248,6 +252,8 @@ OFFSET(dfn_report, cutoff, PJ_AT_DFN_REPORT_CUTOFF);
 OFFSET(dfn_report, newton_iter, PJ_AT_DFN_REPORT_NEWTON_ITER);
 OFFSET(ending, how, PJ_AT_ENDING_HOW);
 OFFSET(ending, rows, PJ_AT_ENDING_ROWS);
+OFFSET(found, how, PJ_AT_FOUND_HOW);
+OFFSET(found, row, PJ_AT_FOUND_ROW);
 OFFSET(phase, kind, PJ_AT_PHASE_KIND);
 OFFSET(phase, number, PJ_AT_PHASE_NUMBER);
 OFFSET(new_particle, sheet, PJ_AT_NEW_PARTICLE_SHEET);
@@ -303,6 +309,14 @@ static int near(double x, double y)
 {
     double gap = x < y ? y - x : x - y;
     return gap <= 1e-9 * (y < 0 ? -y : y);
+}
+
+/* The binary64 with this pattern. */
+static double of_bits(uint64_t word)
+{
+    double number;
+    memcpy(&number, &word, sizeof number);
+    return number;
 }
 
 static void ready_sheets(void)
@@ -613,15 +627,32 @@ static void dfn_steps(void)
     EXPECT_U64(dfn_report, PJ_AT_DFN_REPORT_NEWTON_ITER, 1);
 }
 
-enum { ROWS = 200 };
+enum { ROWS = 200, GROUPS = PJ_GROUPS(ROWS) };
+
+ASSERT(PJ_GROUPS(0) == 0 && PJ_GROUPS(1) == 1 && PJ_GROUPS(64) == 1 && PJ_GROUPS(65) == 2 && GROUPS == 4);
 
 static double rows[PJ_ROW_DOUBLES * ROWS];
+/* the summary, with a place before it and two behind it that are not lent */
+static double lowest_around[GROUPS + 3], *const lowest = lowest_around + 1;
 static uint8_t run[PJ_CELL_RUN_BYTES], dfn_run[PJ_DFN_RUN_BYTES];
+
+/* A run of this cell at 5 A in steps of 10 s, from an ending of 0. */
+static uint64_t discharge_of(const uint8_t *cell, double max_time_s, size_t rows_len, size_t lowest_len)
+{
+    pj_put_u64(run, PJ_AT_CELL_ENDING + PJ_AT_ENDING_HOW, 0);
+    return pj_simulate_discharge(cell, PJ_CELL_BYTES, 5.0, 10.0, T, max_time_s, rows, rows_len, lowest, lowest_len, run, sizeof run);
+}
 
 static uint64_t discharge(double max_time_s, size_t rows_len)
 {
-    pj_put_u64(run, PJ_AT_CELL_ENDING + PJ_AT_ENDING_HOW, 0);
-    return pj_simulate_discharge(cell_nmc, sizeof cell_nmc, 5.0, 10.0, T, max_time_s, rows, rows_len, run, sizeof run);
+    return discharge_of(cell_nmc, max_time_s, rows_len, GROUPS);
+}
+
+/* A run of this cell at this current in steps of 1 s. */
+static uint64_t dfn_discharge(const uint8_t *cell, double current_a, double max_time_s, size_t rows_len, size_t lowest_len)
+{
+    return pj_run_galvanostatic(cell, PJ_DFN_CELL_BYTES, current_a, 1.0, max_time_s, rows, rows_len, lowest, lowest_len, dfn_run,
+                                sizeof dfn_run);
 }
 
 #define EXPECT_ENDING(answer, at, how, count)         \
@@ -651,16 +682,26 @@ static void discharges(void)
     EXPECT(second[0] == -7.0 && second[PJ_ROW_DOUBLES - 1] == -7.0);
     /* the run's clock is its own, the cell's goes on */
     memcpy(cell_of, run, sizeof cell_of);
-    EXPECT(pj_simulate_discharge(cell_of, sizeof cell_of, 5.0, 10.0, T, 10.0, rows, PJ_ROW_DOUBLES * ROWS, run, sizeof run) == PJ_REFUSAL_NONE);
+    EXPECT(discharge_of(cell_of, 10.0, PJ_ROW_DOUBLES * ROWS, GROUPS) == PJ_REFUSAL_NONE);
     EXPECT_ENDING(run, PJ_AT_CELL_ENDING, PJ_ENDED_TIME, 1);
     EXPECT(rows[PJ_CELL_ROW_TIME_S] == 20.0);
 }
 
+/* A cell whose first step passes and whose second is refused. */
+static void build_wild(uint8_t *wild)
+{
+    static uint8_t hot[PJ_NEW_DFN_BYTES];
+    memcpy(hot, new_dfn, sizeof hot);
+    pj_put_f64(hot, PJ_AT_DFN_PARAMS_C_E0, 1e5);
+    pj_put_f64(hot, PJ_AT_DFN_PARAMS_GAMMA_E, 1000.0);
+    EXPECT(build(PJ_BUILD_DFN, hot, sizeof hot, wild, PJ_DFN_CELL_BYTES) == PJ_REFUSAL_NONE);
+}
+
 static void galvanostatic_runs(void)
 {
-    static uint8_t hot[PJ_NEW_DFN_BYTES], wild[PJ_DFN_CELL_BYTES];
+    static uint8_t wild[PJ_DFN_CELL_BYTES];
     /* a run of a DFN cell looks at the cell's clock, after a first row */
-    EXPECT(pj_run_galvanostatic(dfn, sizeof dfn, 2.0, 1.0, 0.0, rows, PJ_ROW_DOUBLES * ROWS, dfn_run, sizeof dfn_run) == PJ_REFUSAL_NONE);
+    EXPECT(dfn_discharge(dfn, 2.0, 0.0, PJ_ROW_DOUBLES * ROWS, GROUPS) == PJ_REFUSAL_NONE);
     EXPECT_ENDING(dfn_run, PJ_AT_DFN_CELL_ENDING, PJ_ENDED_TIME, 1);
     EXPECT(rows[PJ_DFN_ROW_VOLTAGE] == pj_get_f64(dfn_run, PJ_AT_DFN_CELL_VOLTAGE) && rows[PJ_DFN_ROW_CURRENT] == 2.0 && rows[PJ_DFN_ROW_TIME_S] == 1.0);
     EXPECT(rows[PJ_DFN_ROW_THETA_NEG] == pj_get_f64(dfn_run, PJ_AT_DFN_CELL_THETA_NEG_SURF));
@@ -668,16 +709,306 @@ static void galvanostatic_runs(void)
     EXPECT(rows[PJ_DFN_ROW_DELTA_C_E_MAX] > 0.0 && rows[PJ_DFN_ROW_CUTOFF] == 0.0 && rows[PJ_DFN_ROW_NEWTON_ITER] == 1.0);
 
     /* refused after a row: the answer is written; before one: it is left */
-    memcpy(hot, new_dfn, sizeof hot);
-    pj_put_f64(hot, PJ_AT_DFN_PARAMS_C_E0, 1e5);
-    pj_put_f64(hot, PJ_AT_DFN_PARAMS_GAMMA_E, 1000.0);
-    EXPECT(build(PJ_BUILD_DFN, hot, sizeof hot, wild, sizeof wild) == PJ_REFUSAL_NONE);
+    build_wild(wild);
     pj_put_u64(dfn_run, PJ_AT_DFN_CELL_ENDING + PJ_AT_ENDING_HOW, 0);
-    EXPECT(pj_run_galvanostatic(wild, sizeof wild, 0.0, 1.0, 100.0, rows, PJ_ROW_DOUBLES * ROWS, dfn_run, sizeof dfn_run) == PJ_REFUSAL_NOT_FINITE);
+    EXPECT(dfn_discharge(wild, 0.0, 100.0, PJ_ROW_DOUBLES * ROWS, GROUPS) == PJ_REFUSAL_NOT_FINITE);
     EXPECT_ENDING(dfn_run, PJ_AT_DFN_CELL_ENDING, PJ_ENDED_REFUSED, 1);
     EXPECT_F64(dfn_run, PJ_AT_DFN_CELL_TIME_S, 1.0);
     EXPECT(discharge(36000.0, 7) == PJ_REFUSAL_LENGTH);
     EXPECT_U64(run, PJ_AT_CELL_ENDING + PJ_AT_ENDING_HOW, 0);
+}
+
+/* ---- summaries of lowest voltages ---- */
+
+/* Whether the places from the given row on hold -7 still. */
+static int kept_from(size_t row)
+{
+    size_t i;
+    for (i = PJ_ROW_DOUBLES * row; i < PJ_ROW_DOUBLES * ROWS; i++)
+        if (rows[i] != -7.0)
+            return 0;
+    return 1;
+}
+
+/* Rows and summary, and what is beside the summary, as -7. */
+static void clear_rows(void)
+{
+    size_t i;
+    for (i = 0; i < PJ_ROW_DOUBLES * ROWS; i++)
+        rows[i] = -7.0;
+    for (i = 0; i < GROUPS + 3; i++)
+        lowest_around[i] = -7.0;
+}
+
+/* Whether so many rows are written, and their summary, by a read of each group, and nothing else. */
+static int summary_is_of(size_t count)
+{
+    double expected[GROUPS + 3];
+    size_t i;
+    for (i = 0; i < GROUPS + 3; i++)
+        expected[i] = -7.0;
+    for (i = 0; i < count; i++) {
+        const double voltage = rows[PJ_ROW_DOUBLES * i];
+        double *place = expected + 1 + i / PJ_GROUP_ROWS;
+        if (i % PJ_GROUP_ROWS == 0 || voltage < *place)
+            *place = voltage;
+    }
+    return kept_from(count) && (count == 0 || rows[PJ_ROW_DOUBLES * count - 1] != -7.0) && memcmp(lowest_around, expected, sizeof expected) == 0;
+}
+
+/* A discharge from cleared slices: its refusal, and how many rows it writes. */
+static void summed(int line, double max_time_s, size_t rows_len, size_t lowest_len, uint64_t refusal, size_t made)
+{
+    const uint8_t *ending = run + PJ_AT_CELL_ENDING;
+    clear_rows();
+    expect(line, discharge_of(cell_nmc, max_time_s, rows_len, lowest_len) == refusal, "the run's refusal");
+    expect(line, made == (pj_get_u64(ending, PJ_AT_ENDING_HOW) == 0 ? 0 : pj_get_u64(ending, PJ_AT_ENDING_ROWS)), "its rows");
+    expect(line, summary_is_of(made), "rows and summary that are written");
+}
+
+#define EXPECT_SUMMED(max_time_s, rows_len, lowest_len, refusal, made) summed(__LINE__, max_time_s, rows_len, lowest_len, refusal, made)
+
+static void summaries(void)
+{
+    static uint8_t wild[PJ_DFN_CELL_BYTES];
+    EXPECT_SUMMED(36000.0, PJ_ROW_DOUBLES * ROWS, GROUPS, PJ_REFUSAL_NONE, 156);
+    EXPECT_SUMMED(36000.0, PJ_ROW_DOUBLES * ROWS, GROUPS + 1, PJ_REFUSAL_NONE, 156);
+    EXPECT_SUMMED(1.0, PJ_ROW_DOUBLES * ROWS, GROUPS, PJ_REFUSAL_NONE, 1);
+    EXPECT_SUMMED(0.0, PJ_ROW_DOUBLES * ROWS, GROUPS, PJ_REFUSAL_NONE, 0);
+    /* 519 doubles are 64 rows and one group, 520 one row more and two groups */
+    EXPECT_SUMMED(36000.0, 504, 1, PJ_REFUSAL_NONE, 63);
+    EXPECT_SUMMED(36000.0, 512, 1, PJ_REFUSAL_NONE, 64);
+    EXPECT_SUMMED(36000.0, 519, 1, PJ_REFUSAL_NONE, 64);
+    EXPECT_SUMMED(36000.0, 520, 2, PJ_REFUSAL_NONE, 65);
+    EXPECT_SUMMED(36000.0, 520, 1, PJ_REFUSAL_LENGTH, 0);
+    EXPECT_SUMMED(36000.0, PJ_ROW_DOUBLES, 0, PJ_REFUSAL_LENGTH, 0);
+    /* the room for rows is counted, not the rows that are written: 156 would have three groups */
+    EXPECT_SUMMED(36000.0, PJ_ROW_DOUBLES * ROWS, GROUPS - 1, PJ_REFUSAL_LENGTH, 0);
+    EXPECT_SUMMED(0.0, PJ_ROW_DOUBLES * ROWS, GROUPS - 1, PJ_REFUSAL_LENGTH, 0);
+
+    /* after 1 and before 2 to 5 */
+    memcpy(cell_of, cell_nmc, sizeof cell_of);
+    EXPECT_SUMMED(of_bits(UINT64_C(0x7FF8000000000000)), PJ_ROW_DOUBLES, 0, PJ_REFUSAL_LENGTH, 0);
+    EXPECT_SUMMED(of_bits(UINT64_C(0x7FF8000000000000)), PJ_ROW_DOUBLES, 1, PJ_REFUSAL_INTERVAL, 0);
+    pj_put_f64(cell_nmc, PJ_AT_CELL_TIME_S, -1.0);
+    EXPECT_SUMMED(36000.0, PJ_ROW_DOUBLES, 0, PJ_REFUSAL_LENGTH, 0);
+    EXPECT_SUMMED(36000.0, PJ_ROW_DOUBLES, 1, PJ_REFUSAL_SHEET, 0);
+    pj_put_u64(cell_nmc, PJ_AT_CELL_CONFIG + PJ_AT_CONFIG_N_NODES, 2);
+    EXPECT_SUMMED(36000.0, PJ_ROW_DOUBLES, 0, PJ_REFUSAL_GRID, 0);
+    memcpy(cell_nmc, cell_of, sizeof cell_nmc);
+
+    /* a DFN cell: full after three groups, the last of them short; a refused step; too few places */
+    clear_rows();
+    EXPECT(dfn_discharge(dfn, 2.0, 1e9, PJ_ROW_DOUBLES * 130, 3) == PJ_REFUSAL_NONE);
+    EXPECT_ENDING(dfn_run, PJ_AT_DFN_CELL_ENDING, PJ_ENDED_FULL, 130);
+    EXPECT(summary_is_of(130));
+    build_wild(wild);
+    clear_rows();
+    EXPECT(dfn_discharge(wild, 0.0, 100.0, PJ_ROW_DOUBLES * ROWS, GROUPS) == PJ_REFUSAL_NOT_FINITE);
+    EXPECT(summary_is_of(1));
+    clear_rows();
+    EXPECT(dfn_discharge(dfn, 2.0, 0.0, PJ_ROW_DOUBLES * ROWS, GROUPS - 1) == PJ_REFUSAL_LENGTH);
+    EXPECT(summary_is_of(0));
+}
+
+/* ---- searches by the summary ---- */
+
+/* The answer, with eight bytes before it and behind it. */
+static uint8_t found_around[8 + PJ_FOUND_BYTES + 8], *const found = found_around + 8;
+
+static uint64_t search(uint64_t which, size_t rows_len, size_t lowest_len, size_t count, double voltage, size_t answer_len)
+{
+    memset(found_around, 0xA5, sizeof found_around);
+    return pj_first_below((pj_run_t)which, rows, rows_len, lowest, lowest_len, count, voltage, found, answer_len);
+}
+
+/* Whether nothing is written from a byte of the answer on, nor before the answer. */
+static int answer_kept_from(size_t at)
+{
+    size_t i;
+    for (i = 0; i < sizeof found_around; i++)
+        if ((i < 8 || i >= 8 + at) && found_around[i] != 0xA5)
+            return 0;
+    return 1;
+}
+
+/* Whether the search in so many rows, with no place too many, answers with this row; with none where this is the count. */
+static int finds(uint64_t which, size_t count, double voltage, size_t row)
+{
+    return search(which, PJ_ROW_DOUBLES * count, PJ_GROUPS(count), count, voltage, PJ_FOUND_BYTES) == PJ_REFUSAL_NONE
+        && pj_get_u64(found, PJ_AT_FOUND_HOW) == (row < count ? PJ_FOUND_ROW : PJ_FOUND_NONE)
+        && pj_get_u64(found, PJ_AT_FOUND_ROW) == (row < count ? row : 0) && answer_kept_from(PJ_FOUND_BYTES);
+}
+
+/* The first row under a voltage from the given one on, by a read of all; the count where there is none. */
+static size_t read_from(size_t row, size_t count, double voltage)
+{
+    while (row < count && !(rows[PJ_ROW_DOUBLES * row] < voltage))
+        row++;
+    return row;
+}
+
+/* On what a run left the search is a full read: for every count, at each row's voltage and at the binary64 beside it on either side. */
+static void searches_after_run(uint64_t which, size_t made)
+{
+    size_t count, row, wrong = 0, hits = 0;
+    for (count = 0; count <= made; count++)
+        for (row = 0; row < made; row++) {
+            uint64_t word;
+            int beside;
+            memcpy(&word, &rows[PJ_ROW_DOUBLES * row], sizeof word);
+            for (beside = -1; beside <= 1; beside++) {
+                const double voltage = of_bits(word + (uint64_t)(int64_t)beside);
+                const size_t first = read_from(0, count, voltage);
+                wrong += !finds(which, count, voltage, first);
+                hits += first < count;
+            }
+        }
+    EXPECT(wrong == 0 && hits > 10000);
+    EXPECT(finds(which, made, -10.0, made) && finds(which, made, 10.0, 0));
+}
+
+static void searches(void)
+{
+    clear_rows();
+    EXPECT(discharge(36000.0, PJ_ROW_DOUBLES * ROWS) == PJ_REFUSAL_NONE);
+    searches_after_run(PJ_RUN_DISCHARGE, 156);
+    /* found in the first group, in a later one, in the last, which is short, and not among the rows before it */
+    EXPECT(finds(PJ_RUN_DISCHARGE, 156, 3.7, read_from(0, 156, 3.7)) && read_from(0, 156, 3.7) < 64);
+    EXPECT(finds(PJ_RUN_DISCHARGE, 156, 3.5, read_from(0, 156, 3.5)) && read_from(0, 156, 3.5) >= 64);
+    EXPECT(finds(PJ_RUN_DISCHARGE, 156, 3.0, 155) && finds(PJ_RUN_DISCHARGE, 155, 3.0, 155));
+    clear_rows();
+    EXPECT(dfn_discharge(dfn, -2.0, 1e9, PJ_ROW_DOUBLES * 130, 3) == PJ_REFUSAL_NONE);
+    searches_after_run(PJ_RUN_GALVANOSTATIC, 130);
+}
+
+/* Patterns that are special to binary64, and voltages. */
+static const uint64_t patterns[] = {
+    0, UINT64_C(1) << 63, 1, UINT64_C(0x8000000000000001), UINT64_C(0x7FEFFFFFFFFFFFFF), UINT64_C(0xFFEFFFFFFFFFFFFF),
+    UINT64_C(0xFFF0000000000000), UINT64_C(0xFFF0000000000001), UINT64_C(0x400C000000000000), UINT64_C(0x400C000000000001),
+    UINT64_C(0x4010000000000000), UINT64_C(0x7FF0000000000000), UINT64_C(0x7FF8000000000000), UINT64_MAX,
+};
+/* the last three are under no voltage */
+enum { PATTERNS = sizeof patterns / sizeof patterns[0], NEVER_UNDER = PATTERNS - 3 };
+
+static int is_finite(uint64_t word)
+{
+    return (word >> 52 & 0x7FF) != 0x7FF;
+}
+
+/* The rule of the header, read over whatever the slices hold. */
+static size_t by_rule(size_t count, double voltage)
+{
+    size_t group, row;
+    for (group = 0; PJ_GROUP_ROWS * group < count; group++) {
+        const size_t end = PJ_GROUP_ROWS * (group + 1) < count ? PJ_GROUP_ROWS * (group + 1) : count;
+        if (lowest[group] < voltage) {
+            row = read_from(PJ_GROUP_ROWS * group, end, voltage);
+            if (row < end)
+                return row;
+        }
+    }
+    return count;
+}
+
+static uint64_t drawn = 1;
+
+static uint64_t draw(void)
+{
+    drawn = drawn * UINT64_C(6364136223846793005) + UINT64_C(1442695040888963407);
+    return drawn >> 33;
+}
+
+/* Any patterns in rows and summary; few voltages are under any other; beside them stands what is under all. */
+static void fill_with_garbage(void)
+{
+    const uint64_t rare = 1 + draw() % 200;
+    size_t i;
+    for (i = 0; i < PJ_ROW_DOUBLES * ROWS; i++)
+        rows[i] = of_bits(UINT64_C(0xFFF0000000000000));
+    for (i = 0; i < ROWS; i++)
+        rows[PJ_ROW_DOUBLES * i] = of_bits(patterns[draw() % rare == 0 ? draw() % PATTERNS : NEVER_UNDER + draw() % 3]);
+    for (i = 0; i < GROUPS + 3; i++)
+        lowest_around[i] = of_bits(patterns[draw() % PATTERNS]);
+}
+
+/* Rows and summaries of NaNs, infinities, zeros of both signs and other patterns, which do not fit each other; neither is written. */
+static void garbage_searches(void)
+{
+    static const size_t counts[] = {0, 1, 63, 64, 65, 127, 128, 129, 192, 193, ROWS};
+    static double rows_before[PJ_ROW_DOUBLES * ROWS], lowest_before[GROUPS + 3];
+    size_t turn, i, wrong = 0, none = 0, some = 0, other = 0;
+    for (turn = 0; turn < 3000; turn++) {
+        fill_with_garbage();
+        memcpy(rows_before, rows, sizeof rows);
+        memcpy(lowest_before, lowest_around, sizeof lowest_around);
+        for (i = 0; i < sizeof counts / sizeof counts[0]; i++) {
+            const uint64_t word = patterns[draw() % PATTERNS], which = 1 + draw() % 2;
+            const size_t first = by_rule(counts[i], of_bits(word));
+            if (!is_finite(word)) {
+                wrong += search(which, PJ_ROW_DOUBLES * ROWS, GROUPS, counts[i], of_bits(word), PJ_FOUND_BYTES) != PJ_REFUSAL_SHEET;
+                wrong += !answer_kept_from(0);
+                continue;
+            }
+            wrong += !finds(which, counts[i], of_bits(word), first);
+            none += first == counts[i];
+            some += first < counts[i];
+            other += first != read_from(0, counts[i], of_bits(word));
+        }
+        wrong += memcmp(rows, rows_before, sizeof rows) != 0 || memcmp(lowest_around, lowest_before, sizeof lowest_around) != 0;
+    }
+    EXPECT(wrong == 0);
+    /* the last: not what a full read finds */
+    EXPECT(none > 1000 && some > 1000 && other > 1000);
+}
+
+static void search_refused(int line, uint64_t which, size_t rows_len, size_t lowest_len, size_t count, double voltage, size_t answer_len,
+                           uint64_t refusal)
+{
+    expect(line, search(which, rows_len, lowest_len, count, voltage, answer_len) == refusal, "the search's refusal");
+    expect(line, answer_kept_from(0), "nothing is written");
+}
+
+#define EXPECT_NO_SEARCH(which, rows_len, lowest_len, count, voltage, answer_len, refusal) \
+    search_refused(__LINE__, which, rows_len, lowest_len, count, voltage, answer_len, refusal)
+
+/* 10 of the answer, the rows and the summary, and then 2 of the run and the voltage. */
+static void refused_searches(void)
+{
+    static const size_t counts[] = {
+        ROWS + 1, PJ_ROW_DOUBLES * ROWS, (size_t)1 << 32, ((size_t)1 << 61) - 1, (size_t)1 << 61, ((size_t)1 << 61) + 1,
+        ((size_t)1 << 61) + 64, (size_t)1 << 63, SIZE_MAX - 63, SIZE_MAX,
+    };
+    static const uint64_t runs[] = {0, 3, UINT64_C(1) << 32, (UINT64_C(1) << 32) + 1, (UINT64_C(1) << 63) + 2, UINT64_MAX};
+    static const uint64_t voltages[] = {
+        UINT64_C(0x7FF0000000000000), UINT64_C(0xFFF0000000000000), UINT64_C(0x7FF8000000000000), UINT64_C(0xFFF8000000000000),
+        UINT64_C(0x7FF0000000000001), UINT64_MAX,
+    };
+    const size_t all = PJ_ROW_DOUBLES * ROWS, bytes = PJ_FOUND_BYTES;
+    size_t i;
+    clear_rows();
+    for (i = 0; i < sizeof counts / sizeof counts[0]; i++) {
+        EXPECT_NO_SEARCH(PJ_RUN_DISCHARGE, all, GROUPS, counts[i], 3.0, bytes, PJ_REFUSAL_LENGTH);
+        EXPECT_NO_SEARCH(PJ_RUN_DISCHARGE, 0, 0, counts[i], 3.0, bytes, PJ_REFUSAL_LENGTH);
+    }
+    for (i = 1; i <= ROWS; i++) {
+        EXPECT_NO_SEARCH(PJ_RUN_GALVANOSTATIC, PJ_ROW_DOUBLES * i - 1, GROUPS, i, 3.0, bytes, PJ_REFUSAL_LENGTH);
+        EXPECT_NO_SEARCH(PJ_RUN_GALVANOSTATIC, all, PJ_GROUPS(i) - 1, i, 3.0, bytes, PJ_REFUSAL_LENGTH);
+        EXPECT(finds(PJ_RUN_GALVANOSTATIC, i, 3.0, 0));
+    }
+    for (i = 0; i < sizeof runs / sizeof runs[0]; i++) {
+        EXPECT_NO_SEARCH(runs[i], all, GROUPS, ROWS, 3.0, bytes, PJ_REFUSAL_SHEET);
+        EXPECT_NO_SEARCH(runs[i], 0, 0, 0, 3.0, bytes, PJ_REFUSAL_SHEET);
+        EXPECT_NO_SEARCH(runs[i], all - 1, GROUPS, ROWS, 3.0, bytes, PJ_REFUSAL_LENGTH);
+        EXPECT_NO_SEARCH(runs[i], all, GROUPS - 1, ROWS, 3.0, bytes, PJ_REFUSAL_LENGTH);
+        EXPECT_NO_SEARCH(runs[i], all, GROUPS, ROWS, 3.0, bytes - 1, PJ_REFUSAL_LENGTH);
+        EXPECT_NO_SEARCH(PJ_RUN_DISCHARGE, all, GROUPS, ROWS, of_bits(voltages[i]), bytes, PJ_REFUSAL_SHEET);
+        EXPECT_NO_SEARCH(PJ_RUN_DISCHARGE, all, GROUPS - 1, ROWS, of_bits(voltages[i]), bytes, PJ_REFUSAL_LENGTH);
+    }
+    EXPECT_NO_SEARCH(PJ_RUN_DISCHARGE, all, GROUPS, ROWS, 3.0, 0, PJ_REFUSAL_LENGTH);
+    EXPECT_NO_SEARCH(PJ_RUN_DISCHARGE, all, GROUPS, ROWS, 3.0, bytes + 1, PJ_REFUSAL_LENGTH);
+    EXPECT(finds(PJ_RUN_DISCHARGE, 0, 3.0, 0) && finds(PJ_RUN_DISCHARGE, ROWS, -7.0, ROWS));
+    EXPECT(summary_is_of(0));
 }
 
 /* ---- replays: a text of lines on cell_nmc ---- */
@@ -693,16 +1024,6 @@ static uint64_t replay(size_t text_len, double temp_k, size_t rows_len)
         rows[i] = -7.0;
     pj_put_u64(run, PJ_AT_CELL_ENDING + PJ_AT_ENDING_HOW, 0);
     return pj_replay(cell_nmc, sizeof cell_nmc, text, text_len, temp_k, rows, rows_len, run, sizeof run);
-}
-
-/* Whether the places from the given row on hold -7 still. */
-static int kept_from(size_t row)
-{
-    size_t i;
-    for (i = PJ_ROW_DOUBLES * row; i < PJ_ROW_DOUBLES * ROWS; i++)
-        if (rows[i] != -7.0)
-            return 0;
-    return 1;
 }
 
 /* Three lines that differ: 10 s at 3 A, 60 s at 2 A, 0.5 s at -1 A. */
@@ -1113,10 +1434,11 @@ static void refusals(void)
 int main(void)
 {
 #ifdef SIZE_FOR_A_CALL
-    /* C++ refuses this; harness/c/run sees to it */
+    /* C++ refuses these; harness/c/run sees to it */
     EXPECT(pj_number(PJ_SHEET_BYTES, empty, 0, 0, 0, run, PJ_NUMBER_BYTES) == PJ_REFUSAL_SHEET);
+    EXPECT(pj_first_below(PJ_BUILD_GRAPHITE_ANODE, rows, 0, rows, 0, 0, 0, run, PJ_FOUND_BYTES) == PJ_REFUSAL_NONE);
 #endif
-    EXPECT(PJ_LAYOUT_VERSION == 2);
+    EXPECT(PJ_LAYOUT_VERSION == 3);
     ready_sheets();
     ready_electrolyte_params();
     ready_dfn_params();
@@ -1133,6 +1455,10 @@ int main(void)
     dfn_steps();
     discharges();
     galvanostatic_runs();
+    summaries();
+    searches();
+    garbage_searches();
+    refused_searches();
     replayed_rows();
     replay_endings();
     wrong_lines();

@@ -1,6 +1,6 @@
 /* How firmware calls the stepper: builds the ready cell graphite_nmc with 11 nodes, discharges it at 5 A down to 3 V into
- * a lent array, prints some of the rows and how the run ended, and shows a refusal. harness/c/run compiles it and
- * compares what it prints with expected.txt, which is the oracle's. */
+ * a lent array, prints some of the rows and how the run ended, finds the first row under a chosen voltage, and shows a refusal.
+ * harness/c/run compiles it and compares what it prints with expected.txt, which is the oracle's. */
 #include "persimmonjib.h"
 
 #include <inttypes.h>
@@ -26,8 +26,8 @@ static int refused(const char *what, uint64_t refusal)
 int main(void)
 {
     static uint8_t config[PJ_CONFIG_BYTES], cell[PJ_CELL_BYTES], answer[PJ_CELL_RUN_BYTES], soc[PJ_NUMBER_BYTES];
-    static double rows[PJ_ROW_DOUBLES * ROWS];
-    const double current_a = 5.0, dt = 10.0, temp_k = 298.15, max_time_s = 3600.0;
+    static double rows[PJ_ROW_DOUBLES * ROWS], lowest[PJ_GROUPS(ROWS)];
+    const double current_a = 5.0, dt = 10.0, temp_k = 298.15, max_time_s = 3600.0, chosen = 3.5;
 
     pj_put_u64(config, PJ_AT_CONFIG_N_NODES, 11);
     pj_put_f64(config, PJ_AT_CONFIG_V_MIN, 3.0);
@@ -39,8 +39,9 @@ int main(void)
     if (refusal != PJ_REFUSAL_NONE)
         return refused("graphite_nmc", refusal);
 
-    /* rows_len counts doubles. The answer is new, so its ending is 0 unless the run writes it. */
-    refusal = pj_simulate_discharge(cell, sizeof cell, current_a, dt, temp_k, max_time_s, rows, PJ_ROW_DOUBLES * ROWS, answer, sizeof answer);
+    /* rows_len and lowest_len count doubles. The answer is new, so its ending is 0 unless the run writes it. */
+    refusal = pj_simulate_discharge(cell, sizeof cell, current_a, dt, temp_k, max_time_s, rows, PJ_ROW_DOUBLES * ROWS, lowest,
+                                    PJ_GROUPS(ROWS), answer, sizeof answer);
     uint64_t ending = pj_get_u64(answer, PJ_AT_CELL_ENDING + PJ_AT_ENDING_HOW);
     uint64_t count = pj_get_u64(answer, PJ_AT_CELL_ENDING + PJ_AT_ENDING_ROWS);
     if (refusal != PJ_REFUSAL_NONE)
@@ -57,6 +58,22 @@ int main(void)
                    row[PJ_CELL_ROW_THETA_NEG], row[PJ_CELL_ROW_THETA_POS]);
     }
     printf("ended by %s after %" PRIu64 " rows\n", endings[ending], count);
+
+    /* The first row under a voltage, by the lowest voltages of groups of rows; a read of all rows finds the same. */
+    static uint8_t found[PJ_FOUND_BYTES];
+    refusal = pj_first_below(PJ_RUN_DISCHARGE, rows, PJ_ROW_DOUBLES * ROWS, lowest, PJ_GROUPS(ROWS), count, chosen, found, sizeof found);
+    if (refusal != PJ_REFUSAL_NONE)
+        return refused("first_below", refusal);
+    if (pj_get_u64(found, PJ_AT_FOUND_HOW) == PJ_FOUND_NONE) {
+        printf("no row under %.2f V\n", chosen);
+        return 1;
+    }
+    uint64_t first = pj_get_u64(found, PJ_AT_FOUND_ROW), read = 0;
+    while (read < count && !(rows[PJ_ROW_DOUBLES * read + PJ_CELL_ROW_VOLTAGE] < chosen))
+        read++;
+    const double *row = rows + PJ_ROW_DOUBLES * first;
+    printf("first under %.2f V: row %" PRIu64 " from 0, %.6f V at %.1f s; a full read finds %s\n", chosen, first, row[PJ_CELL_ROW_VOLTAGE],
+           row[PJ_CELL_ROW_TIME_S], read == first ? "the same" : "another");
 
     /* The answer begins with the cell after the run: it is handed in again. */
     refusal = pj_number(PJ_NUMBER_SOC_ESTIMATE, answer, PJ_CELL_BYTES, 0.0, 0.0, soc, sizeof soc);

@@ -7,7 +7,7 @@
  * Every pattern of a NaN is read as the NaN; an answer that is written holds no NaN and no infinity. Images may lie at any
  * address. Places of an array that are not used must be +0 by their bits.
  *
- * SLICES are a pointer and then a length: in bytes for images, answers and texts, in doubles for rows and matrices. A pointer
+ * SLICES are a pointer and then a length: in bytes for images, answers and texts, in doubles for rows, lowest voltages and matrices. A pointer
  * must not be null, not even that of an empty slice; what one call is lent must not overlap; doubles are aligned to 8.
  *
  * EACH CALL RETURNS 0 or a PJ_REFUSAL_... Every length of an image and of an answer must be exact, else the call is refused with
@@ -16,13 +16,13 @@
  *
  * RANGES are closed, and no NaN and no infinity lies in one. A whole record is checked by every call.
  *
- * PLATFORM. The archive is for x86-64 (System V calling convention) and holds about 117 kB of code and tables. It leaves memcpy
+ * PLATFORM. The archive is for x86-64 (System V calling convention) and holds about 118 kB of code and tables. It leaves memcpy
  * and memset undefined, which the C library or the firmware has to supply, and needs nothing else: no heap, no file, no clock, no
  * C library beyond these two, no thread. Calls keep no state, so that they may run on several threads at once, each on memory of its own.
  *
  * FLOATING POINT. A call must find the processor as the System V convention has it at a program's start: round to nearest, all
  * floating-point exceptions masked, and neither flush-to-zero nor denormals-are-zero (MXCSR = 0x1F80). With both of the last on,
- * 1.9 in 100 drawn calls give other bits or another refusal (in 6.2 of 100 drawn lists of calls; harness/flush/run counts them), and
+ * 2.1 in 100 drawn calls give other bits or another refusal (in 7.6 of 100 drawn lists of calls; harness/flush/run counts them), and
  * no proof covers that. A program that gcc links with -ffast-math starts with both on: turn them off around the calls.
  *
  * STACK. A call needs at most PJ_STACK_..._BYTES of it, whatever it is handed, and what memcpy and memset need besides.
@@ -35,9 +35,10 @@
 #include <stdint.h>
 #include <string.h>
 
-/* Rises when a size, an offset, a number or the meaning of a field changes. Compare it with the one that you wrote for.
- * 2: a sheet and electrolyte parameters end with t_ref, so that these and the records that hold them are longer. */
-#define PJ_LAYOUT_VERSION 2
+/* Rises when a size, an offset, a number, the meaning of a field or what a call takes changes. Compare it with the one that you wrote for.
+ * 2: a sheet and electrolyte parameters end with t_ref, so that these and the records that hold them are longer.
+ * 3: pj_simulate_discharge and pj_run_galvanostatic take the summary of lowest voltages. */
+#define PJ_LAYOUT_VERSION 3
 
 #ifdef __cplusplus
 extern "C" {
@@ -48,7 +49,7 @@ extern "C" {
 enum pj_refusal {
     PJ_REFUSAL_NONE = 0,
     PJ_REFUSAL_GRID = 1,        /* a count of nodes, a matrix's order or a cycle's count of phases, repeats or steps out of its limits */
-    PJ_REFUSAL_SHEET = 2,       /* any other field, argument, place or clock out of range; a call number or kind of phase that is not listed */
+    PJ_REFUSAL_SHEET = 2,       /* any other field, argument, place or clock out of range; a call number, phase's kind or run that is not listed */
     PJ_REFUSAL_LOAD = 3,        /* a current, flux or source not finite or too large; a phase's current not above 0 */
     PJ_REFUSAL_INTERVAL = 4,    /* dt not above 0 or above 86,400 s; a time limit that is not finite; a rest's time out of 0 to 1e9 s */
     PJ_REFUSAL_TEMPERATURE = 5, /* temp_k out of 200 to 400 K */
@@ -56,13 +57,15 @@ enum pj_refusal {
     PJ_REFUSAL_SUB_STEPS = 7,   /* single-particle cell: dt needs more than 4,096 sub-steps */
     PJ_REFUSAL_NOT_FINITE = 8,  /* the result would hold a NaN or an infinity */
     PJ_REFUSAL_SINGULAR = 9,    /* pj_solve_dense: the largest pivot of a column is below 1e-14 */
-    PJ_REFUSAL_LENGTH = 10,     /* a wrong length of image or answer, rows_len under 8, in a cycle under 8 * budget, a_len not n*n, b_len not n */
+    PJ_REFUSAL_LENGTH = 10,     /* a wrong length of image or answer; rows_len under 8, in a cycle under 8 * budget, in a search under
+                                 * 8 * count; lowest_len under a run's or a search's groups of rows; a_len not n*n, b_len not n */
     PJ_REFUSAL_LINE = 11,       /* pj_replay: the next bytes of the text are not a line */
     PJ_REFUSAL_FILE = 12        /* pj_replay: a text longer than PJ_MOST_TEXT_BYTES */
 };
 /* Where several are met, one is returned: a call number that is not listed (2) or a text that is too long (12), then a wrong length of
  * image or answer (10), then the first of 1, 10, 2, 3, 4, 5, 6, 7, 8, 9. A replay tests 1, 10, 2, 5 before its first line, and then of each
- * line 11, 3, 4, 6, 7, 8. A cycle tests 1, 10, 2, 3, 4, 5, each of all its phases, before its first step. */
+ * line 11, 3, 4, 6, 7, 8. A cycle tests 1, 10, 2, 3, 4, 5, each of all its phases, before its first step. A search tests 10, of all three
+ * lengths, and then 2, of a run that is not listed too. */
 
 /* How a run ended: the first word after the cell in its answer. No ending is 0. */
 enum pj_ending {
@@ -72,6 +75,12 @@ enum pj_ending {
     PJ_ENDED_REFUSED = 4, /* a step or a line was refused; the call returned its number */
     PJ_ENDED_DONE = 5,    /* pj_replay: no line is left; pj_cycle: the last phase has ended */
     PJ_ENDED_SPENT = 6    /* pj_cycle: the budget of steps is made and the last phase has not ended */
+};
+
+/* What a search found: the first word of its answer. Neither is 0. */
+enum pj_found {
+    PJ_FOUND_ROW = 1, /* a row under the chosen voltage */
+    PJ_FOUND_NONE = 2 /* no row under it */
 };
 
 /* ---- sizes of images, in bytes -------------------------------------------------------------------------------------------- */
@@ -91,6 +100,7 @@ enum pj_bytes {
     PJ_DFN_REPORT_BYTES = 64,
     PJ_SOLUTION_BYTES = 256,
     PJ_ENDING_BYTES = 16,
+    PJ_FOUND_BYTES = 16,
     PJ_PHASE_BYTES = 16,
     PJ_PHASES_BYTES = 128, /* PJ_PHASE_PLACES phases, one after the other */
 
@@ -265,6 +275,10 @@ enum pj_at {
     PJ_AT_ENDING_HOW = 0,  /* whole: PJ_ENDED_... */
     PJ_AT_ENDING_ROWS = 8, /* whole: how many rows were written */
 
+    /* what a search found */
+    PJ_AT_FOUND_HOW = 0, /* whole: PJ_FOUND_ROW or PJ_FOUND_NONE */
+    PJ_AT_FOUND_ROW = 8, /* whole: which row, counted from 0; 0 where there is none */
+
     /* a phase of pj_cycle */
     PJ_AT_PHASE_KIND = 0,   /* whole: PJ_PHASE_CHARGE, PJ_PHASE_REST or PJ_PHASE_DISCHARGE */
     PJ_AT_PHASE_NUMBER = 8, /* A, above 0 to 1e6, of a charge too, else PJ_REFUSAL_LOAD; of a rest s, 0 to 1e9, else PJ_REFUSAL_INTERVAL */
@@ -292,6 +306,7 @@ enum pj_stack {
     PJ_STACK_RUN_GALVANOSTATIC_BYTES = 65536,
     PJ_STACK_REPLAY_BYTES = 16384,
     PJ_STACK_CYCLE_BYTES = 16384,
+    PJ_STACK_FIRST_BELOW_BYTES = 256,
     PJ_STACK_SOLVE_DENSE_BYTES = 16384
 };
 
@@ -332,17 +347,20 @@ static inline void pj_put_f64(uint8_t *image, size_t at, double number)
 
 /* ---- numbers and records --------------------------------------------------------------------------------------------------- */
 
-/* In C++ the number of a call is an enumeration of its own: a size or a build's number is not taken for it. */
+/* In C++ the number of a call, or of a run, is an enumeration of its own: a size or a build's number is not taken for it. */
 #ifdef __cplusplus
 #define PJ_CALL_ENUM(name) enum name : uint64_t
 enum pj_number_call : uint64_t;
 enum pj_build_call : uint64_t;
+enum pj_run : uint64_t;
 typedef pj_number_call pj_number_call_t;
 typedef pj_build_call pj_build_call_t;
+typedef pj_run pj_run_t;
 #else
 #define PJ_CALL_ENUM(name) enum name
 typedef uint64_t pj_number_call_t;
 typedef uint64_t pj_build_call_t;
+typedef uint64_t pj_run_t;
 #endif
 
 /* pj_number: a number from an image and at most two arguments. The answer is one binary64, a count of nodes too. temp_k is
@@ -470,6 +488,20 @@ enum pj_dfn_row {
     PJ_DFN_ROW_NEWTON_ITER = 7    /* always 1.0 */
 };
 
+/* The summary of a run's rows: the lowest voltage of each group of 64 rows, of equals the first. Place g is that of rows 64 * g to
+ * 64 * g + 63, as far as they are written, so that the last group may be short. pj_simulate_discharge and pj_run_galvanostatic keep it
+ * in `lowest` beside their rows, with each row that they write, and pj_first_below finds by it the first row under a voltage without
+ * reading all of them.
+ *
+ * lowest_len counts doubles: one for each group of all whole rows that rows_len has room for, however many the run will write. Fewer
+ * are refused with 10 before the first step, more are taken. Places after the last row's group keep their content, and after a refused
+ * step the summary is that of the rows before it.
+ *
+ *     double rows[PJ_ROW_DOUBLES * 1000], lowest[PJ_GROUPS(1000)];
+ */
+#define PJ_GROUP_ROWS 64
+#define PJ_GROUPS(rows) ((rows) / PJ_GROUP_ROWS + ((rows) % PJ_GROUP_ROWS != 0))
+
 /* A run steps until the voltage, the time limit, the end of a replay's text or the room for rows ends it, tested after each row in this
  * order, a cycle until the end of its last phase or of its budget does, or until a step or a line is refused. Places after its last row keep
  * their content.
@@ -486,16 +518,42 @@ enum pj_dfn_row {
 /* current_a, dt, temp_k  as in pj_cell_step, with its WARNINGS: a run may sit at one voltage until its time is over
  * max_time_s             s, any finite number. It is compared with the run's own clock, which starts at 0 in each call, before each
  *                        step: at 0 or below there is no row. (time_s in a row is the cell's clock, which goes on.)
+ * lowest                 summary of the rows, at least PJ_GROUPS(rows_len / PJ_ROW_DOUBLES) places
  * answer                 cell and ending, PJ_CELL_RUN_BYTES */
-uint64_t pj_simulate_discharge(const uint8_t *cell, size_t cell_len, double current_a, double dt, double temp_k,
-                               double max_time_s, double *rows, size_t rows_len, uint8_t *answer, size_t answer_len);
+uint64_t pj_simulate_discharge(const uint8_t *cell, size_t cell_len, double current_a, double dt, double temp_k, double max_time_s,
+                               double *rows, size_t rows_len, double *lowest, size_t lowest_len, uint8_t *answer, size_t answer_len);
 
 /* current_a, dt_s  as in pj_dfn_step, with its WARNINGS
  * max_time_s       s, any finite number. It is compared with the CELL's clock, after each step: there is always a first row, and a
  *                  cell that is handed in again past the limit makes one row and ends.
+ * lowest           summary of the rows, at least PJ_GROUPS(rows_len / PJ_ROW_DOUBLES) places
  * answer           DFN cell and ending, PJ_DFN_RUN_BYTES */
 uint64_t pj_run_galvanostatic(const uint8_t *cell, size_t cell_len, double current_a, double dt_s, double max_time_s,
-                              double *rows, size_t rows_len, uint8_t *answer, size_t answer_len);
+                              double *rows, size_t rows_len, double *lowest, size_t lowest_len, uint8_t *answer, size_t answer_len);
+
+/* Which of the two wrote the rows that are searched. */
+PJ_CALL_ENUM(pj_run) {
+    PJ_RUN_DISCHARGE = 1,    /* pj_simulate_discharge */
+    PJ_RUN_GALVANOSTATIC = 2 /* pj_run_galvanostatic */
+};
+
+/* The first of a run's rows whose voltage is under a chosen one.
+ * which    the run that wrote the rows; any other number is refused with 2
+ * rows     as the run left them, PJ_ROW_DOUBLES for each row of count or more
+ * lowest   as the run left it, a place for each group of count rows, PJ_GROUPS(count), or more
+ * count    how many rows are looked at, from the first: all that the run wrote, as its ending says, or fewer; 0 finds none
+ * voltage  V, any finite number, else refused with 2
+ * answer   what was found, PJ_FOUND_BYTES: PJ_FOUND_ROW and the row, whose voltage is rows[PJ_ROW_DOUBLES * row], or PJ_FOUND_NONE
+ *
+ * A group is passed over unless its place in lowest is under the voltage. In another the rows below count are read from the first, and
+ * the first that is under the voltage is the answer; where none is, the next group follows. On rows and summary as a run left them the
+ * answer is that of a read of all rows from the first. Whatever else they hold, it is the first row under the voltage in the groups
+ * that are not passed over; a NaN is under no voltage, in rows and in lowest. Rows of pj_replay and pj_cycle have no summary.
+ *
+ * Refused with 10 before all else: answer_len not PJ_FOUND_BYTES, rows_len under 8 * count, lowest_len under PJ_GROUPS(count). A refusal
+ * leaves the answer as it was. */
+uint64_t pj_first_below(pj_run_t which, const double *rows, size_t rows_len, const double *lowest, size_t lowest_len, size_t count,
+                        double voltage, uint8_t *answer, size_t answer_len);
 
 /* A replay is a run under a recorded load: a text of lines, each of which makes a step and a row. A line is PJ_LINE_BYTES bytes: interval
  * (s) and current (A), each as the 16 hexadecimal digits 0-9 A-F of its binary64's bits, the highest first, a tab between them and a line feed

@@ -202,7 +202,7 @@ static void dfn_cells(void)
 static uint8_t particle[PJ_PARTICLE_BYTES], cell[PJ_CELL_BYTES], coarse[PJ_CELL_BYTES], electrolyte[PJ_ELECTROLYTE_BYTES], dfn[PJ_DFN_CELL_BYTES];
 /* a row for each step of the largest budget */
 enum { MOST_STEPS = 100000 };
-static double rows[PJ_ROW_DOUBLES * (MOST_STEPS + 1)];
+static double rows[PJ_ROW_DOUBLES * (MOST_STEPS + 1)], lowest[1];
 
 /* Each call as a function of one of its arguments. */
 static uint64_t flux(double x) { return pj_particle_step(particle, sizeof particle, x, 1.0, T, answer, PJ_PARTICLE_BYTES); }
@@ -216,11 +216,28 @@ static uint64_t salt_dt(double x) { return pj_electrolyte_step(electrolyte, size
 static uint64_t salt_temp(double x) { return pj_electrolyte_step(electrolyte, sizeof electrolyte, 0.0, 0.0, 1.0, x, answer, PJ_ELECTROLYTE_BYTES); }
 static uint64_t dfn_current(double x) { return pj_dfn_step(dfn, sizeof dfn, x, 1.0, answer, PJ_DFN_STEP_BYTES); }
 static uint64_t dfn_dt(double x) { return pj_dfn_step(dfn, sizeof dfn, 0.0, x, answer, PJ_DFN_STEP_BYTES); }
-static uint64_t run_current(double x) { return pj_simulate_discharge(cell, sizeof cell, x, 1.0, T, 1.0, rows, PJ_ROW_DOUBLES, answer, PJ_CELL_RUN_BYTES); }
-static uint64_t run_temp(double x) { return pj_simulate_discharge(cell, sizeof cell, 1.0, 1.0, x, 1.0, rows, PJ_ROW_DOUBLES, answer, PJ_CELL_RUN_BYTES); }
-static uint64_t run_limit(double x) { return pj_simulate_discharge(cell, sizeof cell, 1.0, 1.0, T, x, rows, PJ_ROW_DOUBLES, answer, PJ_CELL_RUN_BYTES); }
-static uint64_t dfn_run_current(double x) { return pj_run_galvanostatic(dfn, sizeof dfn, x, 1.0, 1.0, rows, PJ_ROW_DOUBLES, answer, PJ_DFN_RUN_BYTES); }
-static uint64_t dfn_run_limit(double x) { return pj_run_galvanostatic(dfn, sizeof dfn, 0.0, 1.0, x, rows, PJ_ROW_DOUBLES, answer, PJ_DFN_RUN_BYTES); }
+/* A run of one row, which is one group. */
+static uint64_t run(double current_a, double temp_k, double max_time_s)
+{
+    return pj_simulate_discharge(cell, sizeof cell, current_a, 1.0, temp_k, max_time_s, rows, PJ_ROW_DOUBLES, lowest, 1, answer, PJ_CELL_RUN_BYTES);
+}
+
+static uint64_t dfn_run(double current_a, double max_time_s)
+{
+    return pj_run_galvanostatic(dfn, sizeof dfn, current_a, 1.0, max_time_s, rows, PJ_ROW_DOUBLES, lowest, 1, answer, PJ_DFN_RUN_BYTES);
+}
+
+static uint64_t search(uint64_t which, double voltage)
+{
+    return pj_first_below(which, rows, PJ_ROW_DOUBLES, lowest, 1, 1, voltage, answer, PJ_FOUND_BYTES);
+}
+
+static uint64_t run_current(double x) { return run(x, T, 1.0); }
+static uint64_t run_temp(double x) { return run(1.0, x, 1.0); }
+static uint64_t run_limit(double x) { return run(1.0, T, x); }
+static uint64_t dfn_run_current(double x) { return dfn_run(x, 1.0); }
+static uint64_t dfn_run_limit(double x) { return dfn_run(0.0, x); }
+static uint64_t chosen_voltage(double x) { return search(PJ_RUN_DISCHARGE, x); }
 static uint64_t replay(double dt, double current_a, double temp_k)
 {
     static uint8_t text[PJ_LINE_BYTES];
@@ -284,6 +301,7 @@ static void arguments(void)
         {"run_limit", run_limit, -DBL_MAX, DBL_MAX, PJ_REFUSAL_INTERVAL}, {"dfn_run_limit", dfn_run_limit, -DBL_MAX, DBL_MAX, PJ_REFUSAL_INTERVAL},
         {"theta", theta, -DBL_MAX, DBL_MAX, PJ_REFUSAL_SHEET}, {"radius", radius, 1e-8, 1e-3, PJ_REFUSAL_SHEET},
         {"porosity", porosity, 0.01, 1, PJ_REFUSAL_SHEET}, {"clock", clock_s, 0, DBL_MAX, PJ_REFUSAL_SHEET},
+        {"chosen_voltage", chosen_voltage, -DBL_MAX, DBL_MAX, PJ_REFUSAL_SHEET},
     };
     size_t i;
     for (i = 0; i < LENGTH(list); i++) {
@@ -329,6 +347,21 @@ static void cycles(void)
     expect(__LINE__, "a rest of -0 s", one_phase(PJ_PHASE_REST, -0.0, 1.0, T), PJ_REFUSAL_NONE);
 }
 
+/* Which run wrote the rows; the least lengths for counts about a group. */
+static void searches(void)
+{
+    static const uint64_t far_off[] = {(UINT64_C(1) << 32) + 1, UINT64_C(1) << 63, UINT64_MAX};
+    size_t i;
+    for (i = 0; i < 5; i++)
+        expect(__LINE__, "which run", search(i, 3.0), 1 <= i && i <= 2 ? PJ_REFUSAL_NONE : PJ_REFUSAL_SHEET);
+    for (i = 0; i < LENGTH(far_off); i++)
+        expect(__LINE__, "which run", search(far_off[i], 3.0), PJ_REFUSAL_SHEET);
+    expect(__LINE__, "64 rows", pj_first_below(1, rows, 512, lowest, 1, 64, 3.0, answer, PJ_FOUND_BYTES), PJ_REFUSAL_NONE);
+    expect(__LINE__, "a double too few", pj_first_below(1, rows, 511, lowest, 1, 64, 3.0, answer, PJ_FOUND_BYTES), PJ_REFUSAL_LENGTH);
+    expect(__LINE__, "no group", pj_first_below(1, rows, 512, lowest, 0, 64, 3.0, answer, PJ_FOUND_BYTES), PJ_REFUSAL_LENGTH);
+    expect(__LINE__, "65 rows", pj_first_below(1, rows, 520, lowest, 1, 65, 3.0, answer, PJ_FOUND_BYTES), PJ_REFUSAL_LENGTH);
+}
+
 static void orders(void)
 {
     static double a[33 * 33], b[33];
@@ -356,6 +389,7 @@ int main(void)
     expect(__LINE__, "DFN cell", pj_build(PJ_BUILD_DFN, new_dfn, sizeof new_dfn, dfn, sizeof dfn), PJ_REFUSAL_NONE);
     arguments();
     cycles();
+    searches();
     orders();
     if (failures != 0) {
         fprintf(stderr, "ranges.c: %d of %d do not hold\n", failures, checks);

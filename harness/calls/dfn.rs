@@ -1,4 +1,5 @@
 //! The DFN cell: dfn.rs.
+use crate::lowest::groups;
 use crate::runs::{refused, run, Ending, Run, Turn, ROW};
 use crate::table::{all_in, clock, finite_or_8, interval, load, places, range, Met, Range, MOST_CURRENT};
 use crate::words::{array, flag, float, word, Reader, Slot};
@@ -269,9 +270,11 @@ impl Cell {
         Ok((next, report))
     }
 
-    pub fn run_galvanostatic(&self, current_a: f64, dt_s: f64, max_time_s: f64, places: usize) -> Run<Self> {
+    /// Rows go to so many places, the summary of their lowest voltages to so many.
+    pub fn run_galvanostatic(&self, current_a: f64, dt_s: f64, max_time_s: f64, places: usize, lowest_places: usize) -> Run<Self> {
         let mut met = self.met();
         met.when(10, places < ROW);
+        met.when(10, lowest_places < groups(places / ROW));
         met.when(3, !load(current_a, MOST_CURRENT));
         met.when(4, !interval(dt_s) || !max_time_s.is_finite());
         if let Err(number) = met.refuse() {

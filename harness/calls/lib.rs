@@ -10,6 +10,7 @@ pub mod dfn;
 pub mod earlier;
 pub mod electrode;
 pub mod electrolyte;
+pub mod lowest;
 pub mod particle;
 pub mod replay;
 pub mod runs;

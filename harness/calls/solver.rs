@@ -1,5 +1,6 @@
 //! The single-particle cell: solver.rs.
 use crate::electrode::{finite, Sheet};
+use crate::lowest::groups;
 use crate::particle::{nodes_fit, Particle};
 use crate::runs::{refused, run, Ending, Run, Turn, ROW};
 use crate::table::{all_in, clock, finite_or_8, interval, load, range, Met, Range, MOST_CURRENT, TEMPERATURE};
@@ -198,9 +199,11 @@ impl Cell {
         finite(self.spm().soc_estimate())
     }
 
-    pub fn simulate_discharge(&self, current_a: f64, dt: f64, temp_k: f64, max_time_s: f64, places: usize) -> Run<Self> {
+    /// Rows go to so many places, the summary of their lowest voltages to so many.
+    pub fn simulate_discharge(&self, current_a: f64, dt: f64, temp_k: f64, max_time_s: f64, places: usize, lowest_places: usize) -> Run<Self> {
         let mut met = self.met();
         met.when(10, places < ROW);
+        met.when(10, lowest_places < groups(places / ROW));
         met.when(3, !load(current_a, MOST_CURRENT));
         met.when(4, !interval(dt) || !max_time_s.is_finite());
         met.when(5, !TEMPERATURE.holds(temp_k));

@@ -1,9 +1,11 @@
 //! A call, what the oracle answers to it, what the port answers, and where the two differ.
 use crate::images::{bytes_of, image_of, slots_of, words_of, Part, Record, DFN_PARAMS};
 use crate::schedules::{self, Phases};
+use crate::searches::Search;
 use calls::cycle::{Phase, Schedule};
 use calls::electrode::Sheet;
 use calls::electrolyte::{Electrolyte, Params, Regions};
+use calls::lowest::{first_below, lowest};
 use calls::particle::Particle;
 use calls::replay::MOST_TEXT;
 use calls::runs::{Ending, Run, ROW};
@@ -24,6 +26,7 @@ pub enum Function {
     Galvanostatic,
     Replay,
     Cycle,
+    FirstBelow,
     Solve,
 }
 
@@ -53,7 +56,7 @@ pub fn listed() -> Vec<Function> {
     let mut all: Vec<Function> = (1..=19).map(Function::Number).collect();
     all.extend((1..=12).map(Function::Build));
     all.extend([Function::ParticleStep, Function::CellStep, Function::ElectrolyteStep, Function::DfnStep]);
-    all.extend([Function::Discharge, Function::Galvanostatic, Function::Replay, Function::Cycle, Function::Solve]);
+    all.extend([Function::Discharge, Function::Galvanostatic, Function::Replay, Function::Cycle, Function::FirstBelow, Function::Solve]);
     all
 }
 
@@ -80,6 +83,7 @@ impl Function {
             Function::Galvanostatic => "run_galvanostatic".to_string(),
             Function::Replay => "replay".to_string(),
             Function::Cycle => "cycle".to_string(),
+            Function::FirstBelow => "first_below".to_string(),
             Function::Solve => "solve_dense".to_string(),
         }
     }
@@ -87,6 +91,20 @@ impl Function {
     /// Whether the call writes rows into a lent slice.
     pub fn is_run(self) -> bool {
         matches!(self, Function::Discharge | Function::Galvanostatic | Function::Replay | Function::Cycle)
+    }
+
+    /// Whether the call keeps a summary of lowest voltages beside its rows: its number as the run that a search is told of.
+    pub fn summed(self) -> Option<u64> {
+        match self {
+            Function::Discharge => Some(1),
+            Function::Galvanostatic => Some(2),
+            _ => None,
+        }
+    }
+
+    /// Whether the call is lent an image, be it an empty one.
+    pub fn takes_image(self) -> bool {
+        !matches!(self, Function::FirstBelow | Function::Solve)
     }
 
     /// The record that the call is lent.
@@ -112,7 +130,7 @@ impl Function {
             Function::CellStep | Function::Discharge | Function::Replay | Function::Cycle => Record::Cell,
             Function::ElectrolyteStep => Record::Electrolyte,
             Function::DfnStep | Function::Galvanostatic => Record::DfnCell,
-            Function::Solve => Record::Nothing,
+            Function::FirstBelow | Function::Solve => Record::Nothing,
         }
     }
 
@@ -123,7 +141,7 @@ impl Function {
             Function::Build(8..=10) => Record::Cell,
             Function::Build(11) => Record::Electrolyte,
             Function::Build(12) => Record::DfnCell,
-            Function::Number(_) | Function::Build(_) | Function::Solve => Record::Nothing,
+            Function::Number(_) | Function::Build(_) | Function::FirstBelow | Function::Solve => Record::Nothing,
             _ => self.record(),
         }
     }
@@ -137,6 +155,7 @@ impl Function {
             Function::CellStep => 72,
             Function::DfnStep => 64,
             _ if self.is_run() => 16,
+            Function::FirstBelow => 16,
             Function::Solve => 256,
             _ => 0,
         };
@@ -163,6 +182,7 @@ impl Function {
             Function::Galvanostatic => &[Load(1e6), Interval, Finite],
             Function::Replay => &[Temperature],
             Function::Cycle => &[Interval, Temperature],
+            Function::FirstBelow => &[Finite],
         }
     }
 
@@ -184,6 +204,7 @@ impl Function {
             Function::Replay => &[1, 2, 3, 4, 5, 6, 7, 10, 11, 12],
             Function::ElectrolyteStep => &[1, 2, 3, 4, 5, 8, 10],
             Function::DfnStep | Function::Galvanostatic => &[1, 2, 3, 4, 8, 10],
+            Function::FirstBelow => &[2, 10],
             Function::Solve => &[1, 2, 8, 9, 10],
         }
     }
@@ -204,35 +225,39 @@ pub struct Call {
     pub image: Vec<u8>,
     /// bit patterns
     pub numbers: Vec<u64>,
-    /// places of the lent slice
+    /// places of the slice that a run is lent for its rows
     pub rows: usize,
+    /// places of the slice for their summary
+    pub lowest: usize,
     /// a replay's lines
     pub text: Vec<u8>,
     /// a cycle's phases and counts
     pub phases: Phases,
+    pub search: Search,
     pub system: System,
     pub answer_bytes: usize,
     /// what lent memory holds before the call, and where in a word its bytes start
     pub filler: u64,
 }
 
-/// What a call answers: the number, the answer where it is written, the rows.
+/// What a call answers: the number, the answer where it is written, the rows, the places of their summary.
 #[derive(PartialEq)]
 pub struct Answer {
     pub number: u64,
     pub image: Option<Vec<u8>>,
     pub rows: Vec<u64>,
+    pub lowest: Vec<u64>,
     pub ending: Option<Ending>,
 }
 
 impl Answer {
     fn refused(number: u64) -> Self {
-        Self { number, image: None, rows: Vec::new(), ending: None }
+        Self { number, image: None, rows: Vec::new(), lowest: Vec::new(), ending: None }
     }
 
     fn of(parts: &[Part], result: Result<Vec<Slot>, u64>) -> Self {
         match result {
-            Ok(slots) => Self { number: 0, image: Some(image_of(parts, &slots)), rows: Vec::new(), ending: None },
+            Ok(slots) => Self { image: Some(image_of(parts, &slots)), ..Self::refused(0) },
             Err(number) => Self::refused(number),
         }
     }
@@ -249,8 +274,25 @@ impl Answer {
         }
         let mut all = slots(&made.cell);
         all.extend([Slot::Word(made.ending as u64), Slot::Word(made.rows.len() as u64)]);
-        Self { number: made.refusal, image: Some(image_of(parts, &all)), rows, ending: Some(made.ending) }
+        Self { image: Some(image_of(parts, &all)), rows, ending: Some(made.ending), ..Self::refused(made.refusal) }
     }
+
+    /// A run that keeps a summary of its rows.
+    fn summed<C>(parts: &[Part], made: &Run<C>, slots: impl Fn(&C) -> Vec<Slot>) -> Self {
+        Self { lowest: lowest(&made.rows).into_iter().map(bits).collect(), ..Self::run(parts, made, slots) }
+    }
+}
+
+fn floats(words: &[u64]) -> Vec<f64> {
+    words.iter().map(|word| f64::from_bits(*word)).collect()
+}
+
+/// What was found, 1 a row or 2 none, and which row.
+fn searched(search: &Search, voltage: f64) -> Answer {
+    let (rows, lowest) = (floats(&search.rows), floats(&search.lowest));
+    let found = first_below(search.which, &rows, &lowest, search.count as usize, voltage);
+    let words = |row: Option<usize>| row.map_or([2, 0], |row| [1, row as u64]);
+    Answer::of(&[Words(2)], found.map(|row| words(row).map(Slot::Word).to_vec()))
 }
 
 fn join(parts: &[Part], after: usize) -> Vec<Part> {
@@ -328,14 +370,14 @@ pub fn ask_oracle(call: &Call) -> Answer {
     if !function.is_listed() {
         return Answer::refused(2);
     }
-    let solve = function == Function::Solve;
+    let takes_image = function.takes_image();
     let phases_fit = function != Function::Cycle || call.phases.image.len() == schedules::IMAGE;
-    if call.answer_bytes != function.answer_bytes() || !solve && call.image.len() != function.record().bytes() || !phases_fit {
+    if call.answer_bytes != function.answer_bytes() || takes_image && call.image.len() != function.record().bytes() || !phases_fit {
         return Answer::refused(if call.text.len() > MOST_TEXT { 12 } else { 10 });
     }
-    let slots = if solve { Vec::new() } else { slots_of(function.record().parts(), &call.image) };
+    let slots = if takes_image { slots_of(function.record().parts(), &call.image) } else { Vec::new() };
     let mut reader = Reader::new(&slots);
-    let numbers: Vec<f64> = call.numbers.iter().map(|n| f64::from_bits(*n)).collect();
+    let numbers = floats(&call.numbers);
     let parts = function.next().parts();
     match (function, &numbers[..]) {
         (Function::Number(number), [x, y]) => of_number(number, &mut reader, *x, *y),
@@ -356,12 +398,12 @@ pub fn ask_oracle(call: &Call) -> Answer {
             Answer::of(&join(parts, 8), made.map(|(cell, report)| [cell.slots(), dfn::report_slots(&report)].concat()))
         }
         (Function::Discharge, [current_a, dt, temp_k, limit]) => {
-            let made = Cell::read(&mut reader).simulate_discharge(*current_a, *dt, *temp_k, *limit, call.rows);
-            Answer::run(&join(parts, 2), &made, Cell::slots)
+            let made = Cell::read(&mut reader).simulate_discharge(*current_a, *dt, *temp_k, *limit, call.rows, call.lowest);
+            Answer::summed(&join(parts, 2), &made, Cell::slots)
         }
         (Function::Galvanostatic, [current_a, dt_s, limit]) => {
-            let made = dfn::Cell::read(&mut reader).run_galvanostatic(*current_a, *dt_s, *limit, call.rows);
-            Answer::run(&join(parts, 2), &made, dfn::Cell::slots)
+            let made = dfn::Cell::read(&mut reader).run_galvanostatic(*current_a, *dt_s, *limit, call.rows, call.lowest);
+            Answer::summed(&join(parts, 2), &made, dfn::Cell::slots)
         }
         (Function::Replay, [temp_k]) => {
             let made = Cell::read(&mut reader).replay(&call.text, *temp_k, call.rows);
@@ -371,8 +413,8 @@ pub fn ask_oracle(call: &Call) -> Answer {
             let made = cycled(&Cell::read(&mut reader), call, *dt, *temp_k);
             Answer::run(&join(parts, 2), &made, Cell::slots)
         }
+        (Function::FirstBelow, [voltage]) => searched(&call.search, *voltage),
         (Function::Solve, []) => {
-            let floats = |words: &[u64]| -> Vec<f64> { words.iter().map(|n| f64::from_bits(*n)).collect() };
             let made = dense::solve_dense(&floats(&call.system.a), &floats(&call.system.b), call.system.n);
             Answer::of(&[Places(32)], made.map(|x| vec![calls::words::array(&x)]))
         }
@@ -453,6 +495,7 @@ pub struct Asked {
     a: Lent,
     b: Lent,
     rows: Lent,
+    lowest: Lent,
     answer: Lent,
 }
 
@@ -463,11 +506,14 @@ pub fn ask_port(call: &Call) -> Asked {
     let mut image = Lent::new(&mut filler, shift, call.image.len(), Some(&call.image));
     let mut a = Lent::new(&mut filler, 0, 8 * call.system.a.len(), Some(raw(&call.system.a)));
     let mut b = Lent::new(&mut filler, 0, 8 * call.system.b.len(), Some(raw(&call.system.b)));
-    let mut rows = Lent::new(&mut filler, 0, 8 * call.rows, None);
+    // a search is lent what a run has written
+    let search = (call.function == Function::FirstBelow).then_some(&call.search);
+    let mut rows = Lent::new(&mut filler, 0, 8 * search.map_or(call.rows, |s| s.rows.len()), search.map(|s| raw(&s.rows)));
+    let mut lowest = Lent::new(&mut filler, 0, 8 * search.map_or(call.lowest, |s| s.lowest.len()), search.map(|s| raw(&s.lowest)));
     let mut text = Lent::new(&mut filler, (call.filler >> 10) as usize % 8, call.text.len(), Some(&call.text));
     let mut phases = Lent::new(&mut filler, (call.filler >> 16) as usize % 8, call.phases.image.len(), Some(&call.phases.image));
     let mut answer = Lent::new(&mut filler, (call.filler >> 13) as usize % 8, call.answer_bytes, None);
-    let numbers: Vec<f64> = call.numbers.iter().map(|n| f64::from_bits(*n)).collect();
+    let numbers = floats(&call.numbers);
     let number = match (call.function, &numbers[..]) {
         (Function::Number(number), [x, y]) => port::number(number, image.bytes(), [*x, *y], answer.bytes()),
         (Function::Build(build), []) => port::build(build, image.bytes(), answer.bytes()),
@@ -476,20 +522,24 @@ pub fn ask_port(call: &Call) -> Asked {
         (Function::ElectrolyteStep, [p, q, dt, t]) => port::electrolyte_step(image.bytes(), [*p, *q, *dt, *t], answer.bytes()),
         (Function::DfnStep, [i, dt]) => port::dfn_step(image.bytes(), [*i, *dt], answer.bytes()),
         (Function::Discharge, [i, dt, t, limit]) => {
-            port::simulate_discharge(image.bytes(), [*i, *dt, *t, *limit], rows.floats(), answer.bytes())
+            port::simulate_discharge(image.bytes(), [*i, *dt, *t, *limit], rows.floats(), lowest.floats(), answer.bytes())
         }
         (Function::Galvanostatic, [i, dt, limit]) => {
-            port::run_galvanostatic(image.bytes(), [*i, *dt, *limit], rows.floats(), answer.bytes())
+            port::run_galvanostatic(image.bytes(), [*i, *dt, *limit], rows.floats(), lowest.floats(), answer.bytes())
         }
         (Function::Replay, [t]) => port::replay(image.bytes(), text.bytes(), *t, rows.floats(), answer.bytes()),
         (Function::Cycle, [dt, t]) => {
             let counts = call.phases.counts.map(|count| count as usize);
             port::cycle(image.bytes(), phases.bytes(), counts, [*dt, *t], rows.floats(), answer.bytes())
         }
+        (Function::FirstBelow, [voltage]) => {
+            let (which, count) = (call.search.which, call.search.count as usize);
+            port::first_below(which, rows.floats(), lowest.floats(), count, *voltage, answer.bytes())
+        }
         (Function::Solve, []) => port::solve_dense(a.floats(), b.floats(), call.system.n as usize, answer.bytes()),
         _ => panic!("a call with another count of arguments"),
     };
-    Asked { number, image, text, phases, a, b, rows, answer }
+    Asked { number, image, text, phases, a, b, rows, lowest, answer }
 }
 
 impl Asked {
@@ -499,6 +549,10 @@ impl Asked {
 
     pub fn rows(&self) -> Vec<u64> {
         words_of(self.rows.now())
+    }
+
+    pub fn lowest(&self) -> Vec<u64> {
+        words_of(self.lowest.now())
     }
 
     pub fn wrote_no_answer(&self) -> bool {
@@ -532,13 +586,23 @@ impl Asked {
         if now[rows..] != then[rows..] {
             all.push("places after the last row are written".to_string());
         }
+        let groups = 8 * oracle.lowest.len();
+        let (now, then) = (self.lowest.now(), self.lowest.then());
+        if now[..groups] != *Lent::raw(&oracle.lowest) {
+            for (group, (e, g)) in oracle.lowest.iter().zip(words_of(now)).enumerate().filter(|(_, (e, g))| *e != g) {
+                all.push(format!("lowest of group {group}: oracle {}, port {}", shown(*e), shown(g)));
+            }
+        }
+        if now[groups..] != then[groups..] {
+            all.push("places after the last row's group are written".to_string());
+        }
         let read = [("image", &self.image), ("text", &self.text), ("phases", &self.phases), ("matrix", &self.a), ("right side", &self.b)];
         for (what, lent) in read {
             if lent.now() != lent.then() {
                 all.push(format!("the lent {what} is changed"));
             }
         }
-        for (what, lent) in read.into_iter().chain([("rows", &self.rows), ("answer", &self.answer)]) {
+        for (what, lent) in read.into_iter().chain([("rows", &self.rows), ("summary", &self.lowest), ("answer", &self.answer)]) {
             if !lent.guards_kept() {
                 all.push(format!("memory beside the {what} is written"));
             }
@@ -548,9 +612,9 @@ impl Asked {
 
     /// How many bytes had to stay as they were.
     pub fn kept_bytes(&self, oracle: &Answer) -> u64 {
-        let lent = [&self.image, &self.text, &self.phases, &self.a, &self.b, &self.rows, &self.answer];
+        let lent = [&self.image, &self.text, &self.phases, &self.a, &self.b, &self.rows, &self.lowest, &self.answer];
         let all: usize = lent.iter().map(|lent| 8 * lent.memory.len()).sum();
-        (all - 8 * oracle.rows.len() - oracle.image.as_ref().map_or(0, Vec::len)) as u64
+        (all - 8 * oracle.rows.len() - 8 * oracle.lowest.len() - oracle.image.as_ref().map_or(0, Vec::len)) as u64
     }
 }
 

@@ -1,9 +1,10 @@
 //! The cases: a record, and a list of calls on it, each of which gets what the call before it handed back.
-use crate::call::{Argument, Call, Function, System};
+use crate::call::{Answer, Argument, Asked, Call, Function, System};
 use crate::draw::Draw;
 use crate::images::{image_of, words_of, Meaning, Record};
 use crate::records;
 use crate::schedules::{self, Phases};
+use crate::searches::{self, Left, Search};
 use crate::texts;
 use calls::cycle::{Schedule, MOST_BUDGET, MOST_REPEATS, PLACES};
 use calls::dfn;
@@ -23,12 +24,34 @@ pub struct Turn {
     pub call: Call,
     pub changes: Vec<(usize, u64)>,
     pub image_bytes: Option<usize>,
+    /// of a search in what the last run left: the seed that it is drawn from
+    pub look: Option<u64>,
 }
 
 #[derive(Clone)]
 pub struct Case {
     pub start: Vec<u8>,
     pub turns: Vec<Turn>,
+}
+
+/// What the calls of a case hand on: the record, and what the last run left in its slices.
+pub struct Held {
+    record: Vec<u8>,
+    left: Left,
+}
+
+impl Held {
+    pub fn of(case: &Case) -> Self {
+        Self { record: case.start.clone(), left: Left::default() }
+    }
+
+    pub fn take(&mut self, call: &Call, oracle: &Answer, port: &Asked) {
+        let next = call.function.next();
+        if next != Record::Nothing && oracle.image.is_some() {
+            self.record = port.answer()[..next.bytes()].to_vec();
+        }
+        self.left.take(call, oracle, port);
+    }
 }
 
 impl Turn {
@@ -38,13 +61,15 @@ impl Turn {
             image: Vec::new(),
             numbers: numbers.iter().map(|x| x.to_bits()).collect(),
             rows: 0,
+            lowest: 0,
             text: Vec::new(),
             phases: Phases::default(),
+            search: Search::default(),
             system: System::default(),
             answer_bytes: function.answer_bytes(),
             filler: draw.bits(),
         };
-        Self { call, changes: Vec::new(), image_bytes: None }
+        Self { call, changes: Vec::new(), image_bytes: None, look: None }
     }
 
     fn with_rows(mut self, rows: usize) -> Self {
@@ -52,14 +77,32 @@ impl Turn {
         self
     }
 
+    /// A run into so many places, with room for its summary, and so many searches in what it leaves.
+    fn summed(draw: &mut Draw, function: Function, numbers: &[f64], rows: usize, looks: u64) -> Vec<Self> {
+        let mut turns = vec![Self::new(draw, function, numbers).with_rows(rows)];
+        turns[0].call.lowest = searches::places(draw, rows);
+        for _ in 0..looks {
+            let look = Some(draw.bits());
+            turns.push(Self { look, ..Self::new(draw, Function::FirstBelow, &[0.0]) });
+        }
+        turns
+    }
+
     /// On the record as it is, with the right lengths.
     fn is_plain(&self) -> bool {
         self.changes.is_empty() && self.image_bytes.is_none() && self.call.answer_bytes == self.call.function.answer_bytes()
     }
 
-    /// The call on this record.
-    pub fn on(&self, record: &[u8]) -> Call {
-        let mut image = record.to_vec();
+    /// The call on what those before it hand on.
+    pub fn on(&self, held: &Held) -> Call {
+        let mut call = self.call.clone();
+        if !call.function.takes_image() {
+            if let Some(seed) = self.look {
+                searches::in_left(&mut Draw::seeded(seed), &held.left, &mut call);
+            }
+            return call;
+        }
+        let mut image = held.record.clone();
         for (at, to) in &self.changes {
             if let Some(place) = image.get_mut(8 * at..8 * at + 8) {
                 place.copy_from_slice(&to.to_le_bytes());
@@ -68,13 +111,13 @@ impl Turn {
         if let Some(bytes) = self.image_bytes {
             image.resize(bytes, (self.call.filler >> 20) as u8);
         }
-        Call { image, ..self.call.clone() }
+        Call { image, ..call }
     }
 }
 
 impl Case {
     pub fn single(call: &Call) -> Self {
-        Self { start: call.image.clone(), turns: vec![Turn { call: call.clone(), changes: Vec::new(), image_bytes: None }] }
+        Self { start: call.image.clone(), turns: vec![Turn { call: call.clone(), changes: Vec::new(), image_bytes: None, look: None }] }
     }
 }
 
@@ -163,7 +206,7 @@ fn some_word(draw: &mut Draw, record: Record, words: &[u64]) -> usize {
 /// Where a cell's image has its three counts of nodes: the config's, the anode's and the cathode's.
 const CELL_COUNTS: [usize; 3] = [0, 17, 93];
 
-/// One argument or one word of the record at its limits; for a run, the length of the slice; of a cell, all its counts at once.
+/// One argument or one word of the record at its limits; for a run, the length of a slice; of a cell, all its counts at once.
 fn one_fault(draw: &mut Draw, turn: &mut Turn, record: Record, words: &[u64]) {
     if record == Record::Cell && draw.below(16) == 0 {
         let count = count_around(draw, 3, 64);
@@ -172,6 +215,10 @@ fn one_fault(draw: &mut Draw, turn: &mut Turn, record: Record, words: &[u64]) {
     }
     if turn.call.function.is_run() && draw.below(8) == 0 {
         turn.call.rows = draw.below(9) as usize;
+        return;
+    }
+    if turn.call.function.summed().is_some() && draw.below(6) == 0 {
+        turn.call.lowest = searches::too_few(draw, turn.call.rows);
         return;
     }
     let arguments = turn.call.function.arguments();
@@ -196,7 +243,8 @@ pub fn wrong_length(draw: &mut Draw, right: usize) -> usize {
 
 /// Faults in some of the calls: one, two at once, wrong lengths. `words` is the record that the calls are on.
 fn with_faults(draw: &mut Draw, mut turns: Vec<Turn>, record: Record, words: &[u64]) -> Vec<Turn> {
-    for turn in &mut turns {
+    // a search has its own
+    for turn in turns.iter_mut().filter(|turn| turn.call.function != Function::FirstBelow) {
         match draw.below(20) {
             0..=4 => one_fault(draw, turn, record, words),
             5 | 6 => {
@@ -218,7 +266,7 @@ fn with_faults(draw: &mut Draw, mut turns: Vec<Turn>, record: Record, words: &[u
 /// A wrong length of the image, of the answer, or of both.
 fn lengths(draw: &mut Draw, turn: &mut Turn) {
     let function = turn.call.function;
-    let which = if function == Function::Solve { 1 } else { draw.below(3) };
+    let which = if function.takes_image() { draw.below(3) } else { 1 };
     if which != 1 {
         turn.image_bytes = Some(wrong_length(draw, function.record().bytes()));
     }
@@ -472,7 +520,45 @@ fn limit_between(draw: &mut Draw, voltages: &[f64], limits: &mut [f64]) {
     }
 }
 
+/// A slice for rows of two to four groups, the last of them mostly short.
+fn long_slice(draw: &mut Draw) -> usize {
+    let rows = if draw.below(6) == 0 { draw.pick(&[64, 128, 192]) } else { draw.count(65, 200) };
+    8 * rows as usize + draw.below(8) as usize
+}
+
+/// A run of some groups of rows on a cell of few nodes. A ready one is emptied or filled in about so many steps, so that voltages fall, rise,
+/// turn and stay.
+fn long_discharges(draw: &mut Draw) -> Case {
+    let (n, rows) = (draw.count(3, 8), long_slice(draw));
+    let config = Config { n_nodes: n, numbers: records::READY_CONFIG };
+    let ready = draw.below(4);
+    let mut cell = match ready {
+        0 => records::cell(draw, n),
+        1 => Cell::graphite_lfp(config).expect("a config in range"),
+        _ => Cell::graphite_nmc(config).expect("a config in range"),
+    };
+    if draw.below(8) != 0 {
+        cell.config.numbers[..2].copy_from_slice(&[-10.0, 10.0]);
+    }
+    let temp_k = cell_temperature(draw, &cell);
+    let dt = (least_interval(&cell, temp_k) * records::power(draw, -3.0, 1.0)).clamp(f64::from_bits(1), 86_400.0);
+    let current = if ready == 0 {
+        records::current(draw, cell.anode.sheet.numbers[6])
+    } else {
+        // 5 A empty the NMC cell in 1,560 s
+        let size = 5.0 * 1560.0 / (dt * (rows / ROW) as f64) * draw.uniform(0.2, 1.5);
+        if draw.below(4) == 0 { -size } else { size }
+    };
+    let limit = if draw.below(4) == 0 { dt * draw.count(60, 200) as f64 } else { 1e300 };
+    let looks = draw.count(4, 10);
+    let turns = Turn::summed(draw, Function::Discharge, &[current.clamp(-1e6, 1e6), dt, temp_k, limit], rows, looks);
+    listed(draw, Record::Cell, &cell.slots(), None, turns)
+}
+
 fn discharges(draw: &mut Draw, turn: u64) -> Case {
+    if draw.below(6) == 0 {
+        return long_discharges(draw);
+    }
     let n = if draw.below(2) == 0 { 3 + turn % 62 } else { draw.count(3, 12) };
     let (mut cell, mut build) = some_cell(draw, n);
     let area = cell.anode.sheet.numbers[6];
@@ -495,8 +581,8 @@ fn discharges(draw: &mut Draw, turn: u64) -> Case {
     let mut turns = Vec::new();
     for _ in 0..draw.count(1, 3) {
         let limit = time_limit(draw, 0.0, dt);
-        let rows = slice_length(draw);
-        turns.push(Turn::new(draw, Function::Discharge, &[current, dt, temp_k, limit]).with_rows(rows));
+        let (rows, looks) = (slice_length(draw), draw.below(4));
+        turns.extend(Turn::summed(draw, Function::Discharge, &[current, dt, temp_k, limit], rows, looks));
     }
     listed(draw, Record::Cell, &cell.slots(), build, turns)
 }
@@ -777,13 +863,13 @@ fn low_rates(draw: &mut Draw, turn: u64) -> Case {
     if turn % 2 == 0 {
         let cell = records::bare_overpotentials(draw);
         let (current, dt) = (records::low_current(draw, cell.params.numbers[3]), records::power(draw, -16.0, 10.0));
-        let last = if draw.below(3) == 0 {
+        let mut turns = vec![Turn::new(draw, Function::DfnStep, &[current, dt])];
+        if draw.below(3) == 0 {
             let rows = slice_length(draw);
-            Turn::new(draw, Function::Galvanostatic, &[current, dt, 1e300]).with_rows(rows)
+            turns.extend(Turn::summed(draw, Function::Galvanostatic, &[current, dt, 1e300], rows, 1));
         } else {
-            Turn::new(draw, Function::DfnStep, &[-current, dt])
-        };
-        let turns = vec![Turn::new(draw, Function::DfnStep, &[current, dt]), last];
+            turns.push(Turn::new(draw, Function::DfnStep, &[-current, dt]));
+        }
         return Case { start: image_of(Record::DfnCell.parts(), &cell.slots()), turns };
     }
     let n = draw.count(3, 12);
@@ -794,21 +880,22 @@ fn low_rates(draw: &mut Draw, turn: u64) -> Case {
     let last = match draw.below(4) {
         0 => {
             let rows = slice_length(draw);
-            Turn::new(draw, Function::Discharge, &[current, dt, temp_k, 1e300]).with_rows(rows)
+            Turn::summed(draw, Function::Discharge, &[current, dt, temp_k, 1e300], rows, 1)
         }
         1 => {
             let loads: Vec<[f64; 2]> = (0..draw.count(1, 12)).map(|_| [dt, records::low_current(draw, area)]).collect();
             let mut turn = Turn::new(draw, Function::Replay, &[temp_k]).with_rows(8 * loads.len());
             turn.call.text = texts::text_of(&loads);
-            turn
+            vec![turn]
         }
         2 => {
             let (phases, count, budget) = (schedules::low_phases(draw, area, dt), draw.count(1, PLACES as u64), draw.count(1, 16));
-            cycle_of(draw, &Schedule { phases, count, repeats: 2, budget, dt, temp_k })
+            vec![cycle_of(draw, &Schedule { phases, count, repeats: 2, budget, dt, temp_k })]
         }
-        _ => Turn::new(draw, Function::CellStep, &[-current, dt, temp_k]),
+        _ => vec![Turn::new(draw, Function::CellStep, &[-current, dt, temp_k])],
     };
-    let turns = vec![Turn::new(draw, Function::CellStep, &[current, dt, temp_k]), last];
+    let mut turns = vec![Turn::new(draw, Function::CellStep, &[current, dt, temp_k])];
+    turns.extend(last);
     Case { start: image_of(Record::Cell.parts(), &cell.slots()), turns }
 }
 
@@ -834,7 +921,41 @@ fn far_temperatures(draw: &mut Draw, turn: u64) -> Case {
     Case { start: image_of(Record::Particle.parts(), &particle.slots()), turns }
 }
 
+/// As `long_discharges`, of a DFN cell of few nodes, whose voltage falls on charge.
+fn long_galvanostatic(draw: &mut Draw) -> Case {
+    let (counts, rows) = ([draw.count(1, 3), draw.count(1, 3), draw.count(2, 4)], long_slice(draw));
+    let voltages = if draw.below(8) == 0 { [2.5, 4.3] } else { [-10.0, 10.0] };
+    let ready = draw.below(4) != 0;
+    let params = if ready { draw.pick(&[dfn::Params::nmc_graphite(), dfn::Params::lfp_graphite()]) } else { records::dfn_params(draw) };
+    let mut cell = dfn::Cell::new(params, dfn::Config { counts, voltages }).expect("parameters in range");
+    cell.time_s = records::clock(draw);
+    let (current, dt) = if ready {
+        let dt = records::power(draw, -2.0, 5.0);
+        let size = 20.0 * 1520.0 / (dt * (rows / ROW) as f64) * draw.uniform(0.2, 1.5);
+        (if draw.below(4) == 0 { size } else { -size }, dt)
+    } else {
+        (records::current(draw, params.numbers[3]), records::power(draw, -10.0, 6.0))
+    };
+    let limit = if draw.below(4) == 0 { cell.time_s + dt * draw.count(60, 200) as f64 } else { 1e300 };
+    let looks = draw.count(4, 10);
+    let turns = Turn::summed(draw, Function::Galvanostatic, &[current, dt, limit], rows, looks);
+    listed(draw, Record::DfnCell, &cell.slots(), None, turns)
+}
+
+/// Searches in rows and summaries that no run wrote.
+fn invented_searches(draw: &mut Draw, _: u64) -> Case {
+    let search = |draw: &mut Draw| {
+        let mut turn = Turn::new(draw, Function::FirstBelow, &[0.0]);
+        searches::invented(draw, &mut turn.call);
+        turn
+    };
+    Case { start: Vec::new(), turns: (0..4).map(|_| search(draw)).collect() }
+}
+
 fn galvanostatic(draw: &mut Draw, _: u64) -> Case {
+    if draw.below(8) == 0 {
+        return long_galvanostatic(draw);
+    }
     let (mut cell, mut build) = some_dfn(draw);
     let (current, dt) = (dfn_current(draw, &cell), dfn_interval(draw, &cell));
     if draw.below(2) == 0 {
@@ -850,8 +971,8 @@ fn galvanostatic(draw: &mut Draw, _: u64) -> Case {
     let mut turns = Vec::new();
     for _ in 0..draw.count(1, 2) {
         let limit = time_limit(draw, cell.time_s, dt);
-        let rows = slice_length(draw);
-        turns.push(Turn::new(draw, Function::Galvanostatic, &[current, dt, limit]).with_rows(rows));
+        let (rows, looks) = (slice_length(draw), draw.below(4));
+        turns.extend(Turn::summed(draw, Function::Galvanostatic, &[current, dt, limit], rows, looks));
     }
     listed(draw, Record::DfnCell, &cell.slots(), build, turns)
 }
@@ -940,6 +1061,10 @@ fn random_images(draw: &mut Draw, _: u64) -> Case {
     let numbers: Vec<f64> = function.arguments().iter().map(|_| f64::from_bits(draw.bits())).collect();
     let mut turn = Turn::new(draw, function, &numbers);
     turn.call.rows = draw.below(40) as usize;
+    turn.call.lowest = draw.below(3) as usize;
+    if function == Function::FirstBelow {
+        turn.call.search = searches::random(draw);
+    }
     if function == Function::Replay {
         turn.call.text = (0..draw.below(80)).map(|_| draw.bits() as u8).collect();
     }
@@ -964,11 +1089,11 @@ fn random_byte(draw: &mut Draw, turn: u64) -> Case {
 }
 
 /// The plans in turn, some more often than others.
-pub const PLANS: [Plan; 30] = [
+pub const PLANS: [Plan; 31] = [
     sheet_numbers, particle_steps, cell_steps, electrolyte_steps, dfn_steps, solve, discharges, galvanostatic, ready, salt_numbers,
     particle_steps, cell_steps, random_byte, dfn_steps, solve, sphere, electrolyte_steps, random_images, particle_steps, cell_steps,
     sheet_numbers, dfn_steps, discharges, galvanostatic, dfn_exponents, dfn_overpotentials, replays, cycles,
-    low_rates, far_temperatures,
+    low_rates, far_temperatures, invented_searches,
 ];
 
 /// A case by its number; it depends on the seed and the number alone.

@@ -12,11 +12,13 @@ mod cycles;
 mod draw;
 mod earlier;
 mod images;
+mod lowest;
 mod ohmic_drop;
 mod records;
 mod references;
 mod rows;
 mod schedules;
+mod searches;
 mod shrink;
 mod sub_steps;
 mod tally;
@@ -24,7 +26,7 @@ mod texts;
 mod weights;
 
 use call::{ask_oracle, ask_port, Call, Function};
-use cases::Case;
+use cases::{Case, Held};
 use images::words_of;
 use shrink::{first_difference, shrunk};
 use std::process::exit;
@@ -34,7 +36,7 @@ use std::time::{Duration, Instant};
 use tally::Tally;
 
 const GATE_SEED: u64 = 20_040_613;
-const GATE_CASES: u64 = 600_000;
+const GATE_CASES: u64 = 21_000 * cases::PLANS.len() as u64;
 
 struct Options {
     seed: u64,
@@ -116,6 +118,14 @@ fn print_call(call: &Call) {
     if function.is_run() {
         println!("  a slice of {} places", call.rows);
     }
+    if function.summed().is_some() {
+        println!("  a summary of {} places", call.lowest);
+    }
+    if function == Function::FirstBelow {
+        println!("  the first {} rows of run {}", call.search.count, call.search.which);
+        print_words("rows", &call.search.rows);
+        print_words("summary", &call.search.lowest);
+    }
     if function == Function::Replay {
         println!("  a text of {} bytes:", call.text.len());
         for line in call.text.split_inclusive(|byte| *byte == b'\n').take(40) {
@@ -148,6 +158,10 @@ fn print_call(call: &Call) {
         print_words("oracle's rows", &oracle.rows);
         print_words("port's slice", &port.rows());
     }
+    if call.lowest > 0 {
+        print_words("oracle's summary", &oracle.lowest);
+        print_words("port's summary", &port.lowest());
+    }
     print_differences(&port.differences(&oracle));
 }
 
@@ -167,17 +181,11 @@ fn report(seed: u64, number: u64, case: &Case, (at, call, differences): (usize, 
         exit(1);
     };
     println!("compare: the smallest failing input found, {} call(s):", small.turns.len());
-    let mut record = small.start.clone();
+    let mut held = Held::of(&small);
     for turn in &small.turns {
-        let call = turn.on(&record);
+        let call = turn.on(&held);
         print_call(&call);
-        let next = call.function.next();
-        let oracle = ask_oracle(&call);
-        if next != images::Record::Nothing {
-            if let Some(image) = oracle.image {
-                record = image[..next.bytes()].to_vec();
-            }
-        }
+        held.take(&call, &ask_oracle(&call), &ask_port(&call));
     }
     exit(1);
 }

@@ -1,35 +1,35 @@
 //! The smallest failing input that can be found from one that fails.
 use crate::call::{ask_oracle, ask_port, Answer, Argument, Call, Function};
-use crate::cases::{Case, Turn};
+use crate::cases::{Case, Held, Turn};
 use crate::images::{bytes_from, image_of, words_of, Record};
 use crate::records::{READY_CONFIG, READY_REGIONS};
 use crate::schedules::{self, Phases};
+use crate::searches::Search;
 use crate::texts::line;
 use calls::cycle::PLACES;
 use calls::dfn;
 use calls::electrode::Sheet;
 use calls::electrolyte::{Electrolyte, Params, Regions};
+use calls::lowest::groups;
 use calls::particle::Particle;
 use calls::replay::LINE;
+use calls::runs::ROW;
 use calls::solver::{Cell, Config};
 use calls::words::word;
 use std::time::{Duration, Instant};
 
 /// The calls of a case one after the other, up to the first that differs; `each` is told of every call.
 pub fn first_difference(case: &Case, mut each: impl FnMut(&Call, &Answer, u64)) -> Option<(usize, Call, Vec<String>)> {
-    let mut record = case.start.clone();
+    let mut held = Held::of(case);
     for (at, turn) in case.turns.iter().enumerate() {
-        let call = turn.on(&record);
+        let call = turn.on(&held);
         let (oracle, port) = (ask_oracle(&call), ask_port(&call));
         let differences = port.differences(&oracle);
         if !differences.is_empty() {
             return Some((at, call, differences));
         }
         each(&call, &oracle, port.kept_bytes(&oracle));
-        let next = call.function.next();
-        if next != Record::Nothing && oracle.image.is_some() {
-            record = port.answer()[..next.bytes()].to_vec();
-        }
+        held.take(&call, &oracle, &port);
     }
     None
 }
@@ -138,7 +138,16 @@ fn smaller(call: &Call) -> Vec<Call> {
     for rows in [8, call.rows / 2, call.rows.saturating_sub(8), call.rows.saturating_sub(1)] {
         if rows < call.rows {
             all.push(Call { rows, ..call.clone() });
+            all.push(Call { rows, lowest: call.lowest.min(groups(rows / ROW)), ..call.clone() });
         }
+    }
+    for lowest in [groups(call.rows / ROW), call.lowest / 2, call.lowest.saturating_sub(1)] {
+        if lowest < call.lowest {
+            all.push(Call { lowest, ..call.clone() });
+        }
+    }
+    if function == Function::FirstBelow {
+        smaller_searches(call, &mut all);
     }
     if function == Function::Solve {
         smaller_systems(call, &mut all);
@@ -248,6 +257,40 @@ fn smaller_schedules(call: &Call, all: &mut Vec<Call>) {
     }
 }
 
+/// Fewer rows, counted or lent; a place of the summary fewer; 0 or 1 in a row or a place.
+fn smaller_searches(call: &Call, all: &mut Vec<Call>) {
+    let search = &call.search;
+    let mut push = |next: Search| all.push(Call { search: next, ..call.clone() });
+    for count in [0, search.count / 2, search.count.saturating_sub(64), search.count.saturating_sub(1)] {
+        let (mut rows, mut lowest) = (search.rows.clone(), search.lowest.clone());
+        push(Search { count, ..search.clone() });
+        rows.truncate(ROW * count.min(rows.len() as u64) as usize);
+        lowest.truncate(groups(count.min(1 << 32) as usize));
+        push(Search { count, rows, lowest, ..search.clone() });
+    }
+    for [rows, lowest] in [[ROW, 0], [1, 0], [0, 1]] {
+        let mut next = search.clone();
+        next.rows.truncate(next.rows.len().saturating_sub(rows));
+        next.lowest.truncate(next.lowest.len().saturating_sub(lowest));
+        push(next);
+    }
+    for to in [0, 1f64.to_bits()] {
+        let rows = vec![to; search.rows.len()];
+        push(Search { rows, ..search.clone() });
+        for at in (0..search.rows.len()).step_by(ROW) {
+            let mut next = search.clone();
+            next.rows[at] = to;
+            next.rows[at + 1..].iter_mut().take(ROW - 1).for_each(|place| *place = 0);
+            push(next);
+        }
+        for at in 0..search.lowest.len() {
+            let mut next = search.clone();
+            next.lowest[at] = to;
+            push(next);
+        }
+    }
+}
+
 fn smaller_systems(call: &Call, all: &mut Vec<Call>) {
     let system = &call.system;
     let n = system.n as usize;
@@ -290,8 +333,9 @@ fn size(call: &Call) -> (usize, usize, usize) {
     let arguments = call.function.arguments().iter().zip(&call.numbers);
     let strange = arguments.filter(|(a, n)| **n != ready_argument(**a).to_bits()).count()
         + call.numbers.iter().filter(|n| ![0, 1f64.to_bits()].contains(n)).count();
-    let system = &call.system;
-    let entries = system.a.iter().chain(&system.b).map(|n| if *n == 0 { 0 } else { 1 + usize::from(*n != 1f64.to_bits()) }).sum::<usize>();
+    let (system, search) = (&call.system, &call.search);
+    let numbers = system.a.iter().chain(&system.b).chain(&search.rows).chain(&search.lowest);
+    let entries = numbers.map(|n| if *n == 0 { 0 } else { 1 + usize::from(*n != 1f64.to_bits()) }).sum::<usize>();
     let ready = ready_line();
     let loads = call.text.chunks(LINE).filter(|line| *line != &ready[..]).count();
     let phases = words_of(&call.phases.image);
@@ -299,7 +343,8 @@ fn size(call: &Call) -> (usize, usize, usize) {
     let counts: u64 = call.phases.counts.iter().map(|count| count.min(&(1 << 20))).sum();
     let lengths = usize::from(call.answer_bytes != call.function.answer_bytes()) + usize::from(call.phases.image.len() % schedules::IMAGE != 0);
     let changing = words.windows(2).filter(|pair| pair[0] != pair[1]).count();
-    let long = nodes as usize + call.rows + call.text.len() + counts as usize + system.a.len() + system.b.len();
+    let searched = search.rows.len() + search.lowest.len() + search.count.min(1 << 20) as usize;
+    let long = nodes as usize + call.rows + call.lowest + call.text.len() + counts as usize + searched + system.a.len() + system.b.len();
     (long, 2 * unlike + strange + loads + unready + lengths, changing + entries)
 }
 

@@ -3,6 +3,7 @@ use crate::call::{listed, Answer, Call, Function};
 use crate::cycles::Cycles;
 use crate::earlier::Earlier;
 use crate::images::words_of;
+use crate::lowest::Lowest;
 use crate::ohmic_drop::OhmicDrop;
 use crate::references::References;
 use crate::sub_steps::SubSteps;
@@ -40,6 +41,7 @@ pub struct Tally {
     ohmic_drop: OhmicDrop,
     by_sub_steps: SubSteps,
     cycles: Cycles,
+    lowest: Lowest,
 }
 
 const ENDINGS: [(Function, &str); 15] = [
@@ -78,11 +80,12 @@ impl Tally {
         self.ohmic_drop.add(call, oracle);
         self.by_sub_steps.add(call, oracle);
         self.cycles.add(call, oracle);
+        self.lowest.add(call, oracle);
         self.calls += 1;
         self.kept_bytes += kept_bytes;
         let words = oracle.image.as_deref().map(words_of).unwrap_or_default();
-        self.words += (1 + words.len() + oracle.rows.len()) as u64;
-        self.nonzero += words.iter().chain(&oracle.rows).filter(|word| **word != 0).count() as u64;
+        self.words += (1 + words.len() + oracle.rows.len() + oracle.lowest.len()) as u64;
+        self.nonzero += words.iter().chain(&oracle.rows).chain(&oracle.lowest).filter(|word| **word != 0).count() as u64;
         self.run_rows += oracle.rows.len() as u64 / 8;
         if call.function == Function::Replay {
             self.longest_replay = self.longest_replay.max(oracle.rows.len() as u64 / 8);
@@ -143,6 +146,7 @@ impl Tally {
         self.ohmic_drop.join(other.ohmic_drop);
         self.by_sub_steps.join(other.by_sub_steps);
         self.cycles.join(other.cycles);
+        self.lowest.join(other.lowest);
     }
 
     /// The table, and what is missing for a comparison that has seen everything.
@@ -196,13 +200,16 @@ impl Tally {
         missing.extend(self.by_sub_steps.print());
         println!();
         missing.extend(self.cycles.print());
+        println!();
+        missing.extend(self.lowest.print());
+        println!();
         println!("rows of the longest replay: {} of {MOST_LINES}", self.longest_replay);
         if self.longest_replay != MOST_LINES as u64 {
             missing.push("no replay of the longest text".to_string());
         }
         println!("rows of runs: {}; sub-steps of a cell's steps: {}", self.run_rows, self.sub_steps);
         println!(
-            "calls: {}; words of answers and rows compared: {} ({} of them not 0); bytes that had to stay: {}",
+            "calls: {}; words of answers, rows and summaries compared: {} ({} of them not 0); bytes that had to stay: {}",
             self.calls, self.words, self.nonzero, self.kept_bytes
         );
         missing

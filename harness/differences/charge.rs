@@ -1,5 +1,6 @@
 //! Rows of a charge before change request (v), when the ohmic drop was multiplied by the current's sign, and now.
 use calls::earlier::EarlierOhmicDrop;
+use calls::lowest::groups;
 use calls::runs::ROW;
 use calls::solver::{Cell, Config};
 
@@ -23,12 +24,12 @@ pub fn print_step() {
 /// The ready NMC cell after 1,200 s at 5 A, charged with 5 A for so long or until a row is above v_max: before and now.
 fn charge(v_max: f64, resistance: f64, seconds: f64) -> [Vec<Row>; 2] {
     let full = Cell::graphite_nmc(config(v_max, resistance)).expect("the ready cell");
-    let cell = Cell { time_s: 0.0, ..full.simulate_discharge(5.0, DT, T, 1200.0, 120 * ROW).cell };
+    let cell = Cell { time_s: 0.0, ..full.simulate_discharge(5.0, DT, T, 1200.0, 120 * ROW, groups(120)).cell };
     let (mut earlier, mut before) = (EarlierOhmicDrop::of(&cell), Vec::<Row>::new());
     while before.last().map_or(true, |row| row[6] < seconds && row[7] == 0.0) {
         before.push(earlier.row(-5.0, DT, T));
     }
-    [before, cell.simulate_discharge(-5.0, DT, T, seconds, 1000 * ROW).rows]
+    [before, cell.simulate_discharge(-5.0, DT, T, seconds, 1000 * ROW, groups(1000)).rows]
 }
 
 /// The first and the last row of an hour's charge, by the resistance.

@@ -1,6 +1,7 @@
 //! H near 0 and the overpotentials at tiny currents, before change request (ii) and now.
 use calls::dfn;
 use calls::electrode::Sheet;
+use calls::lowest::groups;
 use calls::solver::{Cell, Config};
 use oracle::standins::{asinh, with_earlier_asinh};
 use std::collections::BTreeSet;
@@ -54,7 +55,7 @@ pub fn print_rows() {
     for (name, cell) in cells {
         let cell = cell.expect("a cell of ready sheets");
         for current in [3e-2, 3e-4, 3e-6] {
-            let run = || cell.simulate_discharge(current, 10.0, 298.15, 10_000.0, 8_000).rows;
+            let run = || cell.simulate_discharge(current, 10.0, 298.15, 10_000.0, 8_000, groups(1_000)).rows;
             let (earlier, now) = (with_earlier_asinh(run), run());
             let moved: Vec<f64> = earlier.iter().zip(&now).filter(|(a, b)| a[0].to_bits() != b[0].to_bits()).map(|(a, b)| (a[0] - b[0]).abs()).collect();
             let most = moved.iter().fold(0.0, |a: f64, b| a.max(*b));

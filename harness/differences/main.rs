@@ -8,6 +8,7 @@ mod sub_steps;
 use calls::dfn;
 use calls::electrode::Sheet;
 use calls::electrolyte::{Electrolyte, Params, Regions};
+use calls::lowest::groups;
 use calls::particle::Particle;
 use calls::solver::{Cell, Config};
 
@@ -52,7 +53,7 @@ fn lfp_curve() {
 
 fn clamped_run() {
     let cell = spm(11);
-    let rows = cell.simulate_discharge(3.0, 10.0, T, 3600.0, 8 * 360).rows;
+    let rows = cell.simulate_discharge(3.0, 10.0, T, 3600.0, 8 * 360, groups(360)).rows;
     let rises = rows.windows(2).filter(|pair| pair[1][0] > pair[0][0]).count();
     let (first, middle) = (&rows[0], &rows[89]);
     println!("LFP discharge: 3 A, 10 s: {:.6} V at 10 s, {:.6} V at 900 s; the voltage rises in {rises} of {} steps", first[0], middle[0], rows.len() - 1);
@@ -67,7 +68,7 @@ fn clamped_run() {
 }
 
 fn graphite_bump() {
-    let rows = nmc().simulate_discharge(5.0, 10.0, T, 3600.0, 8 * 360).rows;
+    let rows = nmc().simulate_discharge(5.0, 10.0, T, 3600.0, 8 * 360, groups(360)).rows;
     let at = rows.windows(2).position(|pair| pair[1][0] > pair[0][0]).expect("a rise");
     let top = rows[at..].iter().max_by(|a, b| a[0].total_cmp(&b[0])).expect("a row");
     let last = &rows[rows.len() - 1];
@@ -76,7 +77,7 @@ fn graphite_bump() {
 }
 
 fn dfn_discharge() {
-    let run = dfn_cell([5, 5, 6]).run_galvanostatic(20.0, 10.0, 3600.0, 8 * 360);
+    let run = dfn_cell([5, 5, 6]).run_galvanostatic(20.0, 10.0, 3600.0, 8 * 360, groups(360));
     let (first, last) = (&run.rows[0], &run.rows[run.rows.len() - 1]);
     println!("DFN discharge: nmc_graphite, 5/5/6, 20 A, 10 s: {:.4} V at {} s, {:.4} V at {} s, ended by {:?} at v_max 4.3", first[0], first[2], last[0], last[2], run.ending);
 }
@@ -150,7 +151,7 @@ fn reference_temperature() {
         cell.config.numbers[0] = 3.0;
         cell.anode.sheet.numbers[9] = t_ref;
         cell.cathode.sheet.numbers[9] = t_ref;
-        let rows = cell.simulate_discharge(5.0, 10.0, T, 3600.0, 8 * 360).rows;
+        let rows = cell.simulate_discharge(5.0, 10.0, T, 3600.0, 8 * 360, groups(360)).rows;
         let (d, at_600, end) = (cell.anode.sheet.d_s(T).unwrap(), rows[59][0], rows[rows.len() - 1][6]);
         println!("reference temperature {t_ref} K: graphite_nmc, 11 nodes, 5 A, 10 s, {T} K: the anode's D {d:.3e}, {at_600:.4} V at 600 s, 3 V at {end} s");
     }

@@ -1,5 +1,6 @@
 //! The single-particle cell before change request (vii), when sub-steps were up to half as long again, and now.
 use calls::earlier::{self, EarlierSubSteps};
+use calls::lowest::groups;
 use calls::runs::ROW;
 use calls::solver::{count_sub_steps, Cell, Config, SUB_STEP};
 
@@ -133,12 +134,12 @@ fn rows_before(cell: &Cell, current: f64, dt: f64) -> Vec<Row> {
 pub fn print_rows() {
     for (name, cell, current) in [("graphite_lfp", lfp(11), 3.0), ("graphite_nmc", nmc(11), 5.0)] {
         for dt in [1.0, 10.0, 60.0] {
-            let (before, now) = (rows_before(&cell, current, dt), cell.simulate_discharge(current, dt, T, 3600.0, 3600 * ROW).rows);
+            let (before, now) = (rows_before(&cell, current, dt), cell.simulate_discharge(current, dt, T, 3600.0, 3600 * ROW, groups(3600)).rows);
             let moved: Vec<(&Row, &Row)> = before.iter().zip(&now).filter(|(a, b)| a[0].to_bits() != b[0].to_bits()).collect();
             let size = |pair: &(&Row, &Row)| (pair.0[0] - pair.1[0]).abs();
             let most = moved.iter().max_by(|a, b| size(a).total_cmp(&size(b))).map_or(String::new(), |pair| {
                 let (a, b) = *pair;
-                let fine = cell.simulate_discharge(current, 0.01, T, a[6] - 0.005, 8000 * ROW).rows;
+                let fine = cell.simulate_discharge(current, 0.01, T, a[6] - 0.005, 8000 * ROW, groups(8000)).rows;
                 let last = fine[fine.len() - 1];
                 format!(", at most by {:.1e} V, at {} s: {:.6} V before, {:.6} V now, {:.6} V at {:.2} s by steps of 0.01 s", size(pair), a[6], a[0], b[0], last[0], last[6])
             });

@@ -21,6 +21,9 @@ mod records;
 #[path = "../compare/schedules.rs"]
 mod schedules;
 #[allow(dead_code)]
+#[path = "../compare/searches.rs"]
+mod searches;
+#[allow(dead_code)]
 #[path = "../compare/texts.rs"]
 mod texts;
 
@@ -49,11 +52,11 @@ fn main() {
     let (mut calls, mut accepted, mut other, mut refused, mut lists) = (0u64, 0u64, [0u64; 3], [0u64; 3], [0u64; 3]);
     for number in 0..count {
         let case = cases::case(SEED, number);
-        let (mut record, before) = (case.start.clone(), other);
+        let (mut held, before) = (cases::Held::of(&case), other);
         for turn in &case.turns {
-            let call = turn.on(&record);
-            let oracle = ask_oracle(&call);
-            assert!(ask_with(0, &call).differences(&oracle).is_empty(), "case {number} differs without either");
+            let call = turn.on(&held);
+            let (oracle, port) = (ask_oracle(&call), ask_with(0, &call));
+            assert!(port.differences(&oracle).is_empty(), "case {number} differs without either");
             calls += 1;
             accepted += u64::from(oracle.number == 0);
             for (k, (_, bits)) in modes.iter().enumerate() {
@@ -61,10 +64,7 @@ fn main() {
                 other[k] += u64::from(!asked.differences(&oracle).is_empty());
                 refused[k] += u64::from(asked.number != oracle.number);
             }
-            let next = call.function.next();
-            if let (true, Some(image)) = (next != images::Record::Nothing, &oracle.image) {
-                record = image[..next.bytes()].to_vec();
-            }
+            held.take(&call, &oracle, &port);
         }
         for k in 0..3 {
             lists[k] += u64::from(other[k] > before[k]);

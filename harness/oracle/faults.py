@@ -496,6 +496,26 @@ def ends_of_t_ref(place):
     ]
 
 
+SUMMARY = "        met.when(10, lowest_places < groups(places / ROW));\n"
+
+
+def summary_lengths():
+    """A run's test of the summary's length."""
+    groups_of, short = "groups(places / ROW)", "lowest_places < groups"
+    return [
+        ("run: the summary's length is not asked", SUMMARY, ""),
+        ("run: a place of the summary more", short, "lowest_places <= groups"),
+        ("run: a longer summary is refused", short, "lowest_places != groups"),
+        ("run: a group more for a row that does not fit", groups_of, "groups(places.div_ceil(ROW))"),
+        ("run: whole groups alone", groups_of, "(places / ROW / crate::lowest::GROUP)"),
+        ("run: one group at least for no row", groups_of, "groups(places / ROW).max(1)", because("a slice without a row is refused with 10 all the same")),
+        ("run: a group more than there are rows of", groups_of, "(places / ROW / crate::lowest::GROUP + 1)"),
+        ("run: 2 before a short summary", SUMMARY, SUMMARY.replace("10, ", "if met.refuse().is_ok() { 10 } else { 0 }, ")),
+        ("run: a short summary before all else", SUMMARY, "        if lowest_places < groups(places / ROW) {\n            return refused(self, 10);\n        }\n"),
+        ("run: 2 for a short summary", SUMMARY, SUMMARY.replace("10, ", "2, ")),
+    ]
+
+
 CALLS_ELECTRODE = [
     ("chemistry 0", "(1..=3).contains", "(0..=3).contains"),
     ("chemistry 4", "(1..=3).contains", "(1..=4).contains"),
@@ -616,6 +636,114 @@ CALLS_SOLVER = [
     ("run: its clock is rows*dt", "(0..rows).fold(0.0, |t, _| t + dt)", "rows as f64 * dt"),
     ("run: time is over after its limit", "!(own_clock(rows) < max_time_s)", "own_clock(rows) > max_time_s"),
     ("run: a first step always", "max_time_s), true)", "max_time_s), false)"),
+    *summary_lengths(),
+]
+
+EQUAL_BITS = because("no run writes a -0, so equal voltages have equal bits")
+HUGE_SUMMARY = because("a count from 2^61 on asks for 2^55 places of a summary, which no slice has")
+
+LOWEST_OF = "    let first = group.iter()"
+NONE_BELOW = "!group.iter().any(|other| other[0] < row[0])"
+BY_GROUP = "rows.chunks(GROUP).map(lowest_of).collect()"
+LEFT = "[&lowest[..], &places[lowest.len()..]].concat()"
+ROOM_FOR_ROWS = "    met.when(10, rows.len() / ROW < count);\n"
+ROOM_FOR_GROUPS = "    met.when(10, lowest.len() < groups(count));\n"
+KNOWN_WRITER = "    met.when(2, !WRITERS.contains(&which));\n"
+FINITE_VOLTAGE = "    met.when(2, !voltage.is_finite());\n"
+GROUPS = "for group in 0..groups(count) {"
+PASSED_OVER = "!(lowest[group] < voltage)"
+ROWS_OF_GROUP = "GROUP * group..count.min(GROUP * (group + 1))"
+UNDER = "rows[ROW * row] < voltage"
+HIT = "return Ok(Some(row));"
+NO_HIT = f"                {HIT}\n            }}\n        }}\n"
+
+
+def changed(how):
+    """What is left in the summary, changed."""
+    return f"{{\n        let mut all = {LEFT};\n        {how}\n        all\n    }}"
+
+
+CALLS_LOWEST = [
+    ("groups of 63", "GROUP: usize = 64", "GROUP: usize = 63"),
+    ("groups of 65", "GROUP: usize = 64", "GROUP: usize = 65"),
+    ("groups: whole ones alone", "rows.div_ceil(GROUP)", "rows / GROUP"),
+    ("groups: always one more", "rows.div_ceil(GROUP)", "rows / GROUP + 1"),
+    ("groups: one of no rows", "rows.div_ceil(GROUP)", "rows.div_ceil(GROUP).max(1)"),
+    ("lowest: of equals the last", "group.iter().find(", "group.iter().rev().find(", EQUAL_BITS),
+    ("lowest: the highest", "other[0] < row[0]", "other[0] > row[0]"),
+    ("lowest: the group's first row", NONE_BELOW, "{ let _ = row; true }"),
+    ("lowest: the group's last row", NONE_BELOW, "std::ptr::eq(*row, &group[group.len() - 1])"),
+    ("lowest: the first row that the next is not below", "group.iter().any(|other|", "group.iter().skip_while(|other| !std::ptr::eq(*other, *row)).take(2).any(|other|"),
+    ("lowest: the group's first row is left out", LOWEST_OF, "    let group = &group[1.min(group.len() - 1)..];\n" + LOWEST_OF),
+    ("lowest: the group's last row is left out", LOWEST_OF, "    let group = &group[..1.max(group.len() - 1)];\n" + LOWEST_OF),
+    ("lowest: the row's current", 'number")[0]', 'number")[1]'),
+    ("lowest: by the current", "other[0] < row[0]", "other[1] < row[1]"),
+    ("lowest: a short last group is left out", "rows.chunks(GROUP)", "rows.chunks_exact(GROUP)"),
+    ("lowest: groups begin a row late", "rows.chunks(GROUP)", "rows[1.min(rows.len())..].chunks(GROUP)"),
+    ("lowest: of all rows up to the group's last", BY_GROUP, "(1..=groups(rows.len())).map(|n| lowest_of(&rows[..rows.len().min(n * GROUP)])).collect()"),
+    ("lowest: in every place the whole run's", BY_GROUP, "rows.chunks(GROUP).map(|_| lowest_of(rows)).collect()"),
+    ("summary: places past the last group are cleared", LEFT, changed("all[lowest.len()..].fill(0.0);")),
+    ("summary: the place after the last group is cleared", LEFT, changed("if let Some(place) = all.get_mut(lowest.len()) { *place = 0.0; }")),
+    ("summary: the place for the next row is cleared", LEFT, changed("if rows.len() % GROUP == 0 { if let Some(place) = all.get_mut(lowest.len()) { *place = 0.0; } }")),
+    ("summary: what was lower before stays", LEFT, changed("for (low, place) in all.iter_mut().zip(places) { *low = low.min(*place); }")),
+    ("summary: cleared after a run without a row", LEFT, changed("if rows.is_empty() { all.fill(0.0); }")),
+    ("summary: cut to the groups that are written", LEFT, changed("all.truncate(lowest.len());")),
+    ("search: the rows' length is not asked", ROOM_FOR_ROWS, ""),
+    ("search: the rows' length by a product that wraps", "rows.len() / ROW < count", "rows.len() < ROW.wrapping_mul(count)", HUGE_SUMMARY),
+    ("search: a row that is not whole", "rows.len() / ROW < count", "rows.len().div_ceil(ROW) < count"),
+    ("search: a row more", "rows.len() / ROW < count", "rows.len() / ROW <= count"),
+    ("search: more rows than the count are refused", "rows.len() / ROW < count", "rows.len() / ROW != count"),
+    ("search: the summary's length is not asked", ROOM_FOR_GROUPS, ""),
+    ("search: a place of the summary more", "lowest.len() < groups(count)", "lowest.len() <= groups(count)"),
+    ("search: a longer summary is refused", "lowest.len() < groups(count)", "lowest.len() != groups(count)"),
+    ("search: the groups of all rows are asked", "lowest.len() < groups(count)", "lowest.len() < groups(rows.len() / ROW)"),
+    ("search: one group at least is asked", "lowest.len() < groups(count)", "lowest.len() < groups(count).max(1)"),
+    ("search: a summary of whole groups is enough", "lowest.len() < groups(count)", "lowest.len() < count / GROUP"),
+    ("search: which is not asked", KNOWN_WRITER, ""),
+    ("search: which may be 0", "WRITERS: [u64; 2] = [1, 2]", "WRITERS: [u64; 3] = [0, 1, 2]"),
+    ("search: which may be 3", "WRITERS: [u64; 2] = [1, 2]", "WRITERS: [u64; 3] = [1, 2, 3]"),
+    ("search: which is 1 alone", "WRITERS: [u64; 2] = [1, 2]", "WRITERS: [u64; 1] = [1]"),
+    ("search: which is 2 alone", "WRITERS: [u64; 2] = [1, 2]", "WRITERS: [u64; 1] = [2]"),
+    ("search: which by its last 32 bits", "contains(&which)", "contains(&(which % (1 << 32)))"),
+    ("search: the voltage is not asked", FINITE_VOLTAGE, ""),
+    ("search: an infinite voltage", "!voltage.is_finite()", "voltage.is_nan()"),
+    ("search: a voltage that is a NaN", "!voltage.is_finite()", "voltage.is_infinite()"),
+    ("search: 3 for a voltage that is not finite", FINITE_VOLTAGE, FINITE_VOLTAGE.replace("2, ", "3, ")),
+    ("search: 2 before 10", KNOWN_WRITER, "    if !WRITERS.contains(&which) || !voltage.is_finite() {\n        return Err(2);\n    }\n"),
+    ("search: 1 for 10", ROOM_FOR_ROWS, ROOM_FOR_ROWS.replace("10, ", "1, ")),
+    ("search: a group whose lowest value is the chosen one", PASSED_OVER, "!(lowest[group] <= voltage)"),
+    ("search: a group whose lowest value is a NaN", PASSED_OVER, "lowest[group] >= voltage"),
+    ("search: no group is passed over", PASSED_OVER, "false"),
+    ("search: groups under the voltage are passed over", PASSED_OVER, "lowest[group] < voltage"),
+    ("search: the summary's last place for each group", "!(lowest[group]", "!(lowest[lowest.len() - 1]"),
+    ("search: the summary's first place for each group", "!(lowest[group]", "!(lowest[0]"),
+    ("search: ends at the first group that is passed over", "continue;", "return Ok(None);"),
+    ("search: ends at the first group without a hit", NO_HIT, NO_HIT + "        return Ok(None);\n"),
+    ("search: the group's first row where its lowest value is under", UNDER, "{ let _ = rows[ROW * row]; true }"),
+    ("search: the row of the lowest value", UNDER, "rows[ROW * row] == lowest[group]"),
+    ("search: a row with the chosen voltage", UNDER, "rows[ROW * row] <= voltage"),
+    ("search: a row with a NaN", UNDER, "!(rows[ROW * row] >= voltage)"),
+    ("search: a row above the voltage", UNDER, "rows[ROW * row] > voltage"),
+    ("search: a row's second place", UNDER, "rows[ROW * row + 1] < voltage"),
+    ("search: from the second group on", GROUPS, "for group in 1..groups(count) {"),
+    ("search: the last group is left out", GROUPS, "for group in 0..groups(count).saturating_sub(1) {"),
+    ("search: a short last group is left out", GROUPS, "for group in 0..count / GROUP {"),
+    ("search: from the last group to the first", GROUPS, "for group in (0..groups(count)).rev() {"),
+    ("search: every other group", GROUPS, "for group in (0..groups(count)).step_by(2) {"),
+    ("search: from a group's second row on", ROWS_OF_GROUP, "GROUP * group + 1..count.min(GROUP * (group + 1))"),
+    ("search: a group's last row is left out", ROWS_OF_GROUP, "GROUP * group..count.min(GROUP * (group + 1)) - 1"),
+    ("search: a whole group's last row is left out", ROWS_OF_GROUP, "GROUP * group..count.min(GROUP * (group + 1) - 1)"),
+    ("search: a group has a row more", ROWS_OF_GROUP, "GROUP * group..count.min(GROUP * (group + 1) + 1)"),
+    ("search: from a group's last row to its first", ROWS_OF_GROUP, f"({ROWS_OF_GROUP}).rev()"),
+    ("search: rows after the count too", ROWS_OF_GROUP, "GROUP * group..(rows.len() / ROW).min(GROUP * (group + 1))"),
+    ("search: the count's last row is left out", ROWS_OF_GROUP, "GROUP * group..(count - 1).min(GROUP * (group + 1))"),
+    ("search: rows counted from 1", HIT, "return Ok(Some(row + 1));"),
+    ("search: rows counted from their group's first", HIT, "return Ok(Some(row % GROUP));"),
+    ("search: the place for the row", HIT, "return Ok(Some(ROW * row));"),
+    ("search: the group for the row", HIT, "return Ok(Some(group));"),
+    ("search: none is row 0", "    Ok(None)\n", "    Ok(Some(0))\n"),
+    ("full read: a row with the chosen voltage", "position(|row| row[0] < voltage)", "position(|row| row[0] <= voltage)"),
+    ("full read: rows after the count too", "rows[..count].iter()", "{ let _ = count; rows.iter() }"),
 ]
 
 DIGITS, LETTERS = "b'0'..=b'9' => Ok(u64::from(byte - b'0')),", "b'A'..=b'F' => Ok(u64::from(byte - b'A') + 10),"
@@ -946,6 +1074,7 @@ CALLS_DFN = [
     ("run: time is over after its limit", "cell.time_s >= max_time_s", "cell.time_s > max_time_s"),
     ("run: the clock is asked before the first step", "max_time_s, false)", "max_time_s, true)"),
     ("run: its own clock", "cell.time_s >= max_time_s", "cell.time_s - self.time_s >= max_time_s"),
+    *summary_lengths(),
 ]
 
 CALLS_DENSE = [
@@ -1007,6 +1136,7 @@ def all_faults(texts):
         ("calls/electrode.rs", CALLS_ELECTRODE),
         ("calls/particle.rs", CALLS_PARTICLE),
         ("calls/solver.rs", CALLS_SOLVER),
+        ("calls/lowest.rs", CALLS_LOWEST),
         ("calls/replay.rs", CALLS_REPLAY),
         ("calls/cycle.rs", CALLS_CYCLE),
         ("calls/electrolyte.rs", CALLS_ELECTROLYTE),

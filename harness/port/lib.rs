@@ -17,10 +17,14 @@ mod boundary {
         pub fn pj_dfn_step(cell: *const u8, cell_len: usize, current_a: f64, dt_s: f64, answer: *mut u8, answer_len: usize) -> u64;
         pub fn pj_simulate_discharge(
             cell: *const u8, cell_len: usize, current_a: f64, dt: f64, temp_k: f64, max_time_s: f64, rows: *mut f64, rows_len: usize,
-            answer: *mut u8, answer_len: usize,
+            lowest: *mut f64, lowest_len: usize, answer: *mut u8, answer_len: usize,
         ) -> u64;
         pub fn pj_run_galvanostatic(
             cell: *const u8, cell_len: usize, current_a: f64, dt_s: f64, max_time_s: f64, rows: *mut f64, rows_len: usize,
+            lowest: *mut f64, lowest_len: usize, answer: *mut u8, answer_len: usize,
+        ) -> u64;
+        pub fn pj_first_below(
+            which: u64, rows: *const f64, rows_len: usize, lowest: *const f64, lowest_len: usize, count: usize, voltage: f64,
             answer: *mut u8, answer_len: usize,
         ) -> u64;
         pub fn pj_replay(
@@ -64,19 +68,31 @@ pub fn dfn_step(cell: &[u8], [current_a, dt_s]: [f64; 2], answer: &mut [u8]) -> 
     unsafe { boundary::pj_dfn_step(cell.as_ptr(), cell.len(), current_a, dt_s, answer.as_mut_ptr(), answer.len()) }
 }
 
-pub fn simulate_discharge(cell: &[u8], numbers: [f64; 4], rows: &mut [f64], answer: &mut [u8]) -> u64 {
-    let [current_a, dt, temp_k, max_time_s] = numbers;
-    let (rows_len, answer_len) = (rows.len(), answer.len());
-    let (rows, answer) = (rows.as_mut_ptr(), answer.as_mut_ptr());
+pub fn simulate_discharge(cell: &[u8], numbers: [f64; 4], rows: &mut [f64], lowest: &mut [f64], answer: &mut [u8]) -> u64 {
+    let [current_a, dt, temp_k, limit] = numbers;
+    let (cell, cell_len, rows_len, lowest_len, answer_len) = (cell.as_ptr(), cell.len(), rows.len(), lowest.len(), answer.len());
+    let (rows, lowest, answer) = (rows.as_mut_ptr(), lowest.as_mut_ptr(), answer.as_mut_ptr());
     unsafe {
-        boundary::pj_simulate_discharge(cell.as_ptr(), cell.len(), current_a, dt, temp_k, max_time_s, rows, rows_len, answer, answer_len)
+        boundary::pj_simulate_discharge(
+            cell, cell_len, current_a, dt, temp_k, limit, rows, rows_len, lowest, lowest_len, answer, answer_len,
+        )
     }
 }
 
-pub fn run_galvanostatic(cell: &[u8], [current_a, dt_s, max_time_s]: [f64; 3], rows: &mut [f64], answer: &mut [u8]) -> u64 {
-    let (rows_len, answer_len) = (rows.len(), answer.len());
-    let (rows, answer) = (rows.as_mut_ptr(), answer.as_mut_ptr());
-    unsafe { boundary::pj_run_galvanostatic(cell.as_ptr(), cell.len(), current_a, dt_s, max_time_s, rows, rows_len, answer, answer_len) }
+pub fn run_galvanostatic(cell: &[u8], numbers: [f64; 3], rows: &mut [f64], lowest: &mut [f64], answer: &mut [u8]) -> u64 {
+    let [current_a, dt_s, limit] = numbers;
+    let (cell, cell_len, rows_len, lowest_len, answer_len) = (cell.as_ptr(), cell.len(), rows.len(), lowest.len(), answer.len());
+    let (rows, lowest, answer) = (rows.as_mut_ptr(), lowest.as_mut_ptr(), answer.as_mut_ptr());
+    unsafe {
+        boundary::pj_run_galvanostatic(cell, cell_len, current_a, dt_s, limit, rows, rows_len, lowest, lowest_len, answer, answer_len)
+    }
+}
+
+pub fn first_below(which: u64, rows: &[f64], lowest: &[f64], count: usize, voltage: f64, answer: &mut [u8]) -> u64 {
+    let (rows, rows_len, lowest, lowest_len) = (rows.as_ptr(), rows.len(), lowest.as_ptr(), lowest.len());
+    unsafe {
+        boundary::pj_first_below(which, rows, rows_len, lowest, lowest_len, count, voltage, answer.as_mut_ptr(), answer.len())
+    }
 }
 
 pub fn replay(cell: &[u8], text: &[u8], temp_k: f64, rows: &mut [f64], answer: &mut [u8]) -> u64 {

@@ -1,5 +1,6 @@
-//! Times of oracle, port and published Rust on the same inputs, as two tables in markdown: of what computes, and of a
-//! particle's averages, by themselves a few operations beside the reading and checking of an image.
+//! Times of oracle, port and published Rust on the same inputs, as three tables in markdown: of what computes; of a
+//! particle's averages, by themselves a few operations beside the reading and checking of an image; and of the search for the first
+//! row under a voltage beside a read of all rows.
 //!
 //!     speed [ROUNDS]
 //!
@@ -16,6 +17,7 @@ mod published_side {
     include!("rust_side.rs");
 }
 
+use std::hint::black_box;
 use std::time::Duration;
 
 /// the ready sheets' reference temperature, K; there the Arrhenius factor is 1
@@ -84,6 +86,12 @@ pub struct Cycle {
     pub temp_k: f64,
 }
 
+/// A run's rows and their summary.
+pub struct Rows {
+    pub rows: Vec<f64>,
+    pub lowest: Vec<f64>,
+}
+
 pub struct System {
     pub n: usize,
     pub a: Vec<f64>,
@@ -117,34 +125,87 @@ fn quartiles(mut values: Vec<f64>) -> [f64; 3] {
     [1, 2, 3].map(|quarter| values[(values.len() - 1) * quarter / 4])
 }
 
+/// Each side's ns for one unit, round by round. Beside a side's work stands how often it is done in a round.
+fn timed<const N: usize>(name: &str, sides: [(&Work, usize); N], units: f64, rounds: usize) -> [Vec<f64>; N] {
+    let mut taken = [(); N].map(|_| Vec::new());
+    for round in 0..rounds {
+        let mut answers = [(); N].map(|_| Answer::new());
+        for turn in 0..N {
+            let side = (round + turn) % N;
+            let (work, times) = sides[side];
+            let (time, answer) = work(times);
+            taken[side].push(time.as_nanos() as f64 / times as f64 / units);
+            answers[side] = answer;
+        }
+        assert_eq!(answers[0], answers[1], "{name}: the first two sides differ");
+    }
+    taken
+}
+
+/// How often work is to be done in a round.
+fn times_of(work: &Work) -> usize {
+    (ROUND.as_secs_f64() / (work(3).0.as_secs_f64() / 3.0)).clamp(1.0, 1e7) as usize
+}
+
+fn ratios(taken: &[Vec<f64>], over: usize) -> [f64; 3] {
+    quartiles(taken[over].iter().zip(&taken[1]).map(|(a, b)| a / b).collect())
+}
+
+fn medians<const N: usize>(taken: &[Vec<f64>; N]) -> [f64; N] {
+    std::array::from_fn(|side| quartiles(taken[side].clone())[1])
+}
+
 /// A row of the table: medians in ns, the ratio with its spread.
 fn row(case: &Case, rounds: usize) -> String {
     let [oracle, port, published] = &case.sides;
     assert_eq!(oracle(3).1, port(3).1, "{}: oracle and port differ", case.name);
     published(3);
-    let times = if case.once { 1 } else { (ROUND.as_secs_f64() / (oracle(3).0.as_secs_f64() / 3.0)).clamp(1.0, 1e7) as usize };
-    let mut taken: [Vec<f64>; 3] = Default::default();
-    for round in 0..rounds {
-        let mut answers: [Answer; 3] = Default::default();
-        for turn in 0..3 {
-            let side = (round + turn) % 3;
-            let (time, answer) = case.sides[side](times);
-            taken[side].push(time.as_nanos() as f64 / times as f64 / case.units);
-            answers[side] = answer;
-        }
-        assert_eq!(answers[0], answers[1], "{}: oracle and port differ", case.name);
-    }
-    let ratio = |over: usize| -> Vec<f64> { taken[over].iter().zip(&taken[1]).map(|(a, b)| a / b).collect() };
-    let [low, middle, high] = quartiles(ratio(0));
-    let median = |side: usize| quartiles(taken[side].clone())[1];
+    // the same work of all sides, whose cells move with each time
+    let times = if case.once { 1 } else { times_of(oracle) };
+    let taken = timed(&case.name, [oracle, port, published].map(|work| (work, times)), case.units, rounds);
+    let ([low, middle, high], [of_oracle, of_port, of_published]) = (ratios(&taken, 0), medians(&taken));
+    let published_ratio = ratios(&taken, 2)[1];
     format!(
-        "| {} | {:.0} | {:.0} | {middle:.2} | {low:.2} to {high:.2} | {:.0} | {:.2} |",
-        case.name,
-        median(0),
-        median(1),
-        median(2),
-        quartiles(ratio(2))[1]
+        "| {} | {of_oracle:.0} | {of_port:.0} | {middle:.2} | {low:.2} to {high:.2} | {of_published:.0} | {published_ratio:.2} |",
+        case.name
     )
+}
+
+/// A read of all rows from the first: 1 and the row, or 2 and 0.
+fn full_reads(made: &Rows, voltage: f64, times: usize) -> (Duration, Answer) {
+    let mut found = None;
+    let started = clock::now();
+    for _ in 0..times {
+        let voltage = black_box(voltage);
+        found = black_box(black_box(&made.rows[..]).chunks_exact(8).position(|row| row[0] < voltage));
+    }
+    (clock::now() - started, found.map_or(vec![2, 0], |row| vec![1, row as u64]))
+}
+
+/// A row of the table of searches: a full read and the port's search, each as often as its own time allows.
+fn search_row(made: &Rows, voltage: f64, rounds: usize) -> String {
+    let name = match full_reads(made, voltage, 1).1[..] {
+        [1, row] => format!("under {voltage:.4} V: row {row}"),
+        _ => format!("under {voltage:.4} V: none"),
+    };
+    let read: Work = Box::new(move |times| full_reads(made, voltage, times));
+    let search: Work = Box::new(move |times| port_side::searches(made, voltage, times));
+    let taken = timed(&name, [&read, &search].map(|work| (work, times_of(work))), 1.0, rounds);
+    let ([low, middle, high], [of_read, of_search]) = (ratios(&taken, 0), medians(&taken));
+    format!("| {name} | {of_read:.0} | {of_search:.0} | {middle:.1} | {low:.1} to {high:.1} |")
+}
+
+/// Voltages that a slow discharge has under it at once, early, half-way, late and not at all.
+fn print_searches(rounds: usize) {
+    let count = 100_000;
+    let made = port_side::rows_of(Ready::Nmc, 11, Load { current_a: 0.02, dt: 1.0, temp_k: REFERENCE }, count);
+    println!("| the first of {count} rows, in ns | full read | port's search | full read / search | quartiles of the ratio |");
+    println!("|---|---|---|---|---|");
+    let at = |row: usize| made.rows[8 * row].next_up();
+    for voltage in [at(0), at(1_000), at(count / 2), at(count - 1), 3.0] {
+        println!("{}", search_row(&made, voltage, rounds));
+    }
+    println!();
 }
 
 fn cell_steps(name: String, n: usize, load: Load, units: f64) -> Case<'static> {
@@ -316,5 +377,6 @@ fn main() {
     let text = text_of(Load { current_a: 3.0, dt: 1.0, temp_k: REFERENCE }, 300);
     print_table(&cases(&systems, &text), rounds);
     print_table(&averages(), rounds);
+    print_searches(rounds);
     println!("Medians of {rounds} rounds.");
 }

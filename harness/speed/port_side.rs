@@ -1,5 +1,5 @@
 //! What is timed of the port: images in, images out, as firmware calls it.
-use crate::{clock, Answer, Average, Cycle, Load, Ready, System};
+use crate::{clock, Answer, Average, Cycle, Load, Ready, Rows, System};
 use std::hint::black_box;
 use std::time::Duration;
 
@@ -11,6 +11,9 @@ const REPORT: usize = 72;
 const DFN_CELL: usize = 9008;
 const DFN_REPORT: usize = 64;
 const ENDING: usize = 16;
+const FOUND: usize = 16;
+/// rows of a group
+const GROUP: usize = 64;
 
 fn image(words: &[u64]) -> Vec<u8> {
     words.iter().flat_map(|word| word.to_le_bytes()).collect()
@@ -99,12 +102,36 @@ fn last_row(answer: &[u8], rows: &[f64]) -> Answer {
     vec![written, last[0].to_bits(), last[5].to_bits()]
 }
 
-pub fn cell_run(ready: Ready, n_nodes: usize, load: Load, rows: usize) -> (Duration, Answer) {
-    let (cell, mut lent, mut answer) = (spm_of(ready, n_nodes), vec![-1.0; 8 * rows], vec![0; CELL + ENDING]);
+/// A run with its summary: how long it took, rows and summary, the answer.
+fn run_of(ready: Ready, n_nodes: usize, load: Load, rows: usize) -> (Duration, Rows, Vec<u8>) {
+    let (cell, mut answer) = (spm_of(ready, n_nodes), vec![0; CELL + ENDING]);
+    let mut made = Rows { rows: vec![-1.0; 8 * rows], lowest: vec![-1.0; rows.div_ceil(GROUP)] };
     let numbers = [load.current_a, load.dt, load.temp_k, load.dt * rows as f64];
     let started = clock::now();
-    accepted(port::simulate_discharge(black_box(&cell), numbers, black_box(&mut lent), &mut answer));
-    (clock::now() - started, last_row(&answer, &lent))
+    accepted(port::simulate_discharge(black_box(&cell), numbers, black_box(&mut made.rows), black_box(&mut made.lowest), &mut answer));
+    (clock::now() - started, made, answer)
+}
+
+pub fn cell_run(ready: Ready, n_nodes: usize, load: Load, rows: usize) -> (Duration, Answer) {
+    let (taken, made, answer) = run_of(ready, n_nodes, load, rows);
+    (taken, last_row(&answer, &made.rows))
+}
+
+/// The rows of a run that fills its slice, with their summary.
+pub fn rows_of(ready: Ready, n_nodes: usize, load: Load, rows: usize) -> Rows {
+    let (_, made, answer) = run_of(ready, n_nodes, load, rows);
+    assert_eq!(word(&answer, CELL / 8 + 1), rows as u64, "a run of another length");
+    made
+}
+
+/// The first row under a voltage, by the summary: 1 and the row, or 2 and 0.
+pub fn searches(made: &Rows, voltage: f64, times: usize) -> (Duration, Answer) {
+    let (mut answer, count) = ([0; FOUND], made.rows.len() / 8);
+    let started = clock::now();
+    for _ in 0..times {
+        accepted(port::first_below(1, black_box(&made.rows), black_box(&made.lowest), count, black_box(voltage), black_box(&mut answer)));
+    }
+    (clock::now() - started, vec![word(&answer, 0), word(&answer, 1)])
 }
 
 pub fn cell_cycle(ready: Ready, n_nodes: usize, cycle: Cycle) -> (Duration, Answer) {
@@ -128,8 +155,9 @@ pub fn replays(n_nodes: usize, text: &[u8], temp_k: f64, times: usize) -> (Durat
 
 pub fn dfn_run(counts: [usize; 3], load: Load, rows: usize) -> (Duration, Answer) {
     let (cell, mut lent, mut answer) = (dfn(counts), vec![-1.0; 8 * rows], vec![0; DFN_CELL + ENDING]);
+    let (mut lowest, numbers) = (vec![-1.0; rows.div_ceil(GROUP)], [load.current_a, load.dt, load.dt * rows as f64]);
     let started = clock::now();
-    accepted(port::run_galvanostatic(black_box(&cell), [load.current_a, load.dt, load.dt * rows as f64], black_box(&mut lent), &mut answer));
+    accepted(port::run_galvanostatic(black_box(&cell), numbers, black_box(&mut lent), black_box(&mut lowest), &mut answer));
     let taken = clock::now() - started;
     let written = word(&answer, DFN_CELL / 8 + 1);
     let last = &lent[8 * (written as usize - 1)..];

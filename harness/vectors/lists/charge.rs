@@ -6,6 +6,7 @@ use super::solver::{config, pairs_of_sheets, random_cell, running, stepping};
 use crate::draw::Draw;
 use calls::cycle::Phase::{Charge, Discharge, Rest};
 use calls::electrode::Sheet;
+use calls::lowest::groups;
 use calls::solver::Cell;
 use calls::words::Slot;
 
@@ -66,7 +67,7 @@ pub fn runs() -> Vec<Vec<Slot>> {
     for sheets in pairs_of_sheets() {
         for current in [-3.0, 3.0, -30.0] {
             let numbers = [current, 10.0, T, 60.0];
-            let third = |cell: &Cell| cell.simulate_discharge(current, 10.0, T, 60.0, 48).rows[2][0];
+            let third = |cell: &Cell| cell.simulate_discharge(current, 10.0, T, 60.0, 48, groups(6)).rows[2][0];
             all.extend(limited(&ready(sheets, 1e-2), third).iter().map(|cell| running(cell, numbers, 48)));
         }
     }

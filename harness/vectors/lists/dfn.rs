@@ -7,6 +7,7 @@ use calls::dfn::{
     RANGES, SOLID_PLACES, VOLTAGE,
 };
 use calls::electrolyte;
+use calls::lowest::groups;
 use calls::runs::ROW;
 use calls::table::{range, MOST_CURRENT};
 use calls::words::{answer, float, word, Reader, Slot};
@@ -39,7 +40,7 @@ fn kinds(cell: &Cell) -> Vec<Kind> {
     [params_kinds(&cell.params), config_kinds(), state].concat()
 }
 
-fn config(counts: [u64; 3]) -> Config {
+pub(super) fn config(counts: [u64; 3]) -> Config {
     Config { counts, voltages: [2.5, 4.3] }
 }
 
@@ -54,7 +55,7 @@ fn random_params(draw: &mut Draw) -> Params {
 }
 
 /// A cell with drawn concentrations.
-fn random_cell(draw: &mut Draw, params: Params, config: Config) -> Cell {
+pub(super) fn random_cell(draw: &mut Draw, params: Params, config: Config) -> Cell {
     let mut cell = Cell::new(params, config).expect("parameters in range");
     let [n_x_neg, n_x_pos, n_r] = config.counts.map(|n| n as usize);
     let way = draw.below(3);
@@ -207,11 +208,11 @@ pub fn step(arguments: &[Slot]) -> Vec<Slot> {
 }
 
 /// Current, interval, time limit, and the length of the slice.
-fn running(cell: &Cell, numbers: [f64; 3], length: u64) -> Vec<Slot> {
+pub(super) fn running(cell: &Cell, numbers: [f64; 3], length: u64) -> Vec<Slot> {
     [cell.slots(), numbers.map(float).to_vec(), vec![word(length)]].concat()
 }
 
-fn run_base(cell: &Cell, numbers: [f64; 3], length: u64) -> Vec<Argument> {
+pub(super) fn run_base(cell: &Cell, numbers: [f64; 3], length: u64) -> Vec<Argument> {
     let more = vec![Kind::Load(MOST_CURRENT), Kind::Above0(86_400.0), Kind::Finite, Kind::Length(ROW as u64)];
     arguments(running(cell, numbers, length), [kinds(cell), more].concat())
 }
@@ -264,6 +265,6 @@ pub fn run(arguments: &[Slot]) -> Vec<Slot> {
     let [current_a, dt_s, limit] = reader.floats();
     let length = reader.word() as usize;
     reader.end();
-    let made = cell.run_galvanostatic(current_a, dt_s, limit, length);
+    let made = cell.run_galvanostatic(current_a, dt_s, limit, length, groups(length / ROW));
     made.slots(Cell::changed_slots)
 }

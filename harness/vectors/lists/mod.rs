@@ -11,6 +11,7 @@ mod dfn;
 mod electrode;
 mod electrolyte;
 mod elementary;
+pub mod lowest;
 mod particle;
 pub mod reference;
 mod replay;
@@ -28,7 +29,7 @@ const fn list(name: &'static str, cases: fn(&mut Draw) -> Vec<Vec<Slot>>, answer
 }
 
 /// A new list goes to the end: a list's place is its seed.
-pub const ALL: [List; 32] = [
+pub const ALL: [List; 35] = [
     list("ranges", elementary::range_cases, elementary::ranges),
     list("elementary", elementary::function_cases, elementary::functions),
     list("powf", elementary::powf_cases, elementary::power),
@@ -61,6 +62,9 @@ pub const ALL: [List; 32] = [
     list("exp", elementary::exp_cases, elementary::exp),
     list("replay", replay::cases, replay::answer),
     list("cycle", cycle::cases, cycle::answer),
+    list("discharge_lowest", lowest::discharge_cases, lowest::discharge),
+    list("galvanostatic_lowest", lowest::galvanostatic_cases, lowest::galvanostatic),
+    list("first_below", lowest::search_cases, lowest::search),
 ];
 
 /// The currents next to which the overpotentials' argument passes 2^-10: of the discharges that `step` makes, the largest that still meets one

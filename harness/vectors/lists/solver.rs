@@ -5,6 +5,7 @@ use crate::cover::{arguments, one_fault, pairs, singles, Argument, Kind};
 use crate::draw::Draw;
 use calls::earlier;
 use calls::electrode::Sheet;
+use calls::lowest::groups;
 use calls::runs::ROW;
 use calls::solver::{Cell, Config, DIFFUSIVITY, RANGES};
 use calls::table::{MOST_CURRENT, TEMPERATURE};
@@ -263,7 +264,7 @@ pub(super) fn running(cell: &Cell, [current_a, dt, temp_k, limit]: [f64; 4], len
     [cell.slots(), [current_a, dt, temp_k, limit].map(float).to_vec(), vec![word(length)]].concat()
 }
 
-fn run_base(cell: &Cell, numbers: [f64; 4], length: u64) -> Vec<Argument> {
+pub(super) fn run_base(cell: &Cell, numbers: [f64; 4], length: u64) -> Vec<Argument> {
     let loads = vec![Kind::Load(MOST_CURRENT), Kind::Above0(86_400.0), Kind::Temperature, Kind::Finite, Kind::Length(ROW as u64)];
     arguments(running(cell, numbers, length), [cell_kinds(cell), loads].concat())
 }
@@ -327,6 +328,6 @@ pub fn run(arguments: &[Slot]) -> Vec<Slot> {
     let [current_a, dt, temp_k, limit] = reader.floats();
     let length = reader.word() as usize;
     reader.end();
-    let made = cell.simulate_discharge(current_a, dt, temp_k, limit, length);
+    let made = cell.simulate_discharge(current_a, dt, temp_k, limit, length, groups(length / ROW));
     made.slots(Cell::changed_slots)
 }
