@@ -1,1 +1,2 @@
 // Specifications only: a stretch of places that a loop writes, in specs/.
+#![tactic(auto)]

@@ -1,5 +1,6 @@
 // Arrays of numbers of which the first n places are used and the others are +0: the tests of their places, and filling them. A cell's arrays differ in length and
 // are lent as slices.
+#![tactic(auto)]
 
 ghost use Rattle.std.specs.Prelude.{◌≡◌, ◌≤◌, length};
 ghost use Rattle.refusal.specs.Ranges.{in_range};

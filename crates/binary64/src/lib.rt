@@ -1,1 +1,2 @@
 // Laws of binary64 arithmetic, in specs/. No code.
+#![tactic(auto)]

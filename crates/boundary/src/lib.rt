@@ -1,5 +1,7 @@
 // The stepper for C: each call takes images and numbers, writes its answer's image and returns 0 or the number of a refusal. The layouts stand in
 // harness/c/persimmonjib.h.
+#![tactic(auto)]
+
 ghost use Rattle.std.specs.Prelude.{◌≡◌, length};
 ghost use Rattle.codec.specs.Words.{put_row};
 ghost use Rattle.runs.specs.Lowest.{room_of};

@@ -1,5 +1,7 @@
 // Steps and runs of a particle and of a single-particle cell on their images: each writes its answer's image and returns 0
 // or the number of a refusal.
+#![tactic(auto)]
+
 mod phases;
 
 ghost use Rattle.std.specs.Prelude.{◌≡◌, length};

@@ -1,4 +1,6 @@
 // A cell file: a line NAME = VALUE for each number that it sets; '#' begins a remark. What it sets, or the first fault with its line.
+#![tactic(auto)]
+
 pub mod records;
 
 ghost use Rattle.std.specs.Prelude.{◌≡◌, ◌<◌, ◌≤◌, length};
@@ -29,7 +31,7 @@ pub const LONG_FILE: u64 = 8;
 pub const NOT_GIVEN: u64 = 9;
 
 // What a line sets: a number at a place, or its fault; NONE and no fault where it sets nothing.
-#[derive(Drop)]
+#[derive(Clone, Copy)]
 pub struct Setting {
     pub fault: u64,
     pub place: usize,
@@ -37,7 +39,7 @@ pub struct Setting {
 }
 
 // The numbers, the line that gave each, and the first fault with its place and its line.
-#[derive(Drop)]
+#[derive(Clone, Copy)]
 pub struct Settings {
     pub values: [f64; NONE],
     pub given: [u64; NONE],

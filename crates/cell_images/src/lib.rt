@@ -1,4 +1,6 @@
 // Single-particle cells as images: words in a string of bytes, in the order of the records' fields.
+#![tactic(auto)]
+
 ghost use Rattle.std.specs.Prelude.{◌≡◌};
 ghost use Rattle.solver.specs.Parts.{parts_of};
 ghost use Rattle.cell_images.specs.Images.{cell_at, put_cell, put_report};

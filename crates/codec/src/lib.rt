@@ -1,5 +1,6 @@
 // Words and numbers in a string of bytes: word k is bytes 8k to 8k + 7, the lowest first. A word that
 // is not whole is read as 0 and never written.
+#![tactic(auto)]
 
 ghost use Rattle.std.specs.Prelude.{◌≡◌, cond, ◌+◌, ◌*◌, ◌%◌, ◌≤◌, length};
 ghost use Rattle.codec.specs.Words.{bytes_at, word_at, put_bytes, put_word, float_at, put_float};

@@ -1,5 +1,7 @@
 // The command line of a program that runs a cell: the numbers that its arguments set, the cell that they make, and, in words, what was run and how it ended.
 // What arguments and files hold, and what is written, no contract can say.
+#![tactic(auto)]
+
 pub mod arguments;
 pub mod ending;
 

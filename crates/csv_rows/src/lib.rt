@@ -1,4 +1,6 @@
 // A run's rows as lines of CSV: the time first, then the report's other fields in their order.
+#![tactic(auto)]
+
 ghost use Rattle.std.specs.Prelude.{◌≡◌, ◌<◌, length};
 ghost use Rattle.decimal_spelling.specs.Spelling.{written, put_all};
 ghost use Rattle.csv_rows.specs.Row.{field_of, number_at, separator_of, columns_by};

@@ -1,4 +1,5 @@
 // The open-circuit curves of the three chemistries, and their slope: of oxigrid's src/battery/p2d/electrode.rs, changed.
+#![tactic(auto)]
 
 ghost use Rattle.std.specs.Prelude.{◌≡◌};
 ghost use Rattle.curves.specs.Curves.{graphite_curve, lfp_curve, nmc_curve, chemistry_curve, chemistry_slope};

@@ -19,7 +19,7 @@ const REPEAT: u64 = 4;
 const BUDGET: u64 = 5;
 
 // The numbers; how many phases there are, and each by its name and its number; how often they are repeated, and the most steps, each 0 until it is given.
-#[derive(Drop)]
+#[derive(Clone, Copy)]
 pub(crate) struct Arguments {
     pub(crate) settings: Settings,
     pub(crate) count: usize,

@@ -1,5 +1,7 @@
 // Takes a cell through the phases of a charger and writes the rows as CSV. README.md has the arguments, and `help` lists them. The first line names the columns with their
 // units, the last two, after '#', say what was run and how it ended, with the phase at which a budget was spent. What is wrong with the arguments goes to standard error instead.
+#![tactic(auto)]
+
 mod arguments;
 mod help;
 mod lines;

@@ -1,4 +1,6 @@
 // A charger's phases on the single-particle cell, one row a step, into a lent slice: a list of phases, repeated, under a budget of steps.
+#![tactic(auto)]
+
 pub mod phases;
 
 ghost use Rattle.std.specs.Prelude.{◌≡◌, ◌<◌, ◌≤◌, ◌^◌, ◌*◌, length};
@@ -13,7 +15,7 @@ use solver::SpmSolver;
 use solver_step::report::SpmState;
 
 // How many of the eight phases are meant, how often they are repeated, the most steps, and what every step is given.
-#[derive(Drop)]
+#[derive(Clone, Copy)]
 pub struct CycleSettings {
     pub count: usize,
     pub repeats: usize,
@@ -23,7 +25,7 @@ pub struct CycleSettings {
 }
 
 // Where a cycle stands: the place of the phase under way, the repeats that are left with this one, 0 where the last phase has ended, and the phase's clock.
-#[derive(Drop)]
+#[derive(Clone, Copy)]
 pub struct Position {
     pub place: usize,
     pub repeats_left: usize,
@@ -31,7 +33,7 @@ pub struct Position {
 }
 
 // A cycle on its way: the cell, where it stands, the rows so far, what has ended it, a refusal's number, the last report.
-#[derive(Drop)]
+#[derive(Clone, Copy)]
 pub struct CycleState {
     pub solver: SpmSolver,
     pub position: Position,

@@ -3,7 +3,7 @@ ghost use Rattle.std.specs.Prelude.{◌≡◌};
 ghost use Rattle.cycle_run.specs.Phases.{current_of, phase_over, phase_load_fits, phase_time_fits, loads_fit, times_fit};
 
 // A charge with its current, a rest with its time, a discharge with its current.
-#[derive(Drop)]
+#[derive(Clone, Copy)]
 pub enum Phase {
     Charge(f64),
     Rest(f64),

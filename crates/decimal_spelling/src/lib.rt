@@ -1,6 +1,8 @@
 // Writing a binary64 as the shortest decimal that reads back as the same binary64: two numbers that differ in a bit differ in the text, and 298.15 stays
 // 298.15. A number below 1e-4 has an exponent, 1.25e-5. The digits are those of Steele and White's fixed-point printing: a digit is the last one where what is
 // left is within half the gap to the neighbours. A number stands in 1,200 bits, 60 to a limb, the lowest limb first; limbs 18 and 19 are its whole part.
+#![tactic(auto)]
+
 ghost use Rattle.std.specs.Prelude.{◌≡◌, cond, ◌^◌, ◌-◌, ◌≤◌, ◌<◌};
 ghost use Rattle.decimal_spelling.specs.Limbs.{ten_by, sum_by, below_by_of, placed_at, whole_part_of, behind};
 ghost use Rattle.decimal_spelling.specs.Spelling.{written, put_byte, put_all, parts_of, gap_of, turn_of, turn_from, glyph, digits_by, passed, pass_zeros};
@@ -9,7 +11,7 @@ ghost use Rattle.decimal_spelling.specs.Spelling.{whole_text, more_text, tiny_te
 const LIMB: u64 = 0x1000_0000_0000_0000;
 
 // A binary64 without its sign: m * 2^(at - 1080), and whether it is a power of two, whose lower neighbour is nearer.
-#[derive(Drop)]
+#[derive(Clone, Copy)]
 pub struct Parts {
     pub m: u64,
     pub at: usize,
@@ -17,14 +19,14 @@ pub struct Parts {
 }
 
 // A digit, and whether it is the last one.
-#[derive(Drop)]
+#[derive(Clone, Copy)]
 pub struct Digit {
     pub value: u64,
     pub last: bool,
 }
 
 // How many digits were passed, zeros but for the last of them, and that one.
-#[derive(Drop)]
+#[derive(Clone, Copy)]
 pub struct First {
     pub zeros: u64,
     pub value: u64,

@@ -1,4 +1,6 @@
 // Reading a decimal out of text: a sign, digits with a point among them, an exponent, as 298.15, -5, .5 or 2e-4, and nothing else.
+#![tactic(auto)]
+
 pub mod nearest;
 
 ghost use Rattle.std.specs.Prelude.{◌≡◌, ◌+◌, ◌-◌, ◌*◌, ◌^◌, ◌≤◌, min, true, drop};
@@ -11,7 +13,7 @@ use nearest::Reading;
 const MOST: u64 = 1000000000000000000;
 
 // What a text says.
-#[derive(Drop)]
+#[derive(Clone, Copy)]
 pub enum Decimal {
     Number(f64),
     TooLong,
@@ -19,14 +21,14 @@ pub enum Decimal {
 }
 
 // A run of digits: where it ends, and its number, at most MOST.
-#[derive(Drop)]
+#[derive(Clone, Copy)]
 pub struct Run {
     pub end: usize,
     pub value: u64,
 }
 
 // The parts of a text: its digits as one number and how many of them stand behind the point, the exponent, the signs, and whether it is a decimal.
-#[derive(Drop)]
+#[derive(Clone, Copy)]
 pub struct Parts {
     pub digits: u64,
     pub places: usize,

@@ -1,6 +1,7 @@
 // Dense linear systems of up to 32 unknowns: Gaussian elimination with partial pivoting, then back substitution column by
 // column. A changed translation of `solve_dense` of oxigrid's src/battery/p2d/dfn.rs. The work is done on copies: the matrix
 // of order n in n rows of 32 places, and the right side in 32, which becomes the solution.
+#![tactic(auto)]
 
 ghost use Rattle.std.specs.Prelude.{◌≡◌, ◌+◌, ◌*◌, ◌<◌, ◌≤◌, length};
 ghost use Rattle.iterate.specs.Iterate.{first_by};
@@ -13,7 +14,7 @@ ghost use Rattle.dense.specs.Solve.{row_loaded, matrix_loaded, input_refusal, so
 use dense_elimination::eliminate;
 
 // 0 and the solution, its unused places +0; or the number of a refusal and +0 throughout.
-#[derive(Drop)]
+#[derive(Clone, Copy)]
 pub struct Solved {
     pub refusal: u64,
     pub x: [f64; 32],

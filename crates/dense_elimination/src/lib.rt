@@ -1,5 +1,6 @@
 // Gaussian elimination with partial pivoting, of up to 32 unknowns: the first half of `solve_dense` of oxigrid's
 // src/battery/p2d/dfn.rs, changed. Order n: the matrix has n rows of 32 places, the right side 32 places.
+#![tactic(auto)]
 
 ghost use Rattle.std.specs.Prelude.{◌≡◌, ◌+◌, ◌*◌, ◌<◌, ◌≤◌, length};
 ghost use Rattle.matrix_rows.specs.Loops.{outcome};
@@ -9,7 +10,7 @@ ghost use Rattle.dense_elimination.specs.Elimination.{candidate, larger, elimina
 use matrix_columns::take_pivot;
 
 // An entry of a column that may become its pivot: its row and its absolute value.
-#[derive(Drop)]
+#[derive(Clone, Copy)]
 struct Pivot {
     row: usize,
     val: f64,

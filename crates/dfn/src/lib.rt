@@ -1,5 +1,7 @@
 // The Doyle-Fuller-Newman cell by value: how it is built, checked and stepped. A changed translation of src/battery/p2d/dfn.rs (`DfnSolver`).
 // The particles of an electrode stand in one array, node ri of particle xi at xi * n_r + ri.
+#![tactic(auto)]
+
 ghost use Rattle.std.specs.Prelude.{◌≡◌, ◌*◌, ◌≤◌};
 ghost use Rattle.dfn.specs.Checks.{Grid, parts_refusal, load_refusal, step_refusal};
 ghost use Rattle.dfn.specs.Step.{particle_params, report_by, outcome_refusal, no_report, stepped};
@@ -15,7 +17,7 @@ use dfn_places::{
 use dfn_solid::{ParticleParams, update_solid};
 use dfn_voltage::compute_voltage;
 
-#[derive(Drop)]
+#[derive(Clone, Copy)]
 pub struct DfnSolver {
     pub params: DfnParams,
     pub config: DfnConfig,
@@ -33,7 +35,7 @@ pub struct DfnSolver {
 }
 
 // What a step reports.
-#[derive(Drop)]
+#[derive(Clone, Copy)]
 pub struct DfnStep {
     pub voltage: f64,
     pub current: f64,
@@ -49,21 +51,21 @@ pub struct DfnStep {
 }
 
 // 0 and a new cell, or the number of the refusal.
-#[derive(Drop)]
+#[derive(Clone, Copy)]
 pub struct DfnBuildAnswer {
     pub refusal: u64,
     pub cell: DfnSolver,
 }
 
 // 0 and the report; or the number of the refusal and a report of zeros.
-#[derive(Drop)]
+#[derive(Clone, Copy)]
 pub struct DfnReported {
     pub refusal: u64,
     pub report: DfnStep,
 }
 
 // 0, the report and the new cell; or the number of the refusal, a report of zeros and the cell as it was.
-#[derive(Drop)]
+#[derive(Clone, Copy)]
 pub struct DfnStepAnswer {
     pub refusal: u64,
     pub report: DfnStep,

@@ -1,5 +1,7 @@
 // Steps of an electrolyte, steps and runs of a Doyle-Fuller-Newman cell on their images: each writes its answer's image and
 // returns 0 or the number of a refusal.
+#![tactic(auto)]
+
 ghost use Rattle.std.specs.Prelude.{◌≡◌, length};
 ghost use Rattle.dfn_calls.specs.Steps.{electrolyte_return, electrolyte_after, put_stepped, dfn_return, dfn_after};
 ghost use Rattle.runs.specs.Lowest.{room_of};

@@ -1,1 +1,2 @@
 // Specifications only: a cell that a step leaves passes the checks again, in specs/.
+#![tactic(auto)]

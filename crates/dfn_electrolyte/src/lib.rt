@@ -1,12 +1,14 @@
 // The electrolyte's nodes after a step, all from the old ones: the anode's, one for the separator, the cathode's. A changed translation of
 // src/battery/p2d/dfn.rs (`update_electrolyte`, `d_eff_e`). Each node's diffusivity is worked out once.
+#![tactic(auto)]
+
 ghost use Rattle.std.specs.Prelude.{◌≡◌, ◌+◌, ◌<◌, ◌≤◌};
 ghost use Rattle.dfn_electrolyte.specs.Electrolyte.{diffusivity_params, region_of, d_eff_of, d_effs, flow_with, moved_with, node_with, nodes_with, electrolyte_after};
 
 use dfn_parameters::{DfnParams, Side};
 
 // What the diffusivity in the electrodes is worked out with: the porosity to the Bruggeman exponent, and three parameters.
-#[derive(Drop)]
+#[derive(Clone, Copy)]
 pub struct DiffusivityParams {
     pub factor: f64,
     pub d_e0: f64,
@@ -15,7 +17,7 @@ pub struct DiffusivityParams {
 }
 
 // What the nodes in one electrode work with: how many they are, their distance, dt / (eps * dx) and dt * source / eps.
-#[derive(Drop)]
+#[derive(Clone, Copy)]
 pub struct Region {
     pub n: usize,
     pub dx: f64,

@@ -1,4 +1,6 @@
 // Doyle-Fuller-Newman cells as images: words in a string of bytes, in the order of the records' fields.
+#![tactic(auto)]
+
 ghost use Rattle.std.specs.Prelude.{◌≡◌};
 ghost use Rattle.dfn_images.specs.Images.{cell_at, put_cell_places, put_last, put_cell, put_report};
 

@@ -1,5 +1,7 @@
 // The parameters and the grid of the Doyle-Fuller-Newman cell. A changed translation of src/battery/p2d/dfn.rs (`DfnParams`, `DfnConfig`);
 // the Newton settings are left out, and a polynomial's coefficients stand in an array with their count beside it.
+#![tactic(auto)]
+
 ghost use Rattle.std.specs.Prelude.{◌≡◌, ◌≤◌};
 ghost use Rattle.dfn_parameters.specs.Ranges.{side_fits, numbers_fit, coefficients_fit, parameters_fit, grid_fits, limits_fit};
 ghost use Rattle.dfn_parameters.specs.Ready.{nmc_graphite, lfp_graphite};
@@ -7,7 +9,7 @@ ghost use Rattle.dfn_parameters.specs.Sides.{anode_of, cathode_of, area_of, pore
 
 use refusal::{count_within, within};
 
-#[derive(Drop)]
+#[derive(Clone, Copy)]
 pub struct DfnParams {
     // Thickness of the anode, the separator and the cathode, m; area of the plates, m^2.
     pub l_neg: f64,
@@ -48,7 +50,7 @@ pub struct DfnParams {
     pub ocv_pos_coeffs: [f64; 16],
 }
 
-#[derive(Drop)]
+#[derive(Clone, Copy)]
 pub struct DfnConfig {
     // Nodes along the anode and the cathode, and along a particle's radius.
     pub n_x_neg: usize,
@@ -60,7 +62,7 @@ pub struct DfnConfig {
 }
 
 // One of the two electrodes.
-#[derive(Drop)]
+#[derive(Clone, Copy)]
 pub struct Side {
     pub l: f64,
     pub r: f64,

@@ -1,4 +1,5 @@
 // The arrays of a Doyle-Fuller-Newman cell: what their places are checked for, uniform ones, and the largest change of the electrolyte.
+#![tactic(auto)]
 
 ghost use Rattle.std.specs.Prelude.{◌≡◌, ◌≤◌};
 ghost use Rattle.arrays.specs.Places.{all_finite, filled};

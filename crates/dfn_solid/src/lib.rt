@@ -1,5 +1,6 @@
 // The particles of one electrode after a step, all from the old nodes. A changed translation of src/battery/p2d/dfn.rs (`update_solid`, `d_s`).
 // The particles stand one after the other in one array, n nodes each. Each node's diffusivity is worked out once.
+#![tactic(auto)]
 
 ghost use Rattle.std.specs.Prelude.{◌≡◌, ◌+◌, ◌<◌, ◌≤◌};
 ghost use Rattle.dfn_solid.specs.Solid.{d_solid, d_solids, inner_with, surface_with, centre_with, particle_with, at_least_one, solid_update};
@@ -7,7 +8,7 @@ ghost use Rattle.dfn_solid.specs.Solid.{d_solid, d_solids, inner_with, surface_w
 use dfn_places::solid_finite;
 
 // What the particles of one electrode work with: nodes of each, their distance, diffusivity, largest concentration, flux, interval.
-#[derive(Drop)]
+#[derive(Clone, Copy)]
 pub struct ParticleParams {
     pub n: usize,
     pub dr: f64,
@@ -18,7 +19,7 @@ pub struct ParticleParams {
 }
 
 // The particles after a step and the mean of their surface stoichiometries; 0, or 8 where one of these numbers is not finite.
-#[derive(Drop)]
+#[derive(Clone, Copy)]
 pub struct SolidUpdate {
     pub refusal: u64,
     pub c_s: [f64; 512],

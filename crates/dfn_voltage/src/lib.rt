@@ -1,5 +1,7 @@
 // The terminal voltage of a Doyle-Fuller-Newman cell. A changed translation of src/battery/p2d/dfn.rs (`compute_voltage`). Its fluxes have no
 // factor of Faraday, its signs are the Rust's.
+#![tactic(auto)]
+
 ghost use Rattle.std.specs.Prelude.{◌≡◌, ◌≤◌};
 ghost use Rattle.dfn_voltage.specs.Voltage.{layer_of, resistance_of, exchange_of, over_of, side_of, open_of, voltage_of};
 

@@ -1,6 +1,8 @@
 // Discharges a cell at a constant current and writes the rows as CSV. README.md has the arguments, and `help` lists them. The first line names the columns
 // with their units, the last two, after '#', say what was run and how it ended. What is wrong with the arguments goes to standard error instead. A run has at most
 // 10,000 rows.
+#![tactic(auto)]
+
 mod help;
 
 use cell_file::Settings;

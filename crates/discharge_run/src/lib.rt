@@ -1,5 +1,7 @@
 // A constant-current run of the single-particle cell into a lent slice. A changed translation of src/battery/p2d/solver.rs
 // (`SpmSolver::simulate_discharge`).
+#![tactic(auto)]
+
 ghost use Rattle.std.specs.Prelude.{◌≡◌, ◌<◌, ◌≤◌, ◌^◌, ◌*◌, length};
 ghost use Rattle.runs.specs.Lowest.{group_count, summary, room_of};
 ghost use Rattle.discharge_run.specs.Discharge.{time_over, over_after, started, turned, row_of, run_outcome, finished_run, all_turns, all_rows, run_refusal, discharged, discharged_rows, discharged_lowest, run_settings};
@@ -10,7 +12,7 @@ use solver::SpmSolver;
 use solver_step::report::SpmState;
 
 // What each step of a run is given, and the run's time limit.
-#[derive(Drop)]
+#[derive(Clone, Copy)]
 pub struct RunSettings {
     pub current_a: f64,
     pub dt: f64,
@@ -19,7 +21,7 @@ pub struct RunSettings {
 }
 
 // A run on its way: the cell, the run's own clock, the rows so far, what has ended it, a refusal's number, the last report.
-#[derive(Drop)]
+#[derive(Clone, Copy)]
 pub struct RunState {
     pub solver: SpmSolver,
     pub clock: f64,
@@ -30,7 +32,7 @@ pub struct RunState {
 }
 
 // What a run of the cell gives: how it ended, how many rows it wrote, and the cell after them.
-#[derive(Drop)]
+#[derive(Clone, Copy)]
 pub struct CellRun {
     pub ending: Ending,
     pub rows: usize,

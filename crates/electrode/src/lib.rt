@@ -1,5 +1,6 @@
 // The electrode sheet: a chemistry and ten numbers, and what is worked out from them.
 // A changed translation of src/battery/p2d/electrode.rs (without its particle).
+#![tactic(auto)]
 
 ghost use Rattle.std.specs.Prelude.{◌≡◌};
 ghost use Rattle.refusal.specs.Numbers.{refusal_unless, sheet};
@@ -11,7 +12,7 @@ ghost use Rattle.electrode.specs.Calls.{d_s_of, specific_area_call, ocp_call, sl
 
 use refusal::within;
 
-#[derive(Drop)]
+#[derive(Clone, Copy)]
 pub struct ElectrodeParams {
     // The chemistry: 1 graphite, 2 LFP, 3 NMC.
     pub electrode_type: u64,

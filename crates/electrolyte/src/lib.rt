@@ -1,5 +1,7 @@
 // The electrolyte over anode, separator and cathode: three regions and the concentration profile. A changed translation of
 // src/battery/p2d/electrolyte.rs (`ElectrolyteState`, without its potential).
+#![tactic(auto)]
+
 ghost use Rattle.std.specs.Prelude.{◌≡◌, ◌≤◌};
 ghost use Rattle.binary64.specs.Operators.{◌⊘◌, count};
 ghost use Rattle.refusal.specs.Answers.{outcome_of};
@@ -13,7 +15,7 @@ use electrolyte_profile::{
 use refusal::{count_within, within};
 
 // A profile over the three regions, by value: the first n_neg + n_sep + n_pos places of c_e are used, the others +0.
-#[derive(Drop)]
+#[derive(Clone, Copy)]
 pub struct ElectrolyteState {
     pub params: ElectrolyteParams,
     // Lengths of anode, separator and cathode, m.
@@ -33,14 +35,14 @@ pub struct ElectrolyteState {
 }
 
 // A refusal's number, 0 for none, and the state: the new one; of a refused step the one given, of a refused build all zeros.
-#[derive(Drop)]
+#[derive(Clone, Copy)]
 pub struct ElectrolyteAnswer {
     pub refusal: u64,
     pub state: ElectrolyteState,
 }
 
 // What a call that gives a whole number answers.
-#[derive(Drop)]
+#[derive(Clone, Copy)]
 pub enum Count {
     Value(usize),
     Refused(u64),

@@ -1,4 +1,6 @@
 // An electrolyte and its parameters as images: words in a string of bytes, in the order of the records' fields.
+#![tactic(auto)]
+
 ghost use Rattle.std.specs.Prelude.{◌≡◌};
 ghost use Rattle.electrolyte_images.specs.Images.{electrolyte_params_at, put_electrolyte_params, electrolyte_at, put_regions, put_electrolyte};
 

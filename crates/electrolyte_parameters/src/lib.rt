@@ -1,5 +1,6 @@
 // The electrolyte's eight numbers and the rates that are worked out from them. A changed translation of src/battery/p2d/electrolyte.rs
 // (`ElectrolyteParams`).
+#![tactic(auto)]
 
 ghost use Rattle.std.specs.Prelude.{◌≡◌};
 ghost use Rattle.refusal.specs.Answers.{outcome_of};
@@ -8,7 +9,7 @@ ghost use Rattle.electrolyte_parameters.specs.Calls.{rate_refusal, d_e_of, kappa
 
 use refusal::within;
 
-#[derive(Drop)]
+#[derive(Clone, Copy)]
 pub struct ElectrolyteParams {
     // Diffusivity of the salt at t_ref, m^2/s.
     pub d_e_ref: f64,

@@ -1,5 +1,6 @@
 // The electrolyte's profile: 96 places, the first n used. What it is checked for, its sum, and the profile after one explicit step.
 // A changed translation of src/battery/p2d/electrolyte.rs (`step_concentration`).
+#![tactic(auto)]
 
 ghost use Rattle.std.specs.Prelude.{◌≡◌, ◌≤◌, ◌<◌};
 ghost use Rattle.arrays.specs.Places.{all_finite, place_fits, filled};
@@ -7,7 +8,7 @@ ghost use Rattle.electrolyte_profile.specs.Places.{above_floor, profile_fits, su
 ghost use Rattle.electrolyte_profile.specs.Step.{region_at, left_of, right_of, node_from, node_new, profile_new};
 
 // What a step works with in one region: porosity, width of a node, effective diffusivity, source.
-#[derive(Drop)]
+#[derive(Clone, Copy)]
 pub struct Region {
     pub eps: f64,
     pub dx: f64,
@@ -16,7 +17,7 @@ pub struct Region {
 }
 
 // What a step works with: the regions, the first node past the anode, past the separator and past all, and the interval.
-#[derive(Drop)]
+#[derive(Clone, Copy)]
 pub struct ElectrolyteStepParams {
     pub neg: Region,
     pub sep: Region,

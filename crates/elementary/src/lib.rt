@@ -1,6 +1,8 @@
 // The elementary functions of the cell models, each with a result for every f64. They stand in for the library's, to
 // the last bit: each operation rounds once, in the order of the definitions in specs/. The square root and what does
 // not round have crates of their own, square_root and choice.
+#![tactic(auto)]
+
 ghost use Rattle.std.specs.Prelude.{◌≡◌, ◌≤◌};
 ghost use Rattle.std.specs.Float.{binary64};
 ghost use Rattle.std.specs.Float.Ieee.{of_int, minus};
@@ -25,7 +27,7 @@ fn exp_series(y: f64) -> f64
 }
 
 // The last terms of the series, from a start below what the terms before them give and from one above.
-#[derive(Drop)]
+#[derive(Clone, Copy)]
 struct Bracket {
     low: f64,
     high: f64,

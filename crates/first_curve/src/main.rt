@@ -1,5 +1,7 @@
 // The first curve, and the shortest program that calls the stepper: graphite with NMC is discharged at 5 A down to 3 V, and its rows are written as CSV.
 // `discharge` does the same for any cell, current and limits.
+#![tactic(auto)]
+
 use kinetics::SpmConfig;
 use solver::SpmSolver;
 

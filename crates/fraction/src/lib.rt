@@ -1,1 +1,2 @@
 // Definitions and laws only: specs/Lib.antt says what is here.
+#![tactic(auto)]

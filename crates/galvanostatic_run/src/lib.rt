@@ -1,5 +1,7 @@
 // A run of the Doyle-Fuller-Newman cell at one current, with a row of eight places for each step in a lent slice. A changed translation of
 // src/battery/p2d/dfn.rs (`run_galvanostatic`).
+#![tactic(auto)]
+
 ghost use Rattle.std.specs.Prelude.{◌≡◌, ◌*◌, ◌^◌, ◌≤◌, ◌<◌, length};
 ghost use Rattle.runs.specs.Lowest.{group_count, summary, room_of};
 ghost use Rattle.galvanostatic_run.specs.Galvanostatic.{over_after, flag_of, row_of, turned, started, run_outcome, finished_run, all_turns, all_rows, run_refusal, galvanostatic, galvanostatic_rows, galvanostatic_lowest};
@@ -9,7 +11,7 @@ use runs::lowest::{room_fits, update_lowest};
 use runs::{Ending, GOING, REFUSED, TIME, VOLTAGE, ending_of, put_row};
 
 // The current, A, the interval and the time limit, s.
-#[derive(Drop)]
+#[derive(Clone, Copy)]
 pub struct RunSettings {
     pub current: f64,
     pub dt: f64,
@@ -17,7 +19,7 @@ pub struct RunSettings {
 }
 
 // A run on its way: the cell, the last row, how many rows there are; 0 while it goes on, else the number of its ending, and a refusal's number.
-#[derive(Drop)]
+#[derive(Clone, Copy)]
 pub struct RunState {
     pub cell: DfnSolver,
     pub row: [f64; 8],
@@ -27,7 +29,7 @@ pub struct RunState {
 }
 
 // What a run answers: how it ended, how many rows it wrote, and the cell after them.
-#[derive(Drop)]
+#[derive(Clone, Copy)]
 pub struct DfnRun {
     pub ending: Ending,
     pub rows: usize,

@@ -1,4 +1,6 @@
 // The calls that give a record, ready or new from an image, by the number that C calls them with.
+#![tactic(auto)]
+
 ghost use Rattle.std.specs.Prelude.{◌≡◌};
 ghost use Rattle.cell_images.specs.Images.{put_cell};
 ghost use Rattle.sheet_images.specs.Images.{put_particle};

@@ -1,5 +1,6 @@
 // Where the parts of each record stand in its image, in words of eight bytes, and how many bytes an image has. docs/REFERENCE.md and
 // harness/c/persimmonjib.h have the same table.
+#![tactic(auto)]
 
 // Of a particle: the count of nodes.
 pub const PARTICLE_NODES: usize = 11;

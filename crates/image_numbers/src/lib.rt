@@ -1,4 +1,6 @@
 // The calls that give a number from an image, by the number that C calls them with.
+#![tactic(auto)]
+
 ghost use Rattle.std.specs.Prelude.{◌≡◌};
 ghost use Rattle.refusal.specs.Answers.{outcome_of};
 ghost use Rattle.image_numbers.specs.Numbers.{sheet_number, particle_number, cell_number, rate_number, nodes_outcome, electrolyte_number, number_outcome, number_length};

@@ -1,5 +1,7 @@
 // Rows of numbers in a string of bytes, from a word on, and how a run ended. A row is tested first: one that is read for
 // words that are whole and finite, one that is written for room and no NaN. Nearly every row passes and is copied; any other goes word by word.
+#![tactic(auto)]
+
 ghost use Rattle.std.specs.Prelude.{◌≡◌, ◌+◌, ◌*◌, ◌≤◌, T, length};
 ghost use Rattle.iterate.specs.Iterate.{first_by};
 ghost use Rattle.codec.specs.Words.{float_at, put_places};

@@ -1,1 +1,2 @@
 // What a loop leaves after so many turns, in specs/. No code.
+#![tactic(auto)]

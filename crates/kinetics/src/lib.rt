@@ -1,5 +1,7 @@
 // The kinetics of a single-particle cell: its configuration, the flux at the particles' surfaces, the overpotential and the
 // terminal voltage. A changed translation of src/battery/p2d/solver.rs.
+#![tactic(auto)]
+
 ghost use Rattle.std.specs.Prelude.{◌≡◌, ◌≤◌};
 ghost use Rattle.particle.specs.Particle.{particle_of};
 ghost use Rattle.kinetics.specs.Kinetics.{config_fits, surface_current, exchange, overpotential, terminal_voltage};
@@ -8,7 +10,7 @@ use electrode::ElectrodeParams;
 use particle::surface_theta;
 use refusal::within;
 
-#[derive(Drop)]
+#[derive(Clone, Copy)]
 pub struct SpmConfig {
     // Radial nodes of each particle.
     pub n_nodes: usize,

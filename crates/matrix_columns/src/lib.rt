@@ -1,4 +1,5 @@
 // A column of a system cleared by its pivot, as in `solve_dense` of oxigrid's src/battery/p2d/dfn.rs, changed.
+#![tactic(auto)]
 
 ghost use Rattle.std.specs.Prelude.{◌≡◌, ◌*◌, ◌<◌, ◌≤◌, length};
 ghost use Rattle.matrix_columns.specs.Columns.{system, column_cleared, rows_exchanged, pivot_taken};

@@ -1,5 +1,6 @@
 // The rows of a system of up to 32 unknowns: their exchange and their reduction, as in `solve_dense` of oxigrid's
 // src/battery/p2d/dfn.rs, changed. Order n: the matrix has n rows of 32 places, the right side 32 places.
+#![tactic(auto)]
 
 ghost use Rattle.std.specs.Prelude.{◌≡◌, ◌*◌, ◌<◌, ◌≤◌, length};
 ghost use Rattle.matrix_rows.specs.Rows.{swapped, rows_swapped, row_reduced};

@@ -1,5 +1,7 @@
 // Absolute value, sign, clamp, max, min and the least whole number not below a quotient, each with a result for every f64. They
 // stand in for the library's, to the last bit; none of them rounds.
+#![tactic(auto)]
+
 ghost use Rattle.std.specs.Prelude.{◌≡◌};
 ghost use Rattle.binary64.specs.Operators.{negative};
 ghost use Rattle.min_max.specs.MinMax.{abs_of, clamp_of, max_of, min_of};

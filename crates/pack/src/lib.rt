@@ -1,5 +1,7 @@
 // Several single-particle cells that share one config and one pair of electrode sheets. The caller keeps 1 to 32 of them side by side, and a
 // call steps the one that it names where it lies.
+#![tactic(auto)]
+
 ghost use Rattle.std.specs.Prelude.{◌≡◌};
 ghost use Rattle.pack.specs.Pack.{parts_with, cell_built, cell_stepped, count_refusal, place_refusal, pack_answer, pack_cells};
 
@@ -9,7 +11,7 @@ use solver::SpmSolver;
 use solver_step::{SpmParts, SpmReported, refused_move};
 
 // What a cell of a pack holds by itself. Its profiles have the config's count of nodes.
-#[derive(Drop)]
+#[derive(Clone, Copy)]
 pub struct PackCell {
     pub c_neg: [f64; 64],
     pub c_pos: [f64; 64],
@@ -18,14 +20,14 @@ pub struct PackCell {
 }
 
 // A cell, and 0 or the number of the refusal.
-#[derive(Drop)]
+#[derive(Clone, Copy)]
 pub struct PackBuildAnswer {
     pub refusal: u64,
     pub cell: PackCell,
 }
 
 // The cell after a step, and what the step answers.
-#[derive(Drop)]
+#[derive(Clone, Copy)]
 pub struct PackStepped {
     pub cell: PackCell,
     pub reported: SpmReported,

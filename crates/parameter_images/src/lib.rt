@@ -1,4 +1,6 @@
 // A Doyle-Fuller-Newman cell's parameters and grid as images: words in a string of bytes, in the order of the records' fields.
+#![tactic(auto)]
+
 ghost use Rattle.std.specs.Prelude.{◌≡◌};
 ghost use Rattle.parameter_images.specs.Images.{params_of, params_at, params_numbers, put_params, config_at, put_config};
 

@@ -1,5 +1,7 @@
 // A particle of an electrode and the diffusion in it. A changed translation of src/battery/p2d/electrode.rs (its
 // `ParticleDiffusion`). The spacing of the nodes is worked out; what does not change within a call is worked out once.
+#![tactic(auto)]
+
 ghost use Rattle.std.specs.Prelude.{◌≡◌, ◌≤◌};
 ghost use Rattle.refusal.specs.Answers.{outcome_of};
 ghost use Rattle.iterate.specs.Iterate.{times};
@@ -13,7 +15,7 @@ use profile::sub_step::{count_f64, inverse_radii, prepare, sub_steps};
 use profile::{profile_finite, profile_fits, sums_of, uniform};
 use refusal::Answer;
 
-#[derive(Drop)]
+#[derive(Clone, Copy)]
 pub struct ParticleDiffusion {
     pub params: ElectrodeParams,
     // How many nodes: 0 is the centre, n_nodes - 1 the surface.
@@ -23,7 +25,7 @@ pub struct ParticleDiffusion {
 }
 
 // A particle, and 0 or the number of the refusal.
-#[derive(Drop)]
+#[derive(Clone, Copy)]
 pub struct ParticleAnswer {
     pub refusal: u64,
     pub particle: ParticleDiffusion,

@@ -45,7 +45,7 @@ steps p = record {
   step = λ s q. (answer s q).particle;
   ok = λ s q. eqb (answer s q).refusal 0;
   moves = λ q. record { d_s = diffusivity_at p.params q.temp; j_n = q.flux; dt = q.dt } ∷ [];
-  profile = λ s. s .c_s;
+  profile = λ s. s.c_s;
   grid = record { n = p.n_nodes; dr = spacing p.params p.n_nodes; c_max = p.params.c_s_max };
 }
 

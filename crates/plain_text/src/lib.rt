@@ -1,4 +1,6 @@
 // Text as a slice of bytes: blanks, lines and pieces.
+#![tactic(auto)]
+
 ghost use Rattle.std.specs.Prelude.{◌≡◌, cond, ◌+◌, ◌≤◌, length, drop, get_or};
 ghost use Rattle.plain_text.specs.Text.{is_blank, index_of, blanks_ahead, solid_end, trimmed, starts_with, is_text, after_mark};
 

@@ -1,5 +1,7 @@
 // The profile of a particle: 64 places, the first n used. What it is checked for, and the sums of its average over the
 // volume; the sub-step that makes it anew (`sub_step`). A changed translation of src/battery/p2d/electrode.rs (`ParticleDiffusion::c_avg`).
+#![tactic(auto)]
+
 pub mod sub_step;
 
 ghost use Rattle.std.specs.Prelude.{◌≡◌, ◌≤◌, ◌<◌};
@@ -35,7 +37,7 @@ pub fn uniform(x: f64, n: usize) -> [f64; 64]
 }
 
 // The sums over the places so far: of the shares of the volume, and of these with the concentrations.
-#[derive(Drop)]
+#[derive(Clone, Copy)]
 pub struct Sums {
     pub shares: f64,
     pub content: f64,

@@ -7,7 +7,7 @@ ghost use Rattle.iterate.specs.Iterate.{times};
 ghost use Rattle.profile.specs.SubSteps.{prepared, inverse_radii, centre_by, shell_by, moved_by, sub_step_by};
 
 // What does not change within a call.
-#[derive(Drop)]
+#[derive(Clone, Copy)]
 pub struct SubStepCoefficients {
     pub n: usize,
     // The diffusivity, and six times it.

@@ -1,5 +1,6 @@
 // Refusals: the numbers of docs/REFERENCE.md's table, and the tests that several calls share. A refusal is a number, and 0 is
 // none; so a call chains its tests in the table's order and branches once.
+#![tactic(auto)]
 
 ghost use Rattle.std.specs.Prelude.{◌≡◌};
 ghost use Rattle.refusal.specs.Numbers.{refusal_unless, first_refusal};
@@ -104,7 +105,7 @@ pub fn clock_fits(time_s: f64) -> bool
 }
 
 // What a call that gives a number answers.
-#[derive(Drop)]
+#[derive(Clone, Copy)]
 pub enum Answer {
     Value(f64),
     Refused(u64),

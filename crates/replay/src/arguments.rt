@@ -4,7 +4,7 @@ use command_line::arguments;
 use command_line::arguments::refused;
 
 // The numbers, and which argument names the load file, 0 for none.
-#[derive(Drop)]
+#[derive(Clone, Copy)]
 pub(crate) struct Arguments {
     pub(crate) settings: Settings,
     pub(crate) load: usize,

@@ -1,6 +1,8 @@
 // Replays a recorded load on a cell and writes the rows as CSV. README.md has the arguments and the form of a load file, and `help` lists them. The first line names
 // the columns with their units, the last two, after '#', say what was run and how it ended, with the line that was refused. What is wrong with the arguments goes to
 // standard error instead.
+#![tactic(auto)]
+
 mod arguments;
 mod help;
 

@@ -1,5 +1,7 @@
 // A recorded load replayed on the single-particle cell, one row a line, into a lent slice. A line is the interval and the current, each as the sixteen
 // upper-case hexadecimal digits of its bits, with a tab between them and a line feed at the end.
+#![tactic(auto)]
+
 pub mod lines;
 
 ghost use Rattle.std.specs.Prelude.{◌≡◌, ◌<◌, ◌≤◌, ◌^◌, ◌*◌, length};
@@ -13,7 +15,7 @@ use solver::SpmSolver;
 use solver_step::report::SpmState;
 
 // A replay on its way: the cell, the rows so far, which are the lines read, what has ended it, a refusal's number, the last report.
-#[derive(Drop)]
+#[derive(Clone, Copy)]
 pub struct ReplayState {
     pub solver: SpmSolver,
     pub rows: usize,

@@ -6,14 +6,14 @@ ghost use Rattle.replay_run.specs.Lines.{is_decimal, is_letter, digit_of, number
 const LINE_BYTES: usize = 34;
 
 // Sixteen bytes as a word of hexadecimal digits, and whether all are such digits.
-#[derive(Drop)]
+#[derive(Clone, Copy)]
 pub struct HexWord {
     pub digits: bool,
     pub bits: u64,
 }
 
 // The numbers of a line, and whether the text has one there.
-#[derive(Drop)]
+#[derive(Clone, Copy)]
 pub struct LoadLine {
     pub well_formed: bool,
     pub dt: f64,

@@ -1,4 +1,6 @@
 // The first row of a run under a chosen voltage. Groups of 64 rows whose lowest voltage is not under it are passed over.
+#![tactic(auto)]
+
 ghost use Rattle.std.specs.Prelude.{◌≡◌, ◌*◌, ◌≤◌, ◌<◌, ◌&&◌, length};
 ghost use Rattle.std.specs.Float.Ieee.{lt};
 ghost use Rattle.row_search.specs.Search.{under, found_by, search_refusal, searched};
@@ -8,7 +10,7 @@ ghost use Rattle.row_search.specs.GroupSearch.{group_end};
 use runs::lowest::group_count;
 
 // What a search answers: a row, counted from 0, none, or a refusal and its number.
-#[derive(Drop)]
+#[derive(Clone, Copy)]
 pub enum Found {
     Row(usize),
     None,

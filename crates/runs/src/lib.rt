@@ -1,4 +1,6 @@
 // Runs into a lent slice, eight places a step: how a run ends, a row in its place, and the lowest voltage of each group of rows (`lowest`).
+#![tactic(auto)]
+
 pub mod lowest;
 
 ghost use Rattle.std.specs.Prelude.{◌≡◌, ◌+◌, ◌≤◌, length, get_or};
@@ -7,7 +9,7 @@ ghost use Rattle.array_update.specs.ArrayUpdate.{places_by};
 ghost use Rattle.runs.specs.Endings.{ended_by, ending_of};
 
 // How a run ends: by the voltage, by the time, with every whole row written, by a refusal and its number, with nothing left to do, or with what it was allowed spent.
-#[derive(Drop)]
+#[derive(Clone, Copy)]
 pub enum Ending {
     Voltage,
     Time,

@@ -1,4 +1,6 @@
 // Saying names, ranges and faults of the numbers that a run is set by. What is written, no contract can say.
+#![tactic(auto)]
+
 use cell_file::records::ready;
 use cell_file::{GIVEN_TWICE, OUT_OF_RANGE, Settings, UNKNOWN_NAME};
 use csv_rows::OUT;

@@ -1,4 +1,6 @@
 // Sheets, particles and a single-particle cell's configuration as images: words in a string of bytes, in the order of the records' fields.
+#![tactic(auto)]
+
 ghost use Rattle.std.specs.Prelude.{◌≡◌, ◌≤◌};
 ghost use Rattle.particle.specs.Particle.{particle_of};
 ghost use Rattle.sheet_images.specs.Images.{sheet_at, put_sheet, particle_at, put_particle, config_at, put_config};

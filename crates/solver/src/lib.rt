@@ -1,5 +1,7 @@
 // The single-particle cell: one particle for each electrode. A changed translation of src/battery/p2d/solver.rs. The area is the
 // anode's; what does not change within a step is worked out once.
+#![tactic(auto)]
+
 ghost use Rattle.std.specs.Prelude.{◌≡◌, ◌≤◌};
 ghost use Rattle.refusal.specs.Answers.{outcome_of};
 ghost use Rattle.solver.specs.Cell.{grid_fits, cell_refusal, no_solver, built, ready, ocv_call, soc_call};
@@ -17,7 +19,7 @@ use solver_step::plan::{Plan, argument_refusal, plan_for, plan_refusal};
 use solver_step::report::{SpmState, no_state};
 use solver_step::{SpmParts, SpmReported, follow, refused_move};
 
-#[derive(Drop)]
+#[derive(Clone, Copy)]
 pub struct SpmSolver {
     pub config: SpmConfig,
     pub anode: ParticleDiffusion,
@@ -27,14 +29,14 @@ pub struct SpmSolver {
 }
 
 // A cell, and 0 or the number of the refusal.
-#[derive(Drop)]
+#[derive(Clone, Copy)]
 pub struct SpmBuildAnswer {
     pub refusal: u64,
     pub solver: SpmSolver,
 }
 
 // What a step gives: the report, how many sub-steps it made, and the cell after it.
-#[derive(Drop)]
+#[derive(Clone, Copy)]
 pub struct SpmStepAnswer {
     pub refusal: u64,
     pub state: SpmState,

@@ -1,5 +1,7 @@
 // A step of the single-particle cell: it is planned (`plan`), followed here by the sub-steps on lent profiles, and reported (`report`). Of
 // oxigrid's src/battery/p2d/solver.rs, changed. The area is the anode's; what does not change within a step is worked out once.
+#![tactic(auto)]
+
 pub mod plan;
 pub mod report;
 
@@ -14,7 +16,7 @@ use profile::profile_finite;
 use report::{SpmState, finite_with, no_state, reported, surface_state};
 
 // A cell without its profiles.
-#[derive(Drop)]
+#[derive(Clone, Copy)]
 pub struct SpmParts {
     pub config: SpmConfig,
     pub neg: ElectrodeParams,
@@ -25,7 +27,7 @@ pub struct SpmParts {
 }
 
 // What a step on lent profiles answers.
-#[derive(Drop)]
+#[derive(Clone, Copy)]
 pub struct SpmReported {
     pub refusal: u64,
     pub state: SpmState,

@@ -9,7 +9,7 @@ use kinetics::surface_current;
 use particle::stable_step;
 
 // What a step works with: diffusivities, fluxes, and the interval in units of the longest sub-step.
-#[derive(Drop)]
+#[derive(Clone, Copy)]
 pub struct Plan {
     pub d_neg: f64,
     pub d_pos: f64,

@@ -9,7 +9,7 @@ use kinetics::{SpmConfig, bv_overpotential, terminal_voltage};
 use particle::{average_theta, surface_potential, surface_theta};
 
 // What a step reports.
-#[derive(Drop)]
+#[derive(Clone, Copy)]
 pub struct SpmState {
     // Terminal voltage, V.
     pub voltage: f64,
@@ -27,7 +27,7 @@ pub struct SpmState {
 }
 
 // What a particle shows at its surface: see `surface_state`.
-#[derive(Drop)]
+#[derive(Clone, Copy)]
 pub struct SurfaceState {
     pub theta: f64,
     pub theta_avg: f64,

@@ -1,5 +1,7 @@
 // S, the square root: correctly rounded for every f64. A guess is made in floats, of which nothing is
 // known, and a test in integers decides whether it is the root; if it is not, the root is found by halving.
+#![tactic(auto)]
+
 ghost use Rattle.std.specs.Prelude.{◌≡◌, ◌&&◌, ◌+◌, ◌*◌, ◌^◌, ◌≤◌, ◌<◌, leb, ltb};
 ghost use Rattle.std.specs.Float.{binary64};
 ghost use Rattle.std.specs.Float.Ieee.{to_bits, of_bits};
@@ -9,7 +11,7 @@ ghost use Rattle.square_root.specs.Root.{sqrt_of};
 ghost use Rattle.square_root.specs.Standard.{SquareRoot};
 
 // A number that is finite and above zero as c * 2 ^ (w - 1126), c having 53 binary digits.
-#[derive(Drop)]
+#[derive(Clone, Copy)]
 pub struct Parts {
     pub c: u64,
     pub w: u64,
@@ -73,7 +75,7 @@ fn guess(c: u64, odd: u64) -> u64
 }
 
 // A square in two words, high * 2 ^ 52 + low.
-#[derive(Drop)]
+#[derive(Clone, Copy)]
 struct Words {
     high: u64,
     low: u64,

@@ -4,7 +4,7 @@ ghost use Rattle.std.specs.Prelude.{◌≤◌, length};
 use refusal::Answer;
 
 // A word and the byte after it: a space, a tab before the answer, a line's end; 0 where the list is over.
-#[derive(Drop)]
+#[derive(Clone, Copy)]
 pub struct Word {
     pub value: u64,
     pub end: u8,

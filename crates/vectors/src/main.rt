@@ -1,6 +1,8 @@
 // Replays the oracle's answers, a list for each call, through the proved code, and writes how many lines of each agree and how many answers of each call
 // they hold; then runs the worked examples that are run only. The lists stand in data/; a line is words of 16 hexadecimal digits, arguments
 // and answer, with a tab between the two. Each argument names a list: the calls that it has an answer of in every line, '|' after each, and its file.
+#![tactic(auto)]
+
 mod cells;
 mod cycles;
 mod dfn_cells;

@@ -1,5 +1,6 @@
 // A binary64 as a 64-bit word and back, for every word and every value, a NaN too. There is one NaN: every NaN pattern
 // gives it, and one pattern stands for it.
+#![tactic(auto)]
 
 ghost use Rattle.std.specs.Prelude.{◌≡◌};
 ghost use Rattle.std.specs.Float.{binary64};

@@ -1,1 +1,2 @@
 // The worked examples as one theorem, in specs/. No code.
+#![tactic(auto)]
