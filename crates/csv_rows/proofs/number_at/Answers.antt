@@ -1,0 +1,15 @@
+-- `csv_rows::number_at` meets its contract. Assumes nothing.
+use borrow.Author.Rules.{rules}
+use borrow.Author.Tests.{lt-ltb, le-ltb}
+use Rattle.csv_rows.specs.Row.{number_at}
+use Rattle.csv_rows.proofs.number_at.Goals as goal
+
+pub returns-then-row-rows : goal.returns-then-row-rows
+unfolding number_at
+returns-then-row-rows c =
+    rw (lt-ltb _ _ c.if-row-rows.true, c.field-f.ensures.0)
+
+pub returns : goal.returns
+unfolding number_at
+returns c =
+    rw (le-ltb _ _ c.if-row-rows.false)

@@ -1,0 +1,9 @@
+-- `discharge_run::finished` meets its contract. Assumes nothing.
+use Rattle.discharge_run.specs.Discharge.{finished_run}
+use borrow.Author.Rules.{rules}
+use Rattle.discharge_run.proofs.finished.Goals as goal
+
+pub returns : goal.returns
+unfolding finished_run
+returns c =
+    rw c.Ending-of.ensures

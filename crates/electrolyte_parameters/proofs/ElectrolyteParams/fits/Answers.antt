@@ -1,0 +1,15 @@
+-- `electrolyte_parameters::ElectrolyteParams::fits` meets its contract. Assumes nothing.
+use borrow.Author.Rules.{rules}
+use Rattle.refusal.specs.EqualParts.{◌both◌}
+use Rattle.electrolyte_parameters.proofs.ElectrolyteParams.fits.Goals as goal
+
+pub returns : goal.returns
+returns c =
+    c.within.ensures
+    both c.within-2.ensures
+    both c.within-3.ensures
+    both c.within-4.ensures
+    both c.within-5.ensures
+    both c.within-6.ensures
+    both c.within-7.ensures
+    both c.within-8.ensures

@@ -1,0 +1,7 @@
+-- `elementary::arrhenius` meets its contract. Assumes nothing.
+use borrow.Author.Rules.{rules}
+use Rattle.elementary.proofs.arrhenius.Goals as goal
+
+pub returns : goal.returns
+returns c =
+    c.exp.ensures

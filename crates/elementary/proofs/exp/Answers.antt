@@ -1,0 +1,35 @@
+-- `exp` meets its contract. Assumes nothing.
+use mathlib.Core.Path.{sym, ap, subst, ◌∙◌}
+use native.Mathlib.Omega.{arith}
+use lib.Dec.{T}
+use lib.Ieee.{of_bits}
+use Rattle.square_root.proofs.Patterns.{no_nan_bits}
+use Rattle.elementary.specs.Exp.{squarings}
+use Rattle.elementary.proofs.ExpLaws.{exp_zero, exp_high, exp_low, exp_mid, powered_is}
+use borrow.Author.Rules.{rules}
+use Rattle.elementary.proofs.exp.Goals as goal
+
+pub returns-then-t : goal.returns-then-t
+returns-then-t c =
+    sym (exp_zero c.args.t (subst T (sym c.well-formed.0.1) tt) c.if-t.true)
+
+pub float_from_bits-result : goal.float_from_bits-result
+float_from_bits-result c =
+    no_nan_bits 0x7ff0_0000_0000_0000 (omega arith)
+
+pub returns-then-t-2 : goal.returns-then-t-2
+unfolding of_bits
+returns-then-t-2 c =
+    sym (exp_high c.args.t c.if-t-2.true)
+
+pub returns-then-t-3 : goal.returns-then-t-3
+returns-then-t-3 c =
+    sym (exp_low c.args.t c.if-t-2.false c.if-t-3.true)
+
+pub returns : goal.returns
+returns c =
+    let short-series = c.short_series in
+    let if3 = c.if-t-3 in
+    let if2 = c.if-t-2 in
+    let start = before in
+    c.exp_squarings.ensures ∙ ap (squarings 10) short-series.ensures ∙ powered_is start.args.t ∙ sym (exp_mid start.args.t if2.false if3.false)

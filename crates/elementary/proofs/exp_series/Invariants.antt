@@ -1,0 +1,13 @@
+-- `exp_series` meets its contract. Assumes nothing.
+use mathlib.Core.Path.{◌≡◌, refl, sym, ◌∙◌}
+use native.Mathlib.Omega.{arith}
+use borrow.Author.Rules.{rules}
+use Rattle.elementary.specs.Exp.{one, series}
+use Rattle.elementary.proofs.ExpLaws.{series_end, series_step}
+use Rattle.elementary.proofs.exp_series.Given as goal
+
+abbrev pub invariant-loop-k : goal.invariant-loop-k
+invariant-loop-k l = series l.k l.y l.a ≡ series 18 l.y one
+
+abbrev pub decreases-loop-k : goal.decreases-loop-k
+decreases-loop-k l = l.k

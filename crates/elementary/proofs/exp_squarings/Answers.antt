@@ -1,0 +1,17 @@
+-- `exp_squarings` meets its contract. Assumes nothing.
+use mathlib.Core.Path.{◌≡◌, refl, sym, ◌∙◌}
+use native.Mathlib.Omega.{arith}
+use borrow.Author.Rules.{rules}
+use Rattle.elementary.specs.Exp.{squarings}
+use Rattle.elementary.proofs.ExpLaws.{squarings_end, squarings_step}
+use Rattle.elementary.proofs.exp_squarings.Goals as goal
+
+pub loop-n-preserved : goal.loop-n-preserved
+loop-n-preserved c =
+    let l = c.loop-n in
+    squarings_step l.n l.p c.loop-n-test.true ∙ l.invariant
+
+pub returns : goal.returns
+returns c =
+    let l = c.loop-n in
+    sym (squarings_end l.n l.p (omega arith)) ∙ l.invariant

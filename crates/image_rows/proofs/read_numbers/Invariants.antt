@@ -1,0 +1,21 @@
+-- `image_rows::read_numbers` meets its contract: k places are read after k turns. Assumes nothing.
+use Prim.Native.Nat.{◌≤◌, ◌-◌, ◌+◌}
+use mathlib.Core.Path.{◌≡◌, refl, sym, ◌∙◌, subst}
+use native.Mathlib.Omega.{arith}
+use native.Mathlib.Numerals.{add-one}
+use lib.ListN.{length}
+use mathlib.Core.Bool.{not}
+use lib.Dec.{T}
+use lib.Ieee.{binary64, nan_bits}
+use Rattle.iterate.specs.Iterate.{first_by, all_at}
+use Rattle.codec.specs.Words.{word_at, float_at}
+use Rattle.image_rows.specs.Rows.{finite_pattern, finite_words}
+use Rattle.image_rows.proofs.RowLaws.{word_is, no_nan_pattern}
+use borrow.Author.Rules.{rules}
+use Rattle.image_rows.proofs.read_numbers.Given as goal
+
+abbrev pub invariant-loop-i : goal.invariant-loop-i
+invariant-loop-i l = (l.i ≤ l.i-end) × ((l.i-end ≡ length l.initial.out) × ((length l.out ≡ length l.initial.out) × (l.out ≡ first_by l.i (λ k. float_at l.s (l.at + k)) l.initial.out)))
+
+abbrev pub decreases-loop-i : goal.decreases-loop-i
+decreases-loop-i l = l.i-end - l.i

@@ -1,0 +1,9 @@
+-- `kinetics::exchange_current` meets its contract. Assumes nothing.
+use Rattle.kinetics.specs.Kinetics.{exchange}
+use borrow.Author.Rules.{rules}
+use Rattle.kinetics.proofs.exchange_current.Goals as goal
+
+pub returns : goal.returns
+unfolding exchange
+returns c =
+    rw (c.sqrt.ensures.0, c.clamp-theta_s.ensures, c.surface_theta.ensures)

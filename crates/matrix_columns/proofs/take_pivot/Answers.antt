@@ -1,0 +1,14 @@
+-- `matrix_columns::take_pivot` meets its contract. Assumes nothing.
+use mathlib.Core.Path.{◌∙◌}
+use borrow.Author.Rules.{rules}
+use Rattle.matrix_columns.specs.Columns.{pivot_taken}
+use Rattle.matrix_columns.proofs.take_pivot.Goals as goal
+
+pub shape_of-a : goal.shape_of-a
+shape_of-a c =
+    c.clear_column.auto.0 ∙ c.exchange_rows.auto.0
+
+pub returns : goal.returns
+unfolding pivot_taken
+returns c =
+    rw (← c.exchange_rows.ensures) c.clear_column.ensures

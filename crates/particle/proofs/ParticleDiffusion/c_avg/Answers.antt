@@ -1,0 +1,26 @@
+-- `particle::ParticleDiffusion::c_avg` meets its contract. Assumes nothing.
+use mathlib.Core.Path.{sym, ◌∙◌}
+use Rattle.refusal.specs.Answers.{refused_outcome}
+use Rattle.particle.specs.Checks.{nodes_of}
+use Rattle.particle.specs.Particle.{average}
+use Rattle.particle.specs.Calls.{c_avg_of}
+use borrow.Author.Rules.{rules}
+use Rattle.binary64.specs.Literals.{«0·0»}
+use Rattle.particle.proofs.ParticleDiffusion.c_avg.Goals as goal
+
+pub returns-then-number-ne0 : goal.returns-then-number-ne0
+unfolding c_avg_of
+returns-then-number-ne0 c =
+    rw (← c.refusal-number.ensures, c.answered.ensures) (refused_outcome _ «0·0» (average c.args.self) c.if-number-ne0.true)
+
+pub average-requires : goal.average-requires
+average-requires c =
+    let if1 = c.if-number-ne0 in
+    let refusal = c.refusal-number in
+    let args = c.args in
+    nodes_of args.t1 (sym refusal.ensures ∙ if1.false)
+
+pub returns : goal.returns
+unfolding c_avg_of
+returns c =
+    rw (c.answered-2.ensures, c.refusal-number.ensures, c.average.ensures)

@@ -1,0 +1,17 @@
+-- `particle::advance` meets its contract: the prepared sub-step is the sub-step. Assumes nothing.
+use Rattle.iterate.specs.Iterate.{times_cong}
+use Rattle.profile.specs.Same.{same_sub_step}
+use Rattle.particle.specs.Particle.{particle_of, sub_step_params_of}
+use borrow.Author.Rules.{rules}
+use Rattle.particle.proofs.advance.Goals as goal
+
+pub sub_steps-requires : goal.sub_steps-requires
+sub_steps-requires c =
+    rw c.prepare-v.ensures c.requires
+
+pub returns : goal.returns
+returns c =
+    let a = c.args in
+    let p = particle_of a.params a.n a.c in
+    rw (c.sub_steps.ensures, c.prepare-v.ensures, c.inverse_radii-w.ensures, c.spacing-dr.ensures)
+    (times_cong _ _ a.turns (same_sub_step (sub_step_params_of p a.d-s a.j-n a.dt) c.requires.1) a.c)

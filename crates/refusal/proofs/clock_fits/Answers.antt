@@ -1,0 +1,7 @@
+-- `refusal::clock_fits` meets its contract by what `is_finite` ensures. Assumes nothing.
+use borrow.Author.Rules.{rules}
+use Rattle.refusal.proofs.clock_fits.Goals as goal
+
+pub returns : goal.returns
+returns c =
+    rw c.is_finite.ensures

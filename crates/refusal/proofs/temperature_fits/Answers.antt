@@ -1,0 +1,7 @@
+-- `refusal::temperature_fits` meets its contract. Assumes nothing.
+use borrow.Author.Rules.{rules}
+use Rattle.refusal.proofs.temperature_fits.Goals as goal
+
+pub returns : goal.returns
+returns c =
+    c.within.ensures

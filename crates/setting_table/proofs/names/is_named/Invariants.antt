@@ -1,0 +1,11 @@
+-- `setting_table::names::is_named` meets its contract. Assumes nothing.
+use Rattle.std.proofs.Common.{◌≡◌, ◌-◌, ◌≤◌, eqb, refl, add-one, arith, rules}
+use Rattle.iterate.specs.Iterate.{all_below}
+use Rattle.setting_table.specs.Names.{letter_of, padded_at, is_named}
+use Rattle.setting_table.proofs.names.is_named.Given as goal
+
+abbrev pub invariant-loop-j : goal.invariant-loop-j
+invariant-loop-j l = (l.j ≤ 12) × (l.same ≡ all_below l.j (λ i. eqb (padded_at l.s i) (letter_of l.k i)))
+
+abbrev pub decreases-loop-j : goal.decreases-loop-j
+decreases-loop-j l = 12 - l.j

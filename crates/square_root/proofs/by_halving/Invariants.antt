@@ -1,0 +1,14 @@
+-- `by_halving` meets its contract. Assumes nothing.
+use mathlib.Core.Path.{◌≡◌, sym, ◌∙◌}
+use Prim.Native.Nat.{◌+◌, ◌-◌, ◌*◌, ◌/◌, ◌^◌, ◌≤◌, ◌<◌}
+use native.Mathlib.Omega.{arith}
+use borrow.Author.Rules.{rules}
+use borrow.Author.Tests.{ltb-true, ltb-false}
+use Rattle.square_root.proofs.Squares.{nearest_between}
+use Rattle.square_root.proofs.by_halving.Given as goal
+
+abbrev pub invariant-loop-low : goal.invariant-loop-low
+invariant-loop-low l = (2 ^ 52 ≤ l.low + 1) × (l.low < l.high) × (l.high ≤ 2 ^ 53) × (l.low * l.low + l.low < l.x * 2 ^ 52) × (l.x * 2 ^ 52 ≤ l.high * l.high + l.high)
+
+abbrev pub decreases-loop-low : goal.decreases-loop-low
+decreases-loop-low l = l.high - l.low
