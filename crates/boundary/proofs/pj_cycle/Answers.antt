@@ -1,0 +1,20 @@
+-- `boundary::pj_cycle` meets its contract. Assumes nothing.
+use mathlib.Core.Path.{refl}
+use Rattle.boundary.specs.Calls.{after_lengths}
+use Rattle.boundary.specs.Runs.{cycle_return, cycle_rows, cycle_after}
+use Rattle.boundary.proofs.Answers.{on, off}
+use borrow.Author.Rules.{rules}
+use Rattle.boundary.proofs.pj_cycle.Goals as goal
+
+pub returns-then-not-cycle_lengths_fit : goal.returns-then-not-cycle_lengths_fit
+unfolding after_lengths cycle_return cycle_rows cycle_after
+returns-then-not-cycle_lengths_fit c =
+    rw (← c.cycle_lengths_fit.ensures, off c.cycle_lengths_fit.result c.if-not-cycle_lengths_fit.true) (refl, (refl, refl))
+
+pub returns : goal.returns
+unfolding after_lengths cycle_return cycle_rows cycle_after
+returns c =
+    let cycle = c.cycle in
+    let if1 = c.if-not-cycle_lengths_fit in
+    let cycle-lengths-fit = c.cycle_lengths_fit in
+    rw (← cycle-lengths-fit.ensures, on cycle-lengths-fit.result if1.false) cycle.ensures

@@ -1,0 +1,19 @@
+-- `cell_calls::simulate_discharge` meets its contract. Assumes nothing.
+use mathlib.Core.Path.{ap, ◌∙◌}
+use Rattle.discharge_run.specs.Discharge.{RunOutcome}
+use Rattle.cell_calls.specs.Runs.{run_written, discharge_return, discharge_rows, discharge_lowest, discharge_after}
+use borrow.Author.Rules.{rules}
+use Rattle.cell_calls.proofs.simulate_discharge.Goals as goal
+
+pub returns : goal.returns
+unfolding discharge_return discharge_rows discharge_lowest discharge_after
+returns c =
+    let put-run = c.put_run in
+    let simulate-discharge = c.simulate_discharge-run in
+    let Cell-at = c.Cell-at in
+    let args = c.args in
+    let kept = rw Cell-at.ensures at simulate-discharge.ensures in
+    let run = kept.0 in (
+      put-run.ensures.0 ∙ ap (λ (r : RunOutcome). r.ended.refusal) run,
+      (kept.1.0, (kept.1.1, put-run.ensures.1 ∙ ap (λ (r : RunOutcome). run_written r args.answer.now) run)),
+    )
