@@ -126,7 +126,8 @@ def turned_body(text, f, place, where):
             said.append(f"{where}: {why}")
         return "c." + ".".join(new)
 
-    return re.sub(rf"(?<![\w.'-])c((?:\.{W})+)", one, text)
+    text = re.sub(rf"(?<![\w.'-])c((?:\.{W})+)", one, text)
+    return text.replace(".in_default.rest", ".in_default-own.rest")
 
 
 def sub_names(text, table):
@@ -193,7 +194,7 @@ def convert(path, f, crate, inner):
                 said.append(f"{path}: cannot read {need[1]}")
                 helpers.append(d)
                 continue
-            if TRIVIAL.fullmatch(eq[3].strip()):
+            if not eq[1] and TRIVIAL.fullmatch(eq[3].strip()):
                 continue
             place = f.at[new]
             c = eq[2].split()[0]
