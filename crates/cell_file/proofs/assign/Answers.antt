@@ -11,7 +11,7 @@ returns-then-k-lt-NONE c =
     let if1 = c.if-k-lt-NONE in
     let place_of = c.place_of-k in
     let without-blanks = c.without_blanks in
-    rw (← without-blanks.ensures, ← place_of.ensures, lt-ltb _ _ if1.true, ← without-blanks2.ensures, ← read.ensures) c.Valued-as.ensures
+    rw (← without-blanks.ensures, ← place_of.ensures, lt-ltb _ _ if1.true, ← without-blanks2.ensures, ← read.ensures) c.valued_as.ensures
 
 pub returns : goal.returns
 unfolding assigned
