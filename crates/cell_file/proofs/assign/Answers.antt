@@ -1,5 +1,5 @@
 -- `cell_file::assign` meets its contract. Assumes nothing.
-use Rattle.std.proofs.Common.{rules, le-ltb, lt-ltb}
+use Rattle.std.proofs.Common.{le-ltb, lt-ltb}
 use Rattle.cell_file.specs.Settings.{assigned}
 use Rattle.cell_file.proofs.assign.Goals as goal
 

@@ -1,5 +1,4 @@
 -- `cell_file::number_fault` meets its contract. Assumes nothing.
-use Rattle.std.proofs.Common.{rules}
 use Rattle.cell_file.specs.Settings.{number_fault}
 use Rattle.cell_file.proofs.number_fault.Goals as goal
 
