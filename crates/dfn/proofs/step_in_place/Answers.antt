@@ -10,16 +10,16 @@ abbrev given : tie.Else1 → tie.Start
 given c = c.before.before.before.before.before.before.before
 
 fit : (c : tie.Else1)
-    → Valid (cell_of (given c).args.p (given c).args.g (given c).args.time-s (given c).args.neg.now (given c).args.pos.now (given c).args.c-e.now
-    (given c).args.time-s (given c).args.time-s (given c).args.time-s (given c).args.time-s)
+    → Valid (cell_of (given c).args.p (given c).args.g (given c).args.time_s (given c).args.neg.now (given c).args.pos.now (given c).args.c_e.now
+    (given c).args.time_s (given c).args.time_s (given c).args.time_s (given c).args.time_s)
 fit c =
-    let first_refusal_lem = c.before.first-refusal in
-    let load-refusal = c.before.before.load-refusal in
-    let cell-refusal = c.before.before.before.cell-refusal in
+    let first_refusal_lem = c.before.first_refusal_lem in
+    let load-refusal = c.before.before.load_refusal in
+    let cell-refusal = c.before.before.before.cell_refusal in
     let s = (given c).args in
     let cell = cell-refusal in
     let first = first_refusal_lem in
-    valid s.p s.g s.time-s s.neg.now s.pos.now s.c-e.now s.current s.dt cell.result load-refusal.result first.result cell.ensures
+    valid s.p s.g s.time_s s.neg.now s.pos.now s.c_e.now s.current s.dt cell.result load-refusal.result first.result cell.ensures
     first.ensures c.if1.false
 
 pub returns-then-number-ne0 : goal.returns-then-number-ne0
@@ -33,37 +33,37 @@ returns-then-number-ne0 c =
     let cell = cell-refusal in
     let load = load-refusal in
     let first = first_refusal_lem in
-    refused_step_lem s.p s.g s.time-s s.neg.now s.pos.now s.c-e.now s.current s.dt cell.result load.result first.result cell.ensures
+    refused_step_lem s.p s.g s.time_s s.neg.now s.pos.now s.c_e.now s.current s.dt cell.result load.result first.result cell.ensures
     first.ensures load.ensures
     if1.true c.no_report.result c.no_report.ensures
 
 pub particle_params-anode-requires : goal.particle_params-anode-requires
 particle_params-anode-requires c =
-    (fit c).nodes.least-r
+    (fit c).nodes.least_r
 
 pub particle_params-cathode-requires : goal.particle_params-cathode-requires
 particle_params-cathode-requires c =
-    (fit c).nodes.least-r
+    (fit c).nodes.least_r
 
 pub update_solid-new_neg-requires : goal.update_solid-new_neg-requires
 update_solid-new_neg-requires c =
     let n = (fit c).nodes in
-    rw c.particle_params-anode.ensures (n.least-r, (n.most-r, n.most-neg))
+    rw c.particle_params-anode.ensures (n.least_r, (n.most_r, n.most_neg))
 
 pub update_solid-new_pos-requires : goal.update_solid-new_pos-requires
 update_solid-new_pos-requires c =
     let n = (fit c).nodes in
-    rw c.particle_params-cathode.ensures (n.least-r, (n.most-r, n.most_pos))
+    rw c.particle_params-cathode.ensures (n.least_r, (n.most_r, n.most_pos))
 
 pub update_electrolyte-new_c_e-requires : goal.update_electrolyte-new_c_e-requires
 update_electrolyte-new_c_e-requires c =
     let n = (fit c).nodes in
-    (n.most-neg, n.most_pos)
+    (n.most_neg, n.most_pos)
 
 pub report_of-report-requires : goal.report_of-report-requires
 report_of-report-requires c =
     let f = fit c in
-    (f.nodes, (f.coeffs-neg, f.coeffs-pos))
+    (f.nodes, (f.coeffs_neg, f.coeffs_pos))
 
 pub outcome_refusal-outcome-requires : goal.outcome_refusal-outcome-requires
 outcome_refusal-outcome-requires c =
@@ -75,7 +75,7 @@ returns-then-outcome-ne0 c =
     let cell = c.cell_refusal-unfit in
     let load = c.load_refusal in
     let first = c.first_refusal-number in
-    not_finite_step s.p s.g s.time-s s.neg.now s.pos.now s.c-e.now s.current s.dt
+    not_finite_step s.p s.g s.time_s s.neg.now s.pos.now s.c_e.now s.current s.dt
     cell.result load.result first.result cell.ensures first.ensures load.ensures c.if-number-ne0.false
     c.anode.result c.cathode.result c.particle_params-anode.result c.particle_params-cathode.result
     c.update_solid-new_neg.result c.update_solid-new_pos.result c.update_electrolyte-new_c_e.result
@@ -90,7 +90,7 @@ returns c =
     let cell = c.cell_refusal-unfit in
     let load = c.load_refusal in
     let first = c.first_refusal-number in
-    made_step s.p s.g s.time-s s.neg.now s.pos.now s.c-e.now s.current s.dt
+    made_step s.p s.g s.time_s s.neg.now s.pos.now s.c_e.now s.current s.dt
     cell.result load.result first.result cell.ensures first.ensures load.ensures c.if-number-ne0.false
     c.anode.result c.cathode.result c.particle_params-anode.result c.particle_params-cathode.result
     c.update_solid-new_neg.result c.update_solid-new_pos.result c.update_electrolyte-new_c_e.result
