@@ -24,7 +24,7 @@ returns-then-t-ne0 c =
     let line_at_lem = c.line_at_lem in
     let args = c.args in
     let line : line_at_lem.result ≡ line_at args.text.now args.s.rows = line_at_lem.ensures in
-    let made : step.result ≡ stepped args.s.solver line_at_lem.result.current_a line_at_lem.result.dt args.temp-k = step.ensures in
+    let made : step.result ≡ stepped args.s.solver line_at_lem.result.current_a line_at_lem.result.dt args.temp_k = step.ensures in
     rw (← line, not-false line_at_lem.result.well_formed if1.false, ← made, ne_eqb _ _ if2.true) c.refused_line-then-t-ne0.ensures
 
 pub returns : goal.returns
@@ -36,5 +36,5 @@ returns c =
     let line_at_lem = c.line_at_lem in
     let args = c.args in
     let line : line_at_lem.result ≡ line_at args.text.now args.s.rows = line_at_lem.ensures in
-    let made : step.result ≡ stepped args.s.solver line_at_lem.result.current_a line_at_lem.result.dt args.temp-k = step.ensures in
+    let made : step.result ≡ stepped args.s.solver line_at_lem.result.current_a line_at_lem.result.dt args.temp_k = step.ensures in
     rw (← line, not-false line_at_lem.result.well_formed if1.false, ← made, eq-eqb _ _ if2.false, c.over_after-over.ensures)

@@ -35,7 +35,7 @@ overflow_mul-config c =
     let grid-fits = c.grid_fits in
     let args = c.args in
     let g = grid_of args.config grid-fits.result grid-fits.ensures if1.false in
-    let r = room args.config.n_x_neg args.config.n_r g.most-neg g.most-r in
+    let r = room args.config.n_x_neg args.config.n_r g.most_neg g.most_r in
     omega (arith, r)
 
 pub uniform_solid-c_s_neg-requires : goal.uniform_solid-c_s_neg-requires
@@ -44,7 +44,7 @@ uniform_solid-c_s_neg-requires c =
     let grid-fits = c.grid_fits in
     let args = c.args in
     let g = grid_of args.config grid-fits.result grid-fits.ensures if1.false in
-    let r = room args.config.n_x_neg args.config.n_r g.most-neg g.most-r in
+    let r = room args.config.n_x_neg args.config.n_r g.most_neg g.most_r in
     r
 
 pub overflow_mul-config-2 : goal.overflow_mul-config-2
@@ -53,7 +53,7 @@ overflow_mul-config-2 c =
     let grid-fits = c.grid_fits in
     let args = c.args in
     let g = grid_of args.config grid-fits.result grid-fits.ensures if1.false in
-    let r = room args.config.n_x_pos args.config.n_r g.most_pos g.most-r in
+    let r = room args.config.n_x_pos args.config.n_r g.most_pos g.most_r in
     omega (arith, r)
 
 pub uniform_solid-c_s_pos-requires : goal.uniform_solid-c_s_pos-requires
@@ -62,7 +62,7 @@ uniform_solid-c_s_pos-requires c =
     let grid-fits = c.grid_fits in
     let args = c.args in
     let g = grid_of args.config grid-fits.result grid-fits.ensures if1.false in
-    let r = room args.config.n_x_pos args.config.n_r g.most_pos g.most-r in
+    let r = room args.config.n_x_pos args.config.n_r g.most_pos g.most_r in
     r
 
 pub overflow_add-config : goal.overflow_add-config
@@ -71,7 +71,7 @@ overflow_add-config c =
     let grid-fits = c.grid_fits in
     let args = c.args in
     let g = grid_of args.config grid-fits.result grid-fits.ensures if1.false in
-    omega (arith, g.most-neg)
+    omega (arith, g.most_neg)
 
 pub overflow_add-config-2 : goal.overflow_add-config-2
 overflow_add-config-2 c =
@@ -79,7 +79,7 @@ overflow_add-config-2 c =
     let grid-fits = c.grid_fits in
     let args = c.args in
     let g = grid_of args.config grid-fits.result grid-fits.ensures if1.false in
-    omega (arith, g.most-neg, g.most_pos)
+    omega (arith, g.most_neg, g.most_pos)
 
 pub uniform_electrolyte-c_e-requires : goal.uniform_electrolyte-c_e-requires
 uniform_electrolyte-c_e-requires c =
@@ -87,7 +87,7 @@ uniform_electrolyte-c_e-requires c =
     let grid-fits = c.grid_fits in
     let args = c.args in
     let g = grid_of args.config grid-fits.result grid-fits.ensures if1.false in
-    omega (arith, g.most-neg, g.most_pos)
+    omega (arith, g.most_neg, g.most_pos)
 
 pub returns : goal.returns
 unfolding made new_refusal fresh first_refusal refusal_unless
