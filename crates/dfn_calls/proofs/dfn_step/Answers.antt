@@ -17,7 +17,7 @@ returns-then-refusal-eq0 c =
     let fill-512 = c.fill_512 in
     let read-f64 = c.read_f64-t in
     let config-at = c.config_at-g in
-    let params_at_lem = c.params_at_lem in
+    let params_at_lem = c.params_at in
     let args = c.args in
     let a = args in
     step_taken a.cell.now a.answer.now a.current_a a.dt_s params_at_lem.result config-at.result read-f64.result _ _ _
@@ -32,7 +32,7 @@ returns-else-refusal-eq0 c =
     let fill-512 = c.fill_512 in
     let read-f64 = c.read_f64-t in
     let config-at = c.config_at-g in
-    let params_at_lem = c.params_at_lem in
+    let params_at_lem = c.params_at in
     let args = c.args in
     let a = args in
     step_left a.cell.now a.answer.now a.current_a a.dt_s params_at_lem.result config-at.result read-f64.result _ _ _
