@@ -9,7 +9,7 @@ use Rattle.dfn.proofs.cell_refusal.Goals as goal
 pub returns-then-not-grid_fits : goal.returns-then-not-grid_fits
 unfolding first_refusal refusal_unless
 returns-then-not-grid_fits c =
-    rw (← c.grid_fits.ensures, not-true c.grid_fits.result c.if-not-grid_fits.true)
+    rw (← c.grid_fits.ensures, c.if-not-grid_fits.true)
 
 pub overflow_mul-g : goal.overflow_mul-g
 overflow_mul-g c =
@@ -58,7 +58,7 @@ returns c =
     let grid-fits = c.grid_fits in
     rw (
       ← grid-fits.ensures,
-      not-false grid-fits.result if1.false,
+      if1.false,
       c.refusal_unless.ensures,
       fit.ensures,
       limits-fit.ensures,

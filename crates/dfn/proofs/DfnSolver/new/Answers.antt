@@ -10,7 +10,7 @@ use Rattle.dfn.proofs.DfnSolver.new.Goals as goal
 pub returns-then-not-grid_fits : goal.returns-then-not-grid_fits
 unfolding made new_refusal first_refusal refusal_unless
 returns-then-not-grid_fits c =
-    rw (← c.grid_fits.ensures, not-true c.grid_fits.result c.if-not-grid_fits.true, c.no_cell.ensures)
+    rw (← c.grid_fits.ensures, c.if-not-grid_fits.true, c.no_cell.ensures)
 
 pub returns-then-not-fit-limits_fit : goal.returns-then-not-fit-limits_fit
 unfolding made new_refusal first_refusal refusal_unless
@@ -22,10 +22,10 @@ returns-then-not-fit-limits_fit c =
     let grid-fits = c.grid_fits in
     rw (
       ← grid-fits.ensures,
-      not-false grid-fits.result if1.false,
+      if1.false,
       ← fit.ensures,
       ← limits-fit.ensures,
-      not-true (fit.result && limits-fit.result) if2.true,
+      if2.true,
       c.no_cell-then-not-fit-limits_fit.ensures,
     )
 
@@ -101,10 +101,10 @@ returns c =
     let grid-fits = c.grid_fits in
     rw (
       ← grid-fits.ensures,
-      not-false grid-fits.result if1.false,
+      if1.false,
       ← fit.ensures,
       ← limits-fit.ensures,
-      not-false (fit.result && limits-fit.result) if2.false,
+      if2.false,
       c.uniform_electrolyte-c_e.ensures,
       uniform-solid2.ensures,
       uniform-solid.ensures,
