@@ -30,4 +30,4 @@ returns c =
     let start = c.start in
     let if1 = c.if-number-ne0 in
     let run-refusal = c.run_refusal-number in
-    rw (← run-refusal.ensures, eq-eqb _ _ if1.false, ← start.ensures) run_rows.ensures
+    record { answer = rw (← run-refusal.ensures, eq-eqb _ _ if1.false, ← start.ensures) run_rows.ensures.answer; rows = rw (← run-refusal.ensures, eq-eqb _ _ if1.false, ← start.ensures) run_rows.ensures.rows; lowest = rw (← run-refusal.ensures, eq-eqb _ _ if1.false, ← start.ensures) run_rows.ensures.lowest }
