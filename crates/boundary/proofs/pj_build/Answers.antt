@@ -10,7 +10,7 @@ use Rattle.boundary.proofs.pj_build.Goals as goal
 pub returns-then-not-is_listed : goal.returns-then-not-is_listed
 unfolding build_return build_after
 returns-then-not-is_listed c =
-    record { number = rw (← c.is_listed.ensures, off c.is_listed.result c.if-not-is_listed.true) refl; written = rw (← c.is_listed.ensures, off c.is_listed.result c.if-not-is_listed.true) refl }
+    record { number = rw (← c.is_listed.ensures, c.if-not-is_listed.true) refl; written = rw (← c.is_listed.ensures, c.if-not-is_listed.true) refl }
 
 pub returns-then-not-lengths_fit : goal.returns-then-not-lengths_fit
 unfolding after_lengths build_return build_after
@@ -22,18 +22,18 @@ returns-then-not-lengths_fit c =
     let is-listed = c.is_listed in
     record { number = rw (
       ← is-listed.ensures,
-      on is-listed.result if1.false,
+      if1.false,
       ← build-length.ensures,
       ← built-length.ensures,
       ← lengths-fit.ensures,
-      off lengths-fit.result c.if-not-lengths_fit.true,
+      c.if-not-lengths_fit.true,
     ) refl; written = rw (
       ← is-listed.ensures,
-      on is-listed.result if1.false,
+      if1.false,
       ← build-length.ensures,
       ← built-length.ensures,
       ← lengths-fit.ensures,
-      off lengths-fit.result c.if-not-lengths_fit.true,
+      c.if-not-lengths_fit.true,
     ) refl }
 
 pub returns-then-call-le6 : goal.returns-then-call-le6
@@ -50,19 +50,19 @@ returns-then-call-le6 c =
     let r = (refl, put-ready.ensures) in
     record { number = rw (
       ← is-listed.ensures,
-      on is-listed.result if1.false,
+      if1.false,
       ← build-length.ensures,
       ← built-length.ensures,
       ← lengths-fit.ensures,
-      on lengths-fit.result if2.false,
+      if2.false,
       le-leb args.call 6 (omega arith),
     ) r.0; written = rw (
       ← is-listed.ensures,
-      on is-listed.result if1.false,
+      if1.false,
       ← build-length.ensures,
       ← built-length.ensures,
       ← lengths-fit.ensures,
-      on lengths-fit.result if2.false,
+      if2.false,
       le-leb args.call 6 (omega arith),
     ) r.1 }
 
@@ -79,18 +79,18 @@ returns c =
     let args = c.args in
     record { number = rw (
       ← is-listed.ensures,
-      on is-listed.result if1.false,
+      if1.false,
       ← build-length.ensures,
       ← built-length.ensures,
       ← lengths-fit.ensures,
-      on lengths-fit.result if2.false,
+      if2.false,
       lt-leb args.call 6 (omega arith),
     ) put-new.ensures.number; written = rw (
       ← is-listed.ensures,
-      on is-listed.result if1.false,
+      if1.false,
       ← build-length.ensures,
       ← built-length.ensures,
       ← lengths-fit.ensures,
-      on lengths-fit.result if2.false,
+      if2.false,
       lt-leb args.call 6 (omega arith),
     ) put-new.ensures.written }
