@@ -37,7 +37,7 @@ returns-then-kinds_fit c =
     let cycle = c.cycle-run in
     let phases-at = c.phases_at-list in
     let kinds-fit = c.kinds_fit in
-    let Cell-at = c.Cell-at in
+    let Cell-at = c.cell_at in
     let args = c.args in
     let fit = sym kinds-fit.ensures ∙ c.if-kinds_fit.true in
     let run = rw (phases-at.ensures, Cell-at.ensures) at cycle.ensures.0 ∙ kinds-listed _ _ _ _ fit in (
@@ -49,7 +49,7 @@ pub returns : goal.returns
 unfolding cycle_return cycle_rows cycle_after
 returns c =
     let kinds-fit = c.kinds_fit in
-    let Cell-at = c.Cell-at in
+    let Cell-at = c.cell_at in
     let args = c.args in
     let unfit = sym kinds-fit.ensures ∙ c.if-kinds_fit.false in
     let counts = rw Cell-at.ensures at c.counts_refusal.ensures in

@@ -10,7 +10,7 @@ unfolding replay_return replay_rows replay_after
 returns c =
     let put-run = c.put_run in
     let replay = c.replay-run in
-    let Cell-at = c.Cell-at in
+    let Cell-at = c.cell_at in
     let args = c.args in
     let run = rw Cell-at.ensures at replay.ensures.0 in (
       put-run.ensures.0 ∙ ap (λ (r : RunOutcome). r.ended.refusal) run,

@@ -10,7 +10,7 @@ unfolding discharge_return discharge_rows discharge_lowest discharge_after
 returns c =
     let put-run = c.put_run in
     let simulate-discharge = c.simulate_discharge-run in
-    let Cell-at = c.Cell-at in
+    let Cell-at = c.cell_at in
     let args = c.args in
     let kept = rw Cell-at.ensures at simulate-discharge.ensures in
     let run = kept.0 in (

@@ -9,7 +9,7 @@ use Rattle.dfn.proofs.cell_refusal.Goals as goal
 pub returns-then-not-grid_fits : goal.returns-then-not-grid_fits
 unfolding first_refusal refusal_unless
 returns-then-not-grid_fits c =
-    rw (← c.grid_fits.ensures, not-true c.grid_fits.result c.if-not-grid_fits.true)
+    rw (← c.grid_fits.ensures, c.if-not-grid_fits.true)
 
 pub overflow_mul-g : goal.overflow_mul-g
 overflow_mul-g c =
@@ -17,7 +17,7 @@ overflow_mul-g c =
     let grid-fits = c.grid_fits in
     let args = c.args in
     let g = grid_of args.g grid-fits.result grid-fits.ensures if1.false in
-    let r = room args.g.n_x_neg args.g.n_r g.most-neg g.most-r in
+    let r = room args.g.n_x_neg args.g.n_r g.most_neg g.most_r in
     omega (arith, r)
 
 pub overflow_mul-g-2 : goal.overflow_mul-g-2
@@ -26,7 +26,7 @@ overflow_mul-g-2 c =
     let grid-fits = c.grid_fits in
     let args = c.args in
     let g = grid_of args.g grid-fits.result grid-fits.ensures if1.false in
-    let r = room args.g.n_x_pos args.g.n_r g.most_pos g.most-r in
+    let r = room args.g.n_x_pos args.g.n_r g.most_pos g.most_r in
     omega (arith, r)
 
 pub overflow_add-g : goal.overflow_add-g
@@ -35,7 +35,7 @@ overflow_add-g c =
     let grid-fits = c.grid_fits in
     let args = c.args in
     let g = grid_of args.g grid-fits.result grid-fits.ensures if1.false in
-    omega (arith, g.most-neg)
+    omega (arith, g.most_neg)
 
 pub overflow_add-g-2 : goal.overflow_add-g-2
 overflow_add-g-2 c =
@@ -43,7 +43,7 @@ overflow_add-g-2 c =
     let grid-fits = c.grid_fits in
     let args = c.args in
     let g = grid_of args.g grid-fits.result grid-fits.ensures if1.false in
-    omega (arith, g.most-neg, g.most_pos)
+    omega (arith, g.most_neg, g.most_pos)
 
 pub returns : goal.returns
 unfolding first_refusal refusal_unless
@@ -58,7 +58,7 @@ returns c =
     let grid-fits = c.grid_fits in
     rw (
       ← grid-fits.ensures,
-      not-false grid-fits.result if1.false,
+      if1.false,
       c.refusal_unless.ensures,
       fit.ensures,
       limits-fit.ensures,

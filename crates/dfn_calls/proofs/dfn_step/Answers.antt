@@ -17,10 +17,10 @@ returns-then-refusal-eq0 c =
     let fill-512 = c.fill_512 in
     let read-f64 = c.read_f64-t in
     let config-at = c.config_at-g in
-    let params_at_lem = c.params_at_lem in
+    let params_at_lem = c.params_at in
     let args = c.args in
     let a = args in
-    step_taken a.cell.now a.answer.now a.current-a a.dt-s params_at_lem.result config-at.result read-f64.result _ _ _
+    step_taken a.cell.now a.answer.now a.current_a a.dt_s params_at_lem.result config-at.result read-f64.result _ _ _
     params_at_lem.ensures config-at.ensures read-f64.ensures fill-512.ensures fill-5122.ensures fill-33.ensures
     step-in-place.result _ _ _ step-in-place.ensures _ if1.true put-stepped.ensures
 
@@ -32,9 +32,9 @@ returns-else-refusal-eq0 c =
     let fill-512 = c.fill_512 in
     let read-f64 = c.read_f64-t in
     let config-at = c.config_at-g in
-    let params_at_lem = c.params_at_lem in
+    let params_at_lem = c.params_at in
     let args = c.args in
     let a = args in
-    step_left a.cell.now a.answer.now a.current-a a.dt-s params_at_lem.result config-at.result read-f64.result _ _ _
+    step_left a.cell.now a.answer.now a.current_a a.dt_s params_at_lem.result config-at.result read-f64.result _ _ _
     params_at_lem.ensures config-at.ensures read-f64.ensures fill-512.ensures fill-5122.ensures fill-33.ensures
     step-in-place.result _ _ _ step-in-place.ensures c.if-refusal-eq0.false

@@ -17,7 +17,7 @@ returns-then-refusal-made c =
     let if1 = c.if-refusal-made in
     let ending-refusal = c.ending_refusal-refusal in
     let run-galvanostatic = c.run_galvanostatic-run in
-    let Cell-at = c.Cell-at in
+    let Cell-at = c.cell_at in
     let args = c.args in
     let kept = rw Cell-at.ensures at run-galvanostatic.ensures in
     let p =
@@ -32,7 +32,7 @@ unfolding galvanostatic_return galvanostatic_rows galvanostatic_lowest galvanost
 returns-else-refusal-made c =
     let ending-refusal = c.ending_refusal-refusal in
     let run-galvanostatic = c.run_galvanostatic-run in
-    let Cell-at = c.Cell-at in
+    let Cell-at = c.cell_at in
     let args = c.args in
     let kept = rw Cell-at.ensures at run-galvanostatic.ensures in
     let p =

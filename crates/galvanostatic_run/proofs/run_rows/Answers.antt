@@ -66,7 +66,7 @@ overflow_add-i c =
 
 pub shape_of-out-then-run-ne-GOING : goal.shape_of-out-then-run-ne-GOING
 shape_of-out-then-run-ne-GOING c =
-    c.put_row.auto.0 ∙ c.loop-i.invariant.0.long
+    c.put_row.auto.out ∙ c.loop-i.invariant.0.long
 
 pub shape_of-lowest-then-run-ne-GOING : goal.shape_of-lowest-then-run-ne-GOING
 shape_of-lowest-then-run-ne-GOING c =
@@ -108,7 +108,7 @@ loop-i-preserved c =
     let pre = c.requires in
     let w = c.args.w in
     let t = turn.ensures in
-    let g = going_on over_of (turned w) last_row_of _ _ _ _ _ _ loop.invariant.0 _ _ _ t if1.false refl put-row.ensures put-row.auto.0 loop-test.true c.if-run-ne-GOING.false in
+    let g = going_on over_of (turned w) last_row_of _ _ _ _ _ _ loop.invariant.0 _ _ _ t if1.false refl put-row.ensures put-row.auto.out loop-test.true c.if-run-ne-GOING.false in
     let n = ap rows_of t ∙ turned_rows w loop.run (rw t at if1.false) ∙ ap (λ (k : ℕ). k + 1) loop.invariant.1.0 in
     let s =
     summary_updated _ _ _ turn.result.row _ _ loop.i _ loop.invariant.1.1 refl put-row.ensures update-lowest.ensures

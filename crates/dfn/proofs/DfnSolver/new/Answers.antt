@@ -10,7 +10,7 @@ use Rattle.dfn.proofs.DfnSolver.new.Goals as goal
 pub returns-then-not-grid_fits : goal.returns-then-not-grid_fits
 unfolding made new_refusal first_refusal refusal_unless
 returns-then-not-grid_fits c =
-    rw (← c.grid_fits.ensures, not-true c.grid_fits.result c.if-not-grid_fits.true, c.no_cell.ensures)
+    rw (← c.grid_fits.ensures, c.if-not-grid_fits.true, c.no_cell.ensures)
 
 pub returns-then-not-fit-limits_fit : goal.returns-then-not-fit-limits_fit
 unfolding made new_refusal first_refusal refusal_unless
@@ -22,10 +22,10 @@ returns-then-not-fit-limits_fit c =
     let grid-fits = c.grid_fits in
     rw (
       ← grid-fits.ensures,
-      not-false grid-fits.result if1.false,
+      if1.false,
       ← fit.ensures,
       ← limits-fit.ensures,
-      not-true (fit.result && limits-fit.result) if2.true,
+      if2.true,
       c.no_cell-then-not-fit-limits_fit.ensures,
     )
 
@@ -35,7 +35,7 @@ overflow_mul-config c =
     let grid-fits = c.grid_fits in
     let args = c.args in
     let g = grid_of args.config grid-fits.result grid-fits.ensures if1.false in
-    let r = room args.config.n_x_neg args.config.n_r g.most-neg g.most-r in
+    let r = room args.config.n_x_neg args.config.n_r g.most_neg g.most_r in
     omega (arith, r)
 
 pub uniform_solid-c_s_neg-requires : goal.uniform_solid-c_s_neg-requires
@@ -44,7 +44,7 @@ uniform_solid-c_s_neg-requires c =
     let grid-fits = c.grid_fits in
     let args = c.args in
     let g = grid_of args.config grid-fits.result grid-fits.ensures if1.false in
-    let r = room args.config.n_x_neg args.config.n_r g.most-neg g.most-r in
+    let r = room args.config.n_x_neg args.config.n_r g.most_neg g.most_r in
     r
 
 pub overflow_mul-config-2 : goal.overflow_mul-config-2
@@ -53,7 +53,7 @@ overflow_mul-config-2 c =
     let grid-fits = c.grid_fits in
     let args = c.args in
     let g = grid_of args.config grid-fits.result grid-fits.ensures if1.false in
-    let r = room args.config.n_x_pos args.config.n_r g.most_pos g.most-r in
+    let r = room args.config.n_x_pos args.config.n_r g.most_pos g.most_r in
     omega (arith, r)
 
 pub uniform_solid-c_s_pos-requires : goal.uniform_solid-c_s_pos-requires
@@ -62,7 +62,7 @@ uniform_solid-c_s_pos-requires c =
     let grid-fits = c.grid_fits in
     let args = c.args in
     let g = grid_of args.config grid-fits.result grid-fits.ensures if1.false in
-    let r = room args.config.n_x_pos args.config.n_r g.most_pos g.most-r in
+    let r = room args.config.n_x_pos args.config.n_r g.most_pos g.most_r in
     r
 
 pub overflow_add-config : goal.overflow_add-config
@@ -71,7 +71,7 @@ overflow_add-config c =
     let grid-fits = c.grid_fits in
     let args = c.args in
     let g = grid_of args.config grid-fits.result grid-fits.ensures if1.false in
-    omega (arith, g.most-neg)
+    omega (arith, g.most_neg)
 
 pub overflow_add-config-2 : goal.overflow_add-config-2
 overflow_add-config-2 c =
@@ -79,7 +79,7 @@ overflow_add-config-2 c =
     let grid-fits = c.grid_fits in
     let args = c.args in
     let g = grid_of args.config grid-fits.result grid-fits.ensures if1.false in
-    omega (arith, g.most-neg, g.most_pos)
+    omega (arith, g.most_neg, g.most_pos)
 
 pub uniform_electrolyte-c_e-requires : goal.uniform_electrolyte-c_e-requires
 uniform_electrolyte-c_e-requires c =
@@ -87,7 +87,7 @@ uniform_electrolyte-c_e-requires c =
     let grid-fits = c.grid_fits in
     let args = c.args in
     let g = grid_of args.config grid-fits.result grid-fits.ensures if1.false in
-    omega (arith, g.most-neg, g.most_pos)
+    omega (arith, g.most_neg, g.most_pos)
 
 pub returns : goal.returns
 unfolding made new_refusal fresh first_refusal refusal_unless
@@ -101,10 +101,10 @@ returns c =
     let grid-fits = c.grid_fits in
     rw (
       ← grid-fits.ensures,
-      not-false grid-fits.result if1.false,
+      if1.false,
       ← fit.ensures,
       ← limits-fit.ensures,
-      not-false (fit.result && limits-fit.result) if2.false,
+      if2.false,
       c.uniform_electrolyte-c_e.ensures,
       uniform-solid2.ensures,
       uniform-solid.ensures,
