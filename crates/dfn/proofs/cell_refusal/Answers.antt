@@ -1,5 +1,6 @@
 -- `dfn::cell_refusal` meets its contract. Assumes nothing.
-use borrow.Author.Tests.{not-true, not-false}
+use mathlib.Core.Bool.{not}
+use mathlib.Core.Path.{ap}
 use Rattle.std.proofs.Common.{arith, rules}
 use Rattle.refusal.specs.Numbers.{refusal_unless, first_refusal}
 use Rattle.dfn_solid.specs.Room.{room}
@@ -16,7 +17,7 @@ overflow_mul-g c =
     let if1 = c.if-not-grid_fits in
     let grid-fits = c.grid_fits in
     let args = c.args in
-    let g = grid_of args.g grid-fits.result grid-fits.ensures if1.false in
+    let g = grid_of args.g grid-fits.result grid-fits.ensures (ap not if1.false) in
     let r = room args.g.n_x_neg args.g.n_r g.most_neg g.most_r in
     omega (arith, r)
 
@@ -25,7 +26,7 @@ overflow_mul-g-2 c =
     let if1 = c.if-not-grid_fits in
     let grid-fits = c.grid_fits in
     let args = c.args in
-    let g = grid_of args.g grid-fits.result grid-fits.ensures if1.false in
+    let g = grid_of args.g grid-fits.result grid-fits.ensures (ap not if1.false) in
     let r = room args.g.n_x_pos args.g.n_r g.most_pos g.most_r in
     omega (arith, r)
 
@@ -34,7 +35,7 @@ overflow_add-g c =
     let if1 = c.if-not-grid_fits in
     let grid-fits = c.grid_fits in
     let args = c.args in
-    let g = grid_of args.g grid-fits.result grid-fits.ensures if1.false in
+    let g = grid_of args.g grid-fits.result grid-fits.ensures (ap not if1.false) in
     omega (arith, g.most_neg)
 
 pub overflow_add-g-2 : goal.overflow_add-g-2
@@ -42,7 +43,7 @@ overflow_add-g-2 c =
     let if1 = c.if-not-grid_fits in
     let grid-fits = c.grid_fits in
     let args = c.args in
-    let g = grid_of args.g grid-fits.result grid-fits.ensures if1.false in
+    let g = grid_of args.g grid-fits.result grid-fits.ensures (ap not if1.false) in
     omega (arith, g.most_neg, g.most_pos)
 
 pub returns : goal.returns

@@ -25,7 +25,7 @@ returns-then-refusal-made c =
     t.ended.ending t.rows) _ _ _
     kept.0
     _ (rw ending-refusal.ensures at if1.true) (rw (put-cell.ensures, ending-number.ensures) at put-ending.ensures) in
-    (ending-refusal.ensures ∙ p.0, (kept.1.0, (kept.1.1, p.1)))
+    record { number = ending-refusal.ensures ∙ p.0; rows = kept.1.0; lowest = kept.1.1; written = p.1 }
 
 pub returns-else-refusal-made : goal.returns-else-refusal-made
 unfolding galvanostatic_return galvanostatic_rows galvanostatic_lowest galvanostatic_after
@@ -40,4 +40,4 @@ returns-else-refusal-made c =
     t.rows) _ _ _
     kept.0
     (rw ending-refusal.ensures at c.if-refusal-made.false) in
-    (ending-refusal.ensures ∙ p.0, (kept.1.0, (kept.1.1, p.1)))
+    record { number = ending-refusal.ensures ∙ p.0; rows = kept.1.0; lowest = kept.1.1; written = p.1 }

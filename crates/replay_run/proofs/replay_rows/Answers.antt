@@ -15,7 +15,7 @@ unfolding all_turns all_rows
 returns-then-run-ne-GOING c =
     let a = c.args in
     let q = over_at_once over_of (turned a.text.now a.temp_k) last_row_of a.first a.out.now a.total c.if-run-ne-GOING.true in
-    (c.finished.ensures ∙ ap finished_replay q.0, q.1)
+    record { result = c.finished.ensures ∙ ap finished_replay q.0; rows = q.1 }
 
 pub loop-i-init : goal.loop-i-init
 unfolding run_after rows_after
@@ -39,7 +39,7 @@ returns-then-run-eq-REFUSED c =
     let loop = c.loop-i in
     let args = c.args in
     let q = ends_refused over_of (turned args.text.now args.temp_k) last_row_of _ _ _ _ _ _ loop.invariant.0 _ turn.ensures if2.true loop-test.true in
-    (c.finished-then-run-eq-REFUSED.ensures ∙ ap finished_replay q.0, q.1)
+    record { result = c.finished-then-run-eq-REFUSED.ensures ∙ ap finished_replay q.0; rows = q.1 }
 
 pub overflow_mul-i : goal.overflow_mul-i
 overflow_mul-i c =
@@ -79,7 +79,7 @@ returns-then-run-ne-GOING-2 c =
     let args = c.args in
     let q = ends_stopped over_of (turned args.text.now args.temp_k) last_row_of _ _ _ _ _ _ loop.invariant.0 _ _ _ turn.ensures if2.false row_of.ensures put-row.ensures loop-test.true
     if3.true in
-    (c.finished-then-run-ne-GOING-2.ensures ∙ ap finished_replay q.0, q.1)
+    record { result = c.finished-then-run-ne-GOING-2.ensures ∙ ap finished_replay q.0; rows = q.1 }
 
 pub loop-i-smaller : goal.loop-i-smaller
 loop-i-smaller c =
@@ -112,4 +112,4 @@ returns c =
     let loop = c.loop-i in
     let args = c.args in
     let q = ends_full over_of (turned args.text.now args.temp_k) last_row_of _ _ _ _ _ _ loop.invariant.0 loop-test.false in
-    (c.finished-2.ensures ∙ ap finished_replay q.0, q.1)
+    record { result = c.finished-2.ensures ∙ ap finished_replay q.0; rows = q.1 }

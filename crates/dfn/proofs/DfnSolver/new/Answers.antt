@@ -1,6 +1,7 @@
 -- `dfn::DfnSolver::new` meets its contract. Assumes nothing.
 use Rattle.std.proofs.Common.{◌&&◌, arith, rules}
-use borrow.Author.Tests.{not-true, not-false}
+use mathlib.Core.Bool.{not}
+use mathlib.Core.Path.{ap}
 use Rattle.refusal.specs.Numbers.{refusal_unless, first_refusal}
 use Rattle.dfn_solid.specs.Room.{room}
 use Rattle.dfn.specs.Checks.{grid_of}
@@ -34,7 +35,7 @@ overflow_mul-config c =
     let if1 = c.if-not-grid_fits in
     let grid-fits = c.grid_fits in
     let args = c.args in
-    let g = grid_of args.config grid-fits.result grid-fits.ensures if1.false in
+    let g = grid_of args.config grid-fits.result grid-fits.ensures (ap not if1.false) in
     let r = room args.config.n_x_neg args.config.n_r g.most_neg g.most_r in
     omega (arith, r)
 
@@ -43,7 +44,7 @@ uniform_solid-c_s_neg-requires c =
     let if1 = c.if-not-grid_fits in
     let grid-fits = c.grid_fits in
     let args = c.args in
-    let g = grid_of args.config grid-fits.result grid-fits.ensures if1.false in
+    let g = grid_of args.config grid-fits.result grid-fits.ensures (ap not if1.false) in
     let r = room args.config.n_x_neg args.config.n_r g.most_neg g.most_r in
     r
 
@@ -52,7 +53,7 @@ overflow_mul-config-2 c =
     let if1 = c.if-not-grid_fits in
     let grid-fits = c.grid_fits in
     let args = c.args in
-    let g = grid_of args.config grid-fits.result grid-fits.ensures if1.false in
+    let g = grid_of args.config grid-fits.result grid-fits.ensures (ap not if1.false) in
     let r = room args.config.n_x_pos args.config.n_r g.most_pos g.most_r in
     omega (arith, r)
 
@@ -61,7 +62,7 @@ uniform_solid-c_s_pos-requires c =
     let if1 = c.if-not-grid_fits in
     let grid-fits = c.grid_fits in
     let args = c.args in
-    let g = grid_of args.config grid-fits.result grid-fits.ensures if1.false in
+    let g = grid_of args.config grid-fits.result grid-fits.ensures (ap not if1.false) in
     let r = room args.config.n_x_pos args.config.n_r g.most_pos g.most_r in
     r
 
@@ -70,7 +71,7 @@ overflow_add-config c =
     let if1 = c.if-not-grid_fits in
     let grid-fits = c.grid_fits in
     let args = c.args in
-    let g = grid_of args.config grid-fits.result grid-fits.ensures if1.false in
+    let g = grid_of args.config grid-fits.result grid-fits.ensures (ap not if1.false) in
     omega (arith, g.most_neg)
 
 pub overflow_add-config-2 : goal.overflow_add-config-2
@@ -78,7 +79,7 @@ overflow_add-config-2 c =
     let if1 = c.if-not-grid_fits in
     let grid-fits = c.grid_fits in
     let args = c.args in
-    let g = grid_of args.config grid-fits.result grid-fits.ensures if1.false in
+    let g = grid_of args.config grid-fits.result grid-fits.ensures (ap not if1.false) in
     omega (arith, g.most_neg, g.most_pos)
 
 pub uniform_electrolyte-c_e-requires : goal.uniform_electrolyte-c_e-requires
@@ -86,7 +87,7 @@ uniform_electrolyte-c_e-requires c =
     let if1 = c.if-not-grid_fits in
     let grid-fits = c.grid_fits in
     let args = c.args in
-    let g = grid_of args.config grid-fits.result grid-fits.ensures if1.false in
+    let g = grid_of args.config grid-fits.result grid-fits.ensures (ap not if1.false) in
     omega (arith, g.most_neg, g.most_pos)
 
 pub returns : goal.returns
