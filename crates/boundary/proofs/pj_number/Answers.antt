@@ -23,7 +23,7 @@ returns-then-not-lengths_fit c =
 
 pub shape_of-answer : goal.shape_of-answer
 shape_of-answer c =
-    c.write_f64.auto.0
+    c.write_f64.auto.s
 
 pub returns-in-Value : goal.returns-in-Value
 unfolding number_call

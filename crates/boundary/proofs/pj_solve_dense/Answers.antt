@@ -15,7 +15,7 @@ returns-then-answer-ne-SOLUTION_BYTES c =
 
 pub shape_of-answer : goal.shape_of-answer
 shape_of-answer c =
-    c.write_places.auto.0
+    c.write_places.auto.s
 
 pub returns-then-refusal-eq0 : goal.returns-then-refusal-eq0
 unfolding after_lengths dense_return dense_after

@@ -5,7 +5,7 @@ use Rattle.cell_calls.proofs.cell_step.Goals as goal
 
 pub shape_of-answer : goal.shape_of-answer
 shape_of-answer c =
-    c.put_stepped.auto.0
+    c.put_stepped.auto.answer
 
 pub returns-then-refusal-eq0 : goal.returns-then-refusal-eq0
 returns-then-refusal-eq0 c =

@@ -8,7 +8,7 @@ use Rattle.cell_calls.proofs.particle_step.Goals as goal
 
 pub shape_of-answer : goal.shape_of-answer
 shape_of-answer c =
-    c.put_particle.auto.0
+    c.put_particle.auto.s
 
 pub returns-then-refusal-eq0 : goal.returns-then-refusal-eq0
 unfolding particle_return particle_after

@@ -48,7 +48,7 @@ columns-preserved c =
     let taken = c.take_pivot in
     let e : found.row ≡ c.args.n = omega arith in
     let some = column_some _ _ (system turn.a turn.x) _ (rw e at found.invariant.1.1.1.0) (found.invariant.1.1.1.1 e) in
-    (search rules, (found.invariant.1.1.0, (taken.auto.0 ∙ turn.invariant.1.1.0, rw taken.ensures (sym (try_next _ _ _ _ turn.invariant.1.1.1 ∙ some)))))
+    (search rules, (found.invariant.1.1.0, (taken.auto.a ∙ turn.invariant.1.1.0, rw taken.ensures (sym (try_next _ _ _ _ turn.invariant.1.1.1 ∙ some)))))
 
 pub shape_of-a-after-columns : goal.shape_of-a-after-columns
 shape_of-a-after-columns c =

@@ -8,7 +8,7 @@ use Rattle.dfn_calls.proofs.electrolyte_step.Goals as goal
 
 pub shape_of-answer : goal.shape_of-answer
 shape_of-answer c =
-    c.put_electrolyte.auto.0
+    c.put_electrolyte.auto.s
 
 pub returns-then-refusal-eq0 : goal.returns-then-refusal-eq0
 unfolding electrolyte_return electrolyte_after

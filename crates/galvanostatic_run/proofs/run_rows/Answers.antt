@@ -71,7 +71,7 @@ shape_of-out-then-run-ne-GOING c =
 pub shape_of-lowest-then-run-ne-GOING : goal.shape_of-lowest-then-run-ne-GOING
 shape_of-lowest-then-run-ne-GOING c =
     let loop = c.loop-i in
-    c.update_lowest.auto.0 ∙ rw loop.invariant.1.1 (summary_length _ _ _)
+    c.update_lowest.auto.lowest ∙ rw loop.invariant.1.1 (summary_length _ _ _)
 
 pub returns-then-run-ne-GOING : goal.returns-then-run-ne-GOING
 unfolding all_turns all_rows finished_run
