@@ -1,5 +1,5 @@
 -- `setting_messages::write_names` meets its contract. Assumes nothing.
-use Rattle.std.proofs.Common.{◌-◌, ◌≤◌, rules}
+use Rattle.std.proofs.Common.{◌-◌, ◌≤◌}
 use Rattle.setting_table.specs.Names.{none}
 use Rattle.setting_messages.proofs.write_names.Given as goal
 
