@@ -38,16 +38,20 @@ pub(crate) fn read(rt: &impl Files, path: &[u8], text: &mut [u8]) -> Result<usiz
     Ok(size)
 }
 
-// Says which file cannot be read, and the system's reason without its number.
+// What an error's words say before the system's number.
+fn without_number(words: &str) -> &str {
+    match words.split_once(" (os error ") {
+        Some((reason, _)) => reason,
+        None => words,
+    }
+}
+
+// Says which file cannot be read, and the system's reason.
 pub(crate) fn say_fault(path: &[u8], error: Error) {
     let mut words = ArrayString::<256>::new();
     let _ = write!(words, "{error}");
-    let reason = match words.as_str().split_once(" (os error ") {
-        Some((reason, _)) => reason,
-        None => words.as_str(),
-    };
     say(ERR, path);
     say(ERR, b": ");
-    say(ERR, reason.as_bytes());
+    say(ERR, without_number(words.as_str()).as_bytes());
     say(ERR, b"\n");
 }
