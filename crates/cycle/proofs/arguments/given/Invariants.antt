@@ -1,5 +1,6 @@
 -- The loop of `cycle::arguments::given`. Assumes nothing.
-use Rattle.std.proofs.Common.{◌-◌, ⊤}
+use Rattle.std.specs.Prelude.{⊤}
+use Rattle.std.proofs.Common.{◌-◌}
 use Rattle.cycle.proofs.arguments.given.Given as goal
 
 abbrev pub invariant-loop-i : goal.invariant-loop-i
