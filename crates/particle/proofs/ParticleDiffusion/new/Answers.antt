@@ -18,7 +18,7 @@ returns-then-refusal-ne0 c =
     let count_within = c.count_within in
     let args = c.args in
     let a = args in
-    let e : first_refusal_lem.result ≡ new_refusal a.params a.n-nodes = rw (
+    let e : first_refusal_lem.result ≡ new_refusal a.params a.n_nodes = rw (
       first_refusal_lem.ensures,
       refusal-unless2.ensures,
       fits2.ensures,
@@ -38,15 +38,15 @@ uniform-c_s-requires c =
     let count_within = c.count_within in
     let args = c.args in
     let a = args in
-    let valid : first_refusal_lem.result ≡ new_refusal a.params a.n-nodes = rw (
+    let valid : first_refusal_lem.result ≡ new_refusal a.params a.n_nodes = rw (
       first_refusal_lem.ensures,
       refusal-unless2.ensures,
       fits2.ensures,
       refusal-unless.ensures,
       count_within.ensures,
     ) in
-    let e : new_refusal a.params a.n-nodes ≡ 0 = sym valid ∙ if1.false in
-    (nodes_valid a.n-nodes (neither_refused _ _ e).0).1
+    let e : new_refusal a.params a.n_nodes ≡ 0 = sym valid ∙ if1.false in
+    (nodes_valid a.n_nodes (neither_refused _ _ e).0).1
 
 pub returns : goal.returns
 unfolding made new_refusal fresh
@@ -59,7 +59,7 @@ returns c =
     let count_within = c.count_within in
     let args = c.args in
     let a = args in
-    let e : first_refusal_lem.result ≡ new_refusal a.params a.n-nodes = rw (
+    let e : first_refusal_lem.result ≡ new_refusal a.params a.n_nodes = rw (
       first_refusal_lem.ensures,
       refusal-unless2.ensures,
       fits2.ensures,
