@@ -1,13 +1,16 @@
 // The arguments: the first may name the cell, each other one is NAME=VALUE.
-ghost use Rattle.std.specs.Prelude.{◌≡◌};
+ghost use Rattle.std.specs.Prelude.{◌≡◌, ◌≤◌, length};
 ghost use Rattle.cell_file.specs.Settings.{fresh_settings};
 ghost use Rattle.command_line.specs.Arguments.{names_cell, asks_help, first_place};
 
+use crate::reading;
 use cell_file::records::ready;
 use cell_file::{Settings, take_cell, take_line};
 use electrode::ElectrodeParams;
 use setting_messages::{ERR, say};
 use setting_table::names::NONE;
+use std::env::{Env, FillError};
+use std::rt::Files;
 
 // A fault that is not a line's or a cell file's, such as a file that cannot be read.
 pub const OTHER_FAULT: u64 = 10;
@@ -39,28 +42,42 @@ pub fn fresh(values: [f64; NONE], fault: u64) -> Settings
     }
 }
 
+// Puts argument i at the start of a text and gives its size; 0 also where there is no such argument, and where it is longer than the text.
+pub fn argument(rt: &impl Env, i: usize, text: &mut [u8]) -> usize
+    ensures { result ≤ length text.new }
+{
+    match rt.arg(i, text) {
+        Ok(size) => size,
+        Err(_) => 0,
+    }
+}
+
+// How many arguments there are, the program's name among them.
+pub fn argument_count(rt: &impl Env) -> usize {
+    let mut text = [0u8; 1];
+    for i in 0..usize::MAX {
+        if let Err(FillError::NotPresent) = rt.arg(i, &mut text) {
+            return i;
+        }
+    }
+    usize::MAX
+}
+
 // Reads a file and gives its size, at most the room for it, or -1 where it cannot be read, and then says so.
-pub fn read_file(path: &[u8], text: &mut [u8]) -> isize {
-    let fd = os::open_read(path);
-    if fd < 0 {
-        os::fail(path);
-        return -1;
+pub fn read_file(rt: &impl Files, path: &[u8], text: &mut [u8]) -> isize {
+    match reading::read(rt, path, text) {
+        Ok(size) => size as isize,
+        Err(error) => {
+            reading::say_fault(path, error);
+            -1
+        }
     }
-    let size = io::read_full(fd, text);
-    // where the file did not end, a read that failed fails again
-    let mut more = [0u8; 1];
-    let failed = libc::read(fd, &mut more) < 0;
-    if failed {
-        os::fail(path);
-    }
-    libc::close(fd);
-    if failed { -1 } else { size as isize }
 }
 
 // The numbers of a cell file.
-fn from_file(path: &[u8], start: [f64; NONE], program: &[u8]) -> Settings {
+fn from_file(rt: &impl Files, path: &[u8], start: [f64; NONE], program: &[u8]) -> Settings {
     let mut text = io::buffer();
-    let got = read_file(path, &mut text);
+    let got = read_file(rt, path, &mut text);
     let size = io::count(got, &text);
     if got < 0 {
         return fresh(start, OTHER_FAULT);
@@ -73,20 +90,20 @@ fn from_file(path: &[u8], start: [f64; NONE], program: &[u8]) -> Settings {
 }
 
 // The cell that the first argument names, or graphite with NMC.
-fn named_cell(word: &[u8], program: &[u8]) -> Settings {
+fn named_cell(rt: &impl Files, word: &[u8], program: &[u8]) -> Settings {
     if plain_text::is(word, b"lfp") {
         return fresh(ready(ElectrodeParams::lfp_cathode()), 0);
     }
     let nmc = ready(ElectrodeParams::nmc_cathode());
     if names_cell(word) & !plain_text::is(word, b"nmc") {
-        return from_file(word, nmc, program);
+        return from_file(rt, word, nmc, program);
     }
     fresh(nmc, 0)
 }
 
 // The numbers before the arguments that set one: those of the cell that the first argument names. What a cell file gave, an argument may give again.
-pub fn first_settings(first: &[u8], program: &[u8]) -> Settings {
-    let cell = named_cell(first, program);
+pub fn first_settings(rt: &impl Files, first: &[u8], program: &[u8]) -> Settings {
+    let cell = named_cell(rt, first, program);
     let values = cell.values;
     fresh(values, cell.fault)
 }

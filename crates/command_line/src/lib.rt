@@ -4,6 +4,7 @@
 
 pub mod arguments;
 pub mod ending;
+mod reading;
 
 ghost use Rattle.std.specs.Prelude.{◌≡◌};
 ghost use Rattle.command_line.specs.Arguments.{built_from};

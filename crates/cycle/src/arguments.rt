@@ -6,6 +6,8 @@ use cycle_run::phases::{Phase, load_fits, time_fits};
 use decimal_text::Decimal;
 use plain_text::{either, is, without_blanks};
 use setting_table::ranges::is_whole;
+use std::env::Env;
+use std::rt::Files;
 
 // A cycle's own names by their numbers, the phases first; 0 is none of them.
 const CHARGE: u64 = 1;
@@ -159,29 +161,29 @@ fn take_word(g: Arguments, i: usize, word: &[u8]) -> Arguments {
 }
 
 // Takes argument i, unless a fault was met before.
-fn take(g: Arguments, i: usize) -> Arguments {
+fn take(rt: &impl Env, g: Arguments, i: usize) -> Arguments {
     if g.settings.fault != 0 {
         return g;
     }
     let mut text = io::buffer();
-    let size = os::arg(i, &mut text);
+    let size = arguments::argument(rt, i, &mut text);
     take_word(g, i, &text[..size])
 }
 
 // What all arguments say, of which the first is at hand, or those before the first that is wrong.
-pub(crate) fn given(first: &[u8]) -> Arguments {
+pub(crate) fn given(rt: &(impl Env + Files), first: &[u8]) -> Arguments {
     let mut g = Arguments {
-        settings: arguments::first_settings(first, b"cycle"),
+        settings: arguments::first_settings(rt, first, b"cycle"),
         count: 0,
         names: [0; 8],
         numbers: [0.0; 8],
         repeats: 0,
         budget: 0,
     };
-    let n = os::arg_count();
+    let n = arguments::argument_count(rt);
     let mut i = arguments::first_place(first);
     while i < n {
-        let next = take(g, i);
+        let next = take(rt, g, i);
         g = next;
         i += 1;
     }

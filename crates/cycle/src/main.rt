@@ -90,15 +90,15 @@ fn run(g: Arguments, named: &[u8]) {
     }
 }
 
-fn main() {
+fn main(rt: HostRuntime) {
     let mut text = io::buffer();
-    let size = os::arg(1, &mut text);
+    let size = command_line::arguments::argument(&rt, 1, &mut text);
     let first = &text[..size];
     if command_line::arguments::asks_help(first) {
         help::write_help();
         return;
     }
-    let g = arguments::given(first);
+    let g = arguments::given(&rt, first);
     if g.settings.fault != 0 {
         return;
     }

@@ -9,20 +9,22 @@ use cell_file::Settings;
 use command_line::{arguments, ending};
 use setting_table::names::NONE;
 use solver::SpmSolver;
+use std::env::Env;
+use std::rt::Files;
 
-fn take(st: Settings, i: usize, program: &[u8]) -> Settings {
+fn take(rt: &impl Env, st: Settings, i: usize, program: &[u8]) -> Settings {
     let mut text = io::buffer();
-    let size = os::arg(i, &mut text);
+    let size = arguments::argument(rt, i, &mut text);
     arguments::take_argument(st, i, &text[..size], program)
 }
 
 // The numbers after all arguments, of which the first is at hand, or after the first that is wrong.
-fn given(first: &[u8], program: &[u8]) -> Settings {
-    let mut st = arguments::first_settings(first, program);
-    let n = os::arg_count();
+fn given(rt: &(impl Env + Files), first: &[u8], program: &[u8]) -> Settings {
+    let mut st = arguments::first_settings(rt, first, program);
+    let n = arguments::argument_count(rt);
     let mut i = arguments::first_place(first);
     while i < n {
-        let next = take(st, i, program);
+        let next = take(rt, st, i, program);
         st = next;
         i += 1;
     }
@@ -42,15 +44,15 @@ fn run(v: [f64; NONE], cell: SpmSolver, named: &[u8]) {
     ending::write_count(r.rows);
 }
 
-fn main() {
+fn main(rt: HostRuntime) {
     let mut text = io::buffer();
-    let size = os::arg(1, &mut text);
+    let size = arguments::argument(&rt, 1, &mut text);
     let first = &text[..size];
     if arguments::asks_help(first) {
         help::write_help();
         return;
     }
-    let s = given(first, b"discharge");
+    let s = given(&rt, first, b"discharge");
     if s.fault != 0 {
         return;
     }

@@ -2,6 +2,8 @@
 use cell_file::Settings;
 use command_line::arguments;
 use command_line::arguments::refused;
+use std::env::Env;
+use std::rt::Files;
 
 // The numbers, and which argument names the load file, 0 for none.
 #[derive(Clone, Copy)]
@@ -44,12 +46,12 @@ fn take_load(g: Arguments, i: usize, word: &[u8]) -> Arguments {
 }
 
 // Takes argument i, unless a fault was met before.
-fn take(g: Arguments, i: usize) -> Arguments {
+fn take(rt: &impl Env, g: Arguments, i: usize) -> Arguments {
     if g.settings.fault != 0 {
         return g;
     }
     let mut text = io::buffer();
-    let size = os::arg(i, &mut text);
+    let size = arguments::argument(rt, i, &mut text);
     let word = &text[..size];
     if plain_text::starts_with(word, b"load=") {
         return take_load(g, i, word);
@@ -62,15 +64,15 @@ fn take(g: Arguments, i: usize) -> Arguments {
 }
 
 // What all arguments say, of which the first is at hand, or those before the first that is wrong.
-pub(crate) fn given(first: &[u8]) -> Arguments {
+pub(crate) fn given(rt: &(impl Env + Files), first: &[u8]) -> Arguments {
     let mut g = Arguments {
-        settings: arguments::first_settings(first, b"replay"),
+        settings: arguments::first_settings(rt, first, b"replay"),
         load: 0,
     };
-    let n = os::arg_count();
+    let n = arguments::argument_count(rt);
     let mut i = arguments::first_place(first);
     while i < n {
-        let next = take(g, i);
+        let next = take(rt, g, i);
         g = next;
         i += 1;
     }

@@ -14,6 +14,8 @@ use runs::Ending;
 use setting_messages::{ERR, say};
 use setting_table::names::NONE;
 use solver::SpmSolver;
+use std::env::Env;
+use std::rt::Files;
 
 // Room for a load file and for one byte more, which shows that it is too long.
 fn load_buffer() -> [u8; 65537]
@@ -41,9 +43,9 @@ fn write_ending(e: Ending, rows: usize) {
 }
 
 // Replays the file at a path. It has at most 1,927 lines, so that 10,000 rows always have room.
-fn replay(v: [f64; NONE], cell: SpmSolver, named: &[u8], path: &[u8]) {
+fn replay(rt: &impl Files, v: [f64; NONE], cell: SpmSolver, named: &[u8], path: &[u8]) {
     let mut text = load_buffer();
-    let got = command_line::arguments::read_file(path, &mut text);
+    let got = command_line::arguments::read_file(rt, path, &mut text);
     let size = io::count(got, &text);
     if got < 0 {
         return;
@@ -60,27 +62,27 @@ fn replay(v: [f64; NONE], cell: SpmSolver, named: &[u8], path: &[u8]) {
 }
 
 // Builds the cell and replays the file that argument i names, load=FILE.
-fn run(v: [f64; NONE], named: &[u8], i: usize) {
+fn run(rt: &(impl Env + Files), v: [f64; NONE], named: &[u8], i: usize) {
     let mut word = io::buffer();
-    let size = os::arg(i, &mut word);
+    let size = command_line::arguments::argument(rt, i, &mut word);
     let built = command_line::build(&v);
     if built.refusal != 0 {
         return;
     }
     if 5 <= size {
-        replay(v, built.solver, named, &word[5..size]);
+        replay(rt, v, built.solver, named, &word[5..size]);
     }
 }
 
-fn main() {
+fn main(rt: HostRuntime) {
     let mut text = io::buffer();
-    let size = os::arg(1, &mut text);
+    let size = command_line::arguments::argument(&rt, 1, &mut text);
     let first = &text[..size];
     if command_line::arguments::asks_help(first) {
         help::write_help();
         return;
     }
-    let g = arguments::given(first);
+    let g = arguments::given(&rt, first);
     if g.settings.fault != 0 {
         return;
     }
@@ -89,5 +91,5 @@ fn main() {
         return;
     }
     let values = g.settings.values;
-    run(values, first, g.load);
+    run(&rt, values, first, g.load);
 }

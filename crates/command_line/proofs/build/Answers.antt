@@ -1,5 +1,4 @@
 -- `command_line::build` meets its contract. Assumes nothing.
-use borrow.Author.Rules.{rules}
 use Rattle.command_line.specs.Arguments.{built_from}
 use Rattle.command_line.proofs.build.Goals as goal
 

@@ -1,7 +1,6 @@
 -- `csv_rows::copied` meets its contract. Assumes nothing.
 use Prim.Native.Nat.{◌≤◌, ◌-◌}
 use mathlib.Core.Path.{◌≡◌}
-use borrow.Author.Rules.{rules}
 use lib.ListN.{length}
 use Rattle.csv_rows.proofs.copied.Given as goal
 

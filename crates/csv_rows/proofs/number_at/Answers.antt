@@ -1,5 +1,4 @@
 -- `csv_rows::number_at` meets its contract. Assumes nothing.
-use borrow.Author.Rules.{rules}
 use borrow.Author.Tests.{lt-ltb, le-ltb}
 use Rattle.csv_rows.specs.Row.{number_at}
 use Rattle.csv_rows.proofs.number_at.Goals as goal

@@ -1,5 +1,4 @@
 -- `csv_rows::put_row` meets its contract. Assumes nothing.
-use Prim.Native.Nat.{◌≤◌, ◌-◌}
 use mathlib.Core.Path.{◌≡◌, refl, ◌∙◌}
 use native.Mathlib.Omega.{arith}
 use native.Mathlib.Numerals.{add-one}
@@ -22,8 +21,8 @@ loop-k-preserved c =
     let loop = c.loop-k in
     let args = c.args in (
       search rules,
-      rw (add-one loop.k) (column-turn (written args.line.now 0) (written loop.line loop.used) (written put-number.new.0 put-number.result)
-          (written c.put-used.new.0 c.put-used.result) args.rows.now args.row args.last loop.k loop.invariant.1 (put-number.ensures ∙ rw number_at.ensures) (c.put-used.ensures ∙ rw
+      rw (add-one loop.k) (column-turn (written args.line.now 0) (written loop.line loop.used) (written put-number.new.line put-number.result)
+          (written c.put-used.new.line c.put-used.result) args.rows.now args.row args.last loop.k loop.invariant.1 (put-number.ensures ∙ rw number_at.ensures) (c.put-used.ensures ∙ rw
           separator.ensures)),
     )
 

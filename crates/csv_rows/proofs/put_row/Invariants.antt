@@ -1,12 +1,8 @@
 -- `csv_rows::put_row` meets its contract. Assumes nothing.
 use Prim.Native.Nat.{◌≤◌, ◌-◌}
-use mathlib.Core.Path.{◌≡◌, refl, ◌∙◌}
-use native.Mathlib.Omega.{arith}
-use native.Mathlib.Numerals.{add-one}
-use borrow.Author.Rules.{rules}
+use mathlib.Core.Path.{◌≡◌}
 use Rattle.decimal_spelling.specs.Spelling.{written, put_all}
 use Rattle.csv_rows.specs.Row.{columns_by}
-use Rattle.csv_rows.proofs.Columns.{column-turn}
 use Rattle.csv_rows.proofs.put_row.Given as goal
 
 abbrev pub invariant-loop-k : goal.invariant-loop-k

@@ -1,7 +1,6 @@
 -- `csv_rows::write_line` meets its contract. Assumes nothing.
 use mathlib.Core.Path.{sym}
 use native.Mathlib.Omega.{arith}
-use borrow.Author.Rules.{rules}
 use lib.Seq.{length-take-le}
 use Rattle.csv_rows.proofs.write_line.Goals as goal
 

@@ -1,5 +1,5 @@
 -- `setting_messages::entry` meets its contract. Assumes nothing.
-use Rattle.std.proofs.Common.{◌-◌, ◌≤◌, length, rules}
+use Rattle.std.proofs.Common.{◌-◌, ◌≤◌, length}
 use Rattle.setting_messages.proofs.entry.Given as goal
 
 abbrev pub invariant-loop-i : goal.invariant-loop-i

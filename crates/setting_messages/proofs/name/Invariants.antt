@@ -1,5 +1,5 @@
 -- `setting_messages::name` meets its contract. Assumes nothing.
-use Rattle.std.proofs.Common.{◌-◌, ◌≤◌, rules}
+use Rattle.std.proofs.Common.{◌-◌, ◌≤◌}
 use Rattle.setting_messages.proofs.name.Given as goal
 
 abbrev pub invariant-loop-j : goal.invariant-loop-j

@@ -1,5 +1,4 @@
 -- `command_line::arguments::asks_help` meets its contract. Assumes nothing.
-use borrow.Author.Rules.{rules}
 use Rattle.command_line.specs.Arguments.{asks_help}
 use Rattle.setting_table.specs.Names.{bytes_of}
 use Rattle.command_line.proofs.arguments.asks_help.Goals as goal

@@ -1,5 +1,4 @@
 -- `command_line::arguments::first_place` meets its contract. Assumes nothing.
-use borrow.Author.Rules.{rules}
 use Rattle.command_line.specs.Arguments.{first_place}
 use Rattle.command_line.proofs.arguments.first_place.Goals as goal
 

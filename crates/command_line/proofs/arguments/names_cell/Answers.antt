@@ -1,5 +1,4 @@
 -- `command_line::arguments::names_cell` meets its contract. Assumes nothing.
-use borrow.Author.Rules.{rules}
 use native.Mathlib.Nat.{zero-add}
 use Rattle.plain_text.specs.Text.{index_of}
 use Rattle.command_line.specs.Arguments.{names_cell}
