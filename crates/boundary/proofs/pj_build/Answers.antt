@@ -10,7 +10,7 @@ use Rattle.boundary.proofs.pj_build.Goals as goal
 pub returns-then-not-is_listed : goal.returns-then-not-is_listed
 unfolding build_return build_after
 returns-then-not-is_listed c =
-    rw (← c.is_listed.ensures, off c.is_listed.result c.if-not-is_listed.true) (refl, refl)
+    record { number = rw (← c.is_listed.ensures, c.if-not-is_listed.true) refl; written = rw (← c.is_listed.ensures, c.if-not-is_listed.true) refl }
 
 pub returns-then-not-lengths_fit : goal.returns-then-not-lengths_fit
 unfolding after_lengths build_return build_after
@@ -20,14 +20,21 @@ returns-then-not-lengths_fit c =
     let build-length = c.build_length in
     let if1 = c.if-not-is_listed in
     let is-listed = c.is_listed in
-    rw (
+    record { number = rw (
       ← is-listed.ensures,
-      on is-listed.result if1.false,
+      if1.false,
       ← build-length.ensures,
       ← built-length.ensures,
       ← lengths-fit.ensures,
-      off lengths-fit.result c.if-not-lengths_fit.true,
-    ) (refl, refl)
+      c.if-not-lengths_fit.true,
+    ) refl; written = rw (
+      ← is-listed.ensures,
+      if1.false,
+      ← build-length.ensures,
+      ← built-length.ensures,
+      ← lengths-fit.ensures,
+      c.if-not-lengths_fit.true,
+    ) refl }
 
 pub returns-then-call-le6 : goal.returns-then-call-le6
 unfolding after_lengths build_return build_after
@@ -40,15 +47,24 @@ returns-then-call-le6 c =
     let if1 = c.if-not-is_listed in
     let is-listed = c.is_listed in
     let args = c.args in
-    rw (
+    let r = (refl, put-ready.ensures) in
+    record { number = rw (
       ← is-listed.ensures,
-      on is-listed.result if1.false,
+      if1.false,
       ← build-length.ensures,
       ← built-length.ensures,
       ← lengths-fit.ensures,
-      on lengths-fit.result if2.false,
+      if2.false,
       le-leb args.call 6 (omega arith),
-    ) (refl, put-ready.ensures)
+    ) r.0; written = rw (
+      ← is-listed.ensures,
+      if1.false,
+      ← build-length.ensures,
+      ← built-length.ensures,
+      ← lengths-fit.ensures,
+      if2.false,
+      le-leb args.call 6 (omega arith),
+    ) r.1 }
 
 pub returns : goal.returns
 unfolding after_lengths build_return build_after
@@ -61,12 +77,20 @@ returns c =
     let if1 = c.if-not-is_listed in
     let is-listed = c.is_listed in
     let args = c.args in
-    rw (
+    record { number = rw (
       ← is-listed.ensures,
-      on is-listed.result if1.false,
+      if1.false,
       ← build-length.ensures,
       ← built-length.ensures,
       ← lengths-fit.ensures,
-      on lengths-fit.result if2.false,
+      if2.false,
       lt-leb args.call 6 (omega arith),
-    ) put-new.ensures
+    ) put-new.ensures.number; written = rw (
+      ← is-listed.ensures,
+      if1.false,
+      ← build-length.ensures,
+      ← built-length.ensures,
+      ← lengths-fit.ensures,
+      if2.false,
+      lt-leb args.call 6 (omega arith),
+    ) put-new.ensures.written }

@@ -8,7 +8,7 @@ use Rattle.boundary.proofs.pj_cell_step.Goals as goal
 pub returns-then-not-lengths_fit : goal.returns-then-not-lengths_fit
 unfolding after_lengths cell_return cell_after
 returns-then-not-lengths_fit c =
-    rw (← c.lengths_fit.ensures, off c.lengths_fit.result c.if-not-lengths_fit.true) (refl, refl)
+    record { number = rw (← c.lengths_fit.ensures, c.if-not-lengths_fit.true) refl; written = rw (← c.lengths_fit.ensures, c.if-not-lengths_fit.true) refl }
 
 pub returns : goal.returns
 unfolding after_lengths cell_return cell_after
@@ -16,4 +16,4 @@ returns c =
     let cell_step_lem = c.cell_step in
     let if1 = c.if-not-lengths_fit in
     let lengths-fit = c.lengths_fit in
-    rw (← lengths-fit.ensures, on lengths-fit.result if1.false) cell_step_lem.ensures
+    record { number = rw (← lengths-fit.ensures, if1.false) cell_step_lem.ensures.number; written = rw (← lengths-fit.ensures, if1.false) cell_step_lem.ensures.written }

@@ -9,7 +9,7 @@ use Rattle.boundary.proofs.pj_cycle.Goals as goal
 pub returns-then-not-cycle_lengths_fit : goal.returns-then-not-cycle_lengths_fit
 unfolding after_lengths cycle_return cycle_rows cycle_after
 returns-then-not-cycle_lengths_fit c =
-    rw (← c.cycle_lengths_fit.ensures, off c.cycle_lengths_fit.result c.if-not-cycle_lengths_fit.true) (refl, (refl, refl))
+    record { number = rw (← c.cycle_lengths_fit.ensures, c.if-not-cycle_lengths_fit.true) refl; rows = rw (← c.cycle_lengths_fit.ensures, c.if-not-cycle_lengths_fit.true) refl; written = rw (← c.cycle_lengths_fit.ensures, c.if-not-cycle_lengths_fit.true) refl }
 
 pub returns : goal.returns
 unfolding after_lengths cycle_return cycle_rows cycle_after
@@ -17,4 +17,4 @@ returns c =
     let cycle = c.cycle in
     let if1 = c.if-not-cycle_lengths_fit in
     let cycle-lengths-fit = c.cycle_lengths_fit in
-    rw (← cycle-lengths-fit.ensures, on cycle-lengths-fit.result if1.false) cycle.ensures
+    record { number = rw (← cycle-lengths-fit.ensures, if1.false) cycle.ensures.number; rows = rw (← cycle-lengths-fit.ensures, if1.false) cycle.ensures.rows; written = rw (← cycle-lengths-fit.ensures, if1.false) cycle.ensures.written }

@@ -27,7 +27,7 @@ found-refused n s a e = rw (← e) (refl, refl)
 pub returns-then-answer-ne-FOUND_BYTES : goal.returns-then-answer-ne-FOUND_BYTES
 unfolding after_lengths search_return search_after
 returns-then-answer-ne-FOUND_BYTES c =
-    rw (ne_eqb _ _ c.if-answer-ne-FOUND_BYTES.true) (refl, refl)
+    record { number = rw (ne_eqb _ _ c.if-answer-ne-FOUND_BYTES.true) refl; written = rw (ne_eqb _ _ c.if-answer-ne-FOUND_BYTES.true) refl }
 
 pub returns-in-Row : goal.returns-in-Row
 unfolding after_lengths search_return search_after
@@ -37,7 +37,8 @@ returns-in-Row c =
     let found = c.found-1 in
     let first_below = c.first_below-found in
     let if1 = c.if-answer-ne-FOUND_BYTES in
-    rw (eq-eqb _ _ if1.false) (found-written _ _ _ _ _ _ (ap found_by (sym found.given.1) ∙ first_below.ensures) refl write_word.ensures write-word2.ensures)
+    let r = (found-written _ _ _ _ _ _ (ap found_by (sym found.given.1) ∙ first_below.ensures) refl write_word.ensures write-word2.ensures) in
+    record { number = rw (eq-eqb _ _ if1.false) r.0; written = rw (eq-eqb _ _ if1.false) r.1 }
 
 pub returns-in-None : goal.returns-in-None
 unfolding after_lengths search_return search_after
@@ -47,7 +48,8 @@ returns-in-None c =
     let enum_told = c.enum_told-1 in
     let first_below = c.first_below-found in
     let if1 = c.if-answer-ne-FOUND_BYTES in
-    rw (eq-eqb _ _ if1.false) (found-written _ _ _ _ _ _ (ap found_by (sym enum_told.given.1) ∙ first_below.ensures) refl write-word3.ensures write-word4.ensures)
+    let r = (found-written _ _ _ _ _ _ (ap found_by (sym enum_told.given.1) ∙ first_below.ensures) refl write-word3.ensures write-word4.ensures) in
+    record { number = rw (eq-eqb _ _ if1.false) r.0; written = rw (eq-eqb _ _ if1.false) r.1 }
 
 pub returns-in-Refused : goal.returns-in-Refused
 unfolding after_lengths search_return search_after
@@ -55,4 +57,5 @@ returns-in-Refused c =
     let found2 = c.found-in-Refused-1 in
     let first_below = c.first_below-found in
     let if1 = c.if-answer-ne-FOUND_BYTES in
-    rw (eq-eqb _ _ if1.false) (found-refused _ _ _ (ap found_by (sym found2.given.1) ∙ first_below.ensures))
+    let r = (found-refused _ _ _ (ap found_by (sym found2.given.1) ∙ first_below.ensures)) in
+    record { number = rw (eq-eqb _ _ if1.false) r.0; written = rw (eq-eqb _ _ if1.false) r.1 }

@@ -10,7 +10,7 @@ use Rattle.boundary.proofs.pj_number.Goals as goal
 pub returns-then-not-is_listed : goal.returns-then-not-is_listed
 unfolding number_call put_places
 returns-then-not-is_listed c =
-    rw (← c.is_listed.ensures, off c.is_listed.result c.if-not-is_listed.true) (refl, refl)
+    record { number = rw (← c.is_listed.ensures, c.if-not-is_listed.true) refl; written = rw (← c.is_listed.ensures, c.if-not-is_listed.true) refl }
 
 pub returns-then-not-lengths_fit : goal.returns-then-not-lengths_fit
 unfolding number_call put_places
@@ -19,11 +19,11 @@ returns-then-not-lengths_fit c =
     let number-length = c.number_length in
     let if1 = c.if-not-is_listed in
     let is-listed = c.is_listed in
-    rw (← is-listed.ensures, on is-listed.result if1.false, ← number-length.ensures, ← lengths-fit.ensures, off lengths-fit.result c.if-not-lengths_fit.true) (refl, refl)
+    record { number = rw (← is-listed.ensures, if1.false, ← number-length.ensures, ← lengths-fit.ensures, c.if-not-lengths_fit.true) refl; written = rw (← is-listed.ensures, if1.false, ← number-length.ensures, ← lengths-fit.ensures, c.if-not-lengths_fit.true) refl }
 
 pub shape_of-answer : goal.shape_of-answer
 shape_of-answer c =
-    c.write_f64.auto.0
+    c.write_f64.auto.s
 
 pub returns-in-Value : goal.returns-in-Value
 unfolding number_call
@@ -36,13 +36,20 @@ returns-in-Value c =
     let number-length = c.number_length in
     let if1 = c.if-not-is_listed in
     let is-listed = c.is_listed in
-    rw (
+    let r = (value_answered _ _ _ _ (ap outcome_of (sym outcome.given.1) ∙ number_of.ensures) write-f64.ensures) in
+    record { number = rw (
       ← is-listed.ensures,
-      on is-listed.result if1.false,
+      if1.false,
       ← number-length.ensures,
       ← lengths-fit.ensures,
-      on lengths-fit.result if2.false,
-    ) (value_answered _ _ _ _ (ap outcome_of (sym outcome.given.1) ∙ number_of.ensures) write-f64.ensures)
+      if2.false,
+    ) r.0; written = rw (
+      ← is-listed.ensures,
+      if1.false,
+      ← number-length.ensures,
+      ← lengths-fit.ensures,
+      if2.false,
+    ) r.1 }
 
 pub returns-in-Refused : goal.returns-in-Refused
 unfolding number_call
@@ -54,10 +61,17 @@ returns-in-Refused c =
     let number-length = c.number_length in
     let if1 = c.if-not-is_listed in
     let is-listed = c.is_listed in
-    rw (
+    let r = (refusal_answered _ _ _ (ap outcome_of (sym outcome2.given.1) ∙ number_of.ensures)) in
+    record { number = rw (
       ← is-listed.ensures,
-      on is-listed.result if1.false,
+      if1.false,
       ← number-length.ensures,
       ← lengths-fit.ensures,
-      on lengths-fit.result if2.false,
-    ) (refusal_answered _ _ _ (ap outcome_of (sym outcome2.given.1) ∙ number_of.ensures))
+      if2.false,
+    ) r.0; written = rw (
+      ← is-listed.ensures,
+      if1.false,
+      ← number-length.ensures,
+      ← lengths-fit.ensures,
+      if2.false,
+    ) r.1 }

@@ -9,7 +9,7 @@ use Rattle.boundary.proofs.pj_replay.Goals as goal
 pub returns-then-not-text_fits : goal.returns-then-not-text_fits
 unfolding after_lengths replay_return replay_rows replay_after
 returns-then-not-text_fits c =
-    rw (← c.text_fits.ensures, off c.text_fits.result c.if-not-text_fits.true) (refl, (refl, refl))
+    record { number = rw (← c.text_fits.ensures, c.if-not-text_fits.true) refl; rows = rw (← c.text_fits.ensures, c.if-not-text_fits.true) refl; written = rw (← c.text_fits.ensures, c.if-not-text_fits.true) refl }
 
 pub returns-then-not-lengths_fit : goal.returns-then-not-lengths_fit
 unfolding after_lengths replay_return replay_rows replay_after
@@ -17,7 +17,7 @@ returns-then-not-lengths_fit c =
     let lengths-fit = c.lengths_fit in
     let if1 = c.if-not-text_fits in
     let text-fits = c.text_fits in
-    rw (← text-fits.ensures, on text-fits.result if1.false, ← lengths-fit.ensures, off lengths-fit.result c.if-not-lengths_fit.true) (refl, (refl, refl))
+    record { number = rw (← text-fits.ensures, if1.false, ← lengths-fit.ensures, c.if-not-lengths_fit.true) refl; rows = rw (← text-fits.ensures, if1.false, ← lengths-fit.ensures, c.if-not-lengths_fit.true) refl; written = rw (← text-fits.ensures, if1.false, ← lengths-fit.ensures, c.if-not-lengths_fit.true) refl }
 
 pub returns : goal.returns
 unfolding after_lengths replay_return replay_rows replay_after
@@ -27,4 +27,4 @@ returns c =
     let lengths-fit = c.lengths_fit in
     let if1 = c.if-not-text_fits in
     let text-fits = c.text_fits in
-    rw (← text-fits.ensures, on text-fits.result if1.false, ← lengths-fit.ensures, on lengths-fit.result if2.false) replay.ensures
+    record { number = rw (← text-fits.ensures, if1.false, ← lengths-fit.ensures, if2.false) replay.ensures.number; rows = rw (← text-fits.ensures, if1.false, ← lengths-fit.ensures, if2.false) replay.ensures.rows; written = rw (← text-fits.ensures, if1.false, ← lengths-fit.ensures, if2.false) replay.ensures.written }

@@ -5,7 +5,7 @@ use Rattle.cell_calls.proofs.cell_step.Goals as goal
 
 pub shape_of-answer : goal.shape_of-answer
 shape_of-answer c =
-    c.put_stepped.auto.0
+    c.put_stepped.auto.answer
 
 pub returns-then-refusal-eq0 : goal.returns-then-refusal-eq0
 returns-then-refusal-eq0 c =
@@ -17,9 +17,10 @@ returns-then-refusal-eq0 c =
     let parts_at = c.parts_at-q in
     let args = c.args in
     let a = args in
-    cell_taken_lem a.cell.now a.answer.now a.current-a a.dt a.temp-k
+    let r = cell_taken_lem a.cell.now a.answer.now a.current_a a.dt a.temp_k
     parts_at.result _ _ parts_at.ensures fill-64.ensures fill-642.ensures step-in-place.result _ _ step-in-place.ensures
-    _ if1.true put-stepped.ensures
+    _ if1.true put-stepped.ensures in
+    record { number = r.0; written = r.1 }
 
 pub returns-else-refusal-eq0 : goal.returns-else-refusal-eq0
 returns-else-refusal-eq0 c =
@@ -29,6 +30,7 @@ returns-else-refusal-eq0 c =
     let parts_at = c.parts_at-q in
     let args = c.args in
     let a = args in
-    cell_left a.cell.now a.answer.now a.current-a a.dt a.temp-k
+    let r = cell_left a.cell.now a.answer.now a.current_a a.dt a.temp_k
     parts_at.result _ _ parts_at.ensures fill-64.ensures fill-642.ensures step-in-place.result _ _ step-in-place.ensures
-    c.if-refusal-eq0.false
+    c.if-refusal-eq0.false in
+    record { number = r.0; written = r.1 }

@@ -8,7 +8,7 @@ use Rattle.cell_calls.proofs.particle_step.Goals as goal
 
 pub shape_of-answer : goal.shape_of-answer
 shape_of-answer c =
-    c.put_particle.auto.0
+    c.put_particle.auto.s
 
 pub returns-then-refusal-eq0 : goal.returns-then-refusal-eq0
 unfolding particle_return particle_after
@@ -18,8 +18,9 @@ returns-then-refusal-eq0 c =
     let step = c.step-out in
     let particle-at = c.particle_at in
     let args = c.args in
-    accepted (λ (t : ParticleAnswer). t.refusal) (λ (t : ParticleAnswer). put_particle args.answer.now 0 t.particle) _ _ _ (rw particle-at.ensures at step.ensures) _
-    if1.true put-particle.ensures
+    let r = accepted (λ (t : ParticleAnswer). t.refusal) (λ (t : ParticleAnswer). put_particle args.answer.now 0 t.particle) _ _ _ (rw particle-at.ensures at step.ensures) _
+    if1.true put-particle.ensures in
+    record { number = r.0; written = r.1 }
 
 pub returns-else-refusal-eq0 : goal.returns-else-refusal-eq0
 unfolding particle_return particle_after
@@ -27,5 +28,6 @@ returns-else-refusal-eq0 c =
     let step = c.step-out in
     let particle-at = c.particle_at in
     let args = c.args in
-    refused (λ (t : ParticleAnswer). t.refusal) (λ (t : ParticleAnswer). put_particle args.answer.now 0 t.particle) _ _ _ (rw particle-at.ensures at step.ensures)
-    c.if-refusal-eq0.false
+    let r = refused (λ (t : ParticleAnswer). t.refusal) (λ (t : ParticleAnswer). put_particle args.answer.now 0 t.particle) _ _ _ (rw particle-at.ensures at step.ensures)
+    c.if-refusal-eq0.false in
+    record { number = r.0; written = r.1 }

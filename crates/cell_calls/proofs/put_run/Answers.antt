@@ -11,10 +11,10 @@ returns-then-refusal-made c =
     let put-cell = c.put_cell in
     let if1 = c.if-refusal-made in
     let ending-refusal = c.ending_refusal-refusal in
-    (ending-refusal.ensures, rw (rw ending-refusal.ensures at if1.true) (rw (put-cell.ensures, ending-number.ensures) at put-ending.ensures))
+    record { number = ending-refusal.ensures; written = rw (rw ending-refusal.ensures at if1.true) (rw (put-cell.ensures, ending-number.ensures) at put-ending.ensures) }
 
 pub returns-else-refusal-made : goal.returns-else-refusal-made
 unfolding run_written
 returns-else-refusal-made c =
     let ending-refusal = c.ending_refusal-refusal in
-    (ending-refusal.ensures, rw (rw ending-refusal.ensures at c.if-refusal-made.false))
+    record { number = ending-refusal.ensures; written = rw (rw ending-refusal.ensures at c.if-refusal-made.false) }

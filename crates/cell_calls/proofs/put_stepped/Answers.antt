@@ -10,7 +10,7 @@ shape_of-answer c =
     let put-parts2 = c.put_parts-2 in
     let put-parts = c.put_parts in
     let put-config = c.put_config in
-    put-report.auto.0 ∙ write-f64.auto.0 ∙ put-parts2.auto.0 ∙ put-parts.auto.0 ∙ put-config.auto.0
+    put-report.auto.s ∙ write-f64.auto.s ∙ put-parts2.auto.s ∙ put-parts.auto.s ∙ put-config.auto.s
 
 pub returns : goal.returns
 returns c =

@@ -1,5 +1,5 @@
 -- `cell_file::assign` meets its contract. Assumes nothing.
-use Rattle.std.proofs.Common.{rules, le-ltb, lt-ltb}
+use Rattle.std.proofs.Common.{le-ltb, lt-ltb}
 use Rattle.cell_file.specs.Settings.{assigned}
 use Rattle.cell_file.proofs.assign.Goals as goal
 
@@ -11,7 +11,7 @@ returns-then-k-lt-NONE c =
     let if1 = c.if-k-lt-NONE in
     let place_of = c.place_of-k in
     let without-blanks = c.without_blanks in
-    rw (← without-blanks.ensures, ← place_of.ensures, lt-ltb _ _ if1.true, ← without-blanks2.ensures, ← read.ensures) c.Valued-as.ensures
+    rw (← without-blanks.ensures, ← place_of.ensures, lt-ltb _ _ if1.true, ← without-blanks2.ensures, ← read.ensures) c.valued_as.ensures
 
 pub returns : goal.returns
 unfolding assigned

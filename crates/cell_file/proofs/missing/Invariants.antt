@@ -1,5 +1,5 @@
 -- `cell_file::missing` meets its contract. Assumes nothing.
-use Rattle.std.proofs.Common.{◌≡◌, ◌-◌, ◌≤◌, refl, add-one, arith, rules}
+use Rattle.std.proofs.Common.{◌≡◌, ◌-◌, ◌≤◌}
 use Rattle.cell_file.specs.Settings.{in_sheets, missing_by}
 use Rattle.cell_file.proofs.missing.Given as goal
 

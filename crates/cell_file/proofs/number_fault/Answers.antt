@@ -1,13 +1,11 @@
 -- `cell_file::number_fault` meets its contract. Assumes nothing.
-use Rattle.std.proofs.Common.{rules}
-use borrow.Author.Tests.{not-true, not-false}
 use Rattle.cell_file.specs.Settings.{number_fault}
 use Rattle.cell_file.proofs.number_fault.Goals as goal
 
 pub returns-then-not-in_range : goal.returns-then-not-in_range
 unfolding number_fault
 returns-then-not-in_range c =
-    rw (← c.in_range.ensures, not-true c.in_range.result c.if-not-in_range.true)
+    rw (← c.in_range.ensures, c.if-not-in_range.true)
 
 pub returns-then-is_count-is_whole : goal.returns-then-is_count-is_whole
 unfolding number_fault
@@ -16,7 +14,7 @@ returns-then-is_count-is_whole c =
     let is-count = c.is_count in
     let if1 = c.if-not-in_range in
     let in_range_lem = c.in_range in
-    rw (← in_range_lem.ensures, not-false in_range_lem.result if1.false, ← is-count.ensures, ← is_whole.ensures, c.if-is_count-is_whole.true)
+    rw (← in_range_lem.ensures, if1.false, ← is-count.ensures, ← is_whole.ensures, c.if-is_count-is_whole.true)
 
 pub returns : goal.returns
 unfolding number_fault
@@ -25,4 +23,4 @@ returns c =
     let is-count = c.is_count in
     let if1 = c.if-not-in_range in
     let in_range_lem = c.in_range in
-    rw (← in_range_lem.ensures, not-false in_range_lem.result if1.false, ← is-count.ensures, ← is_whole.ensures, c.if-is_count-is_whole.false)
+    rw (← in_range_lem.ensures, if1.false, ← is-count.ensures, ← is_whole.ensures, c.if-is_count-is_whole.false)

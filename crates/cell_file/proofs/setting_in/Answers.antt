@@ -1,5 +1,5 @@
 -- `cell_file::setting_in` meets its contract. Assumes nothing.
-use Rattle.std.proofs.Common.{sym, length-take-le, rules, eq-eqb}
+use Rattle.std.proofs.Common.{sym, length-take-le, eq-eqb}
 use Rattle.cell_file.specs.Settings.{solid_setting}
 use Rattle.cell_file.proofs.Lines.{sets, sets_none}
 use Rattle.cell_file.proofs.setting_in.Goals as goal

@@ -1,5 +1,5 @@
 -- `cell_file::setting_on` meets its contract. Assumes nothing.
-use Rattle.std.proofs.Common.{◌≡◌, sym, ◌∙◌, zero-add, length-take-le, rules}
+use Rattle.std.proofs.Common.{◌≡◌, sym, ◌∙◌, zero-add, length-take-le}
 use Rattle.plain_text.specs.Text.{before, index_of}
 use Rattle.cell_file.specs.Settings.{line_setting}
 use Rattle.cell_file.proofs.setting_on.Goals as goal

@@ -1,5 +1,5 @@
 -- `cell_file::store` meets its contract. Assumes nothing.
-use Rattle.std.proofs.Common.{rules, le-ltb, lt-ltb, eq-eqb, ne_eqb}
+use Rattle.std.proofs.Common.{le-ltb, lt-ltb, eq-eqb, ne_eqb}
 use Rattle.cell_file.specs.Settings.{stored, given}
 use Rattle.cell_file.proofs.store.Goals as goal
 

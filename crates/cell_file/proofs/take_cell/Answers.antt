@@ -1,5 +1,5 @@
 -- `cell_file::take_cell` meets its contract. Assumes nothing.
-use Rattle.std.proofs.Common.{◌∙◌, arith, rules}
+use Rattle.std.proofs.Common.{◌∙◌, arith}
 use Rattle.cell_file.proofs.Lines.{mark_length, cell_long, cell_missing, cell_whole}
 use Rattle.cell_file.proofs.take_cell.Goals as goal
 

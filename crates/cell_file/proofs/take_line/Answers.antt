@@ -1,5 +1,5 @@
 -- `cell_file::take_line` meets its contract. Assumes nothing.
-use Rattle.std.proofs.Common.{rules, eq-eqb, ne_eqb}
+use Rattle.std.proofs.Common.{eq-eqb, ne_eqb}
 use Rattle.cell_file.specs.Settings.{taken_line}
 use Rattle.cell_file.proofs.take_line.Goals as goal
 

@@ -1,8 +1,6 @@
 -- `cell_file::take_lines` meets its contract. Assumes nothing.
-use Rattle.std.proofs.Common.{◌≡◌, ◌+◌, ◌-◌, ◌≤◌, length, sym, ◌∙◌, arith, rules}
-use Rattle.plain_text.specs.Text.{lines_of}
-use Rattle.cell_file.specs.Settings.{lines_taken}
-use Rattle.cell_file.proofs.Lines.{lines_from, from_start, line-turn, over}
+use Rattle.std.proofs.Common.{sym, ◌∙◌, arith, rules}
+use Rattle.cell_file.proofs.Lines.{from_start, line-turn, over}
 use Rattle.cell_file.proofs.take_lines.Goals as goal
 
 pub loop-from-init : goal.loop-from-init

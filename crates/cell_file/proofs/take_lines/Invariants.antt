@@ -1,8 +1,8 @@
 -- `cell_file::take_lines` meets its contract. Assumes nothing.
-use Rattle.std.proofs.Common.{◌≡◌, ◌+◌, ◌-◌, ◌≤◌, length, sym, ◌∙◌, arith, rules}
+use Rattle.std.proofs.Common.{◌≡◌, ◌+◌, ◌-◌, ◌≤◌, length}
 use Rattle.plain_text.specs.Text.{lines_of}
 use Rattle.cell_file.specs.Settings.{lines_taken}
-use Rattle.cell_file.proofs.Lines.{lines_from, from_start, line-turn, over}
+use Rattle.cell_file.proofs.Lines.{lines_from}
 use Rattle.cell_file.proofs.take_lines.Given as goal
 
 abbrev pub invariant-loop-from : goal.invariant-loop-from

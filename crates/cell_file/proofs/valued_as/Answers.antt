@@ -1,5 +1,4 @@
 -- `cell_file::valued_as` meets its contract. Assumes nothing.
-use Rattle.std.proofs.Common.{rules}
 use Rattle.cell_file.specs.Settings.{valued}
 use Rattle.cell_file.proofs.valued_as.Goals as goal
 

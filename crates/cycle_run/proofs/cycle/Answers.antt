@@ -22,9 +22,9 @@ cycle_rows-requires c =
     let if1 = c.if-number-ne0 in
     let cycle-refusal = c.cycle_refusal-number in
     let a = c.args in
-    let g = cycle_settings a.count a.repeats a.budget a.dt a.temp-k in
+    let g = cycle_settings a.count a.repeats a.budget a.dt a.temp_k in
     let m = settings_fit a.phases g a.s (length a.out.now) (sym cycle-refusal.ensures ∙ if1.false) in
-    rw start.ensures (((refl, (refl, (m.phases-least, (m.phases-most, m.repeats-least)))), (omega (arith, m.budget-most), m.room)))
+    rw start.ensures (((refl, (refl, (m.phases_least, (m.phases_most, m.repeats_least)))), (omega (arith, m.budget_most), m.room)))
 
 pub returns : goal.returns
 unfolding cycled cycled_rows
@@ -34,8 +34,8 @@ returns c =
     let if1 = c.if-number-ne0 in
     let cycle-refusal = c.cycle_refusal-number in
     let a = c.args in
-    let g = cycle_settings a.count a.repeats a.budget a.dt a.temp-k in
+    let g = cycle_settings a.count a.repeats a.budget a.dt a.temp_k in
     let m = settings_fit a.phases g a.s (length a.out.now) (sym cycle-refusal.ensures ∙ if1.false) in (
-      rw (← cycle-refusal.ensures, eq-eqb _ _ if1.false) (rw start.ensures at cycle-rows.ensures.0 ∙ turns_walked a.phases g a.s m.phases-least m.repeats-least),
-      rw (← cycle-refusal.ensures, eq-eqb _ _ if1.false) (rw start.ensures at cycle-rows.ensures.1 ∙ rows_walked a.phases g a.s m.phases-least m.repeats-least _),
+      rw (← cycle-refusal.ensures, eq-eqb _ _ if1.false) (rw start.ensures at cycle-rows.ensures.0 ∙ turns_walked a.phases g a.s m.phases_least m.repeats_least),
+      rw (← cycle-refusal.ensures, eq-eqb _ _ if1.false) (rw start.ensures at cycle-rows.ensures.1 ∙ rows_walked a.phases g a.s m.phases_least m.repeats_least _),
     )

@@ -58,7 +58,7 @@ overflow_add-i c =
 
 pub shape_of-out-then-run-ne-GOING : goal.shape_of-out-then-run-ne-GOING
 shape_of-out-then-run-ne-GOING c =
-    c.put_row.auto.0 ∙ c.loop-i.invariant.0.long
+    c.put_row.auto.out ∙ c.loop-i.invariant.0.long
 
 pub returns-then-run-ne-GOING : goal.returns-then-run-ne-GOING
 unfolding all_turns_at all_rows_at
@@ -89,7 +89,7 @@ loop-i-preserved c =
     let args = c.args in
     let t = turn.ensures in
     let w = turned_walking args.phases args.g loop.run loop.invariant.1.1.0 in (
-      going_on over_at (turned_at args.phases args.g) row_at _ _ _ _ _ _ loop.invariant.0 _ _ _ t if2.false row_of.ensures put-row.ensures put-row.auto.0 if1.true c.if-run-ne-GOING.false,
+      going_on over_at (turned_at args.phases args.g) row_at _ _ _ _ _ _ loop.invariant.0 _ _ _ t if2.false row_of.ensures put-row.ensures put-row.auto.out if1.true c.if-run-ne-GOING.false,
       (
         ap (λ (r : CycleState). r.rows) t ∙ turned_rows args.phases args.g loop.run (rw t at if2.false) ∙ ap (λ (k : ℕ). k + 1) loop.invariant.1.0,
         (rw t w.0, (loop.invariant.1.1.1.0, rw t (w.1 (rw t at c.if-run-ne-GOING.false)))),

@@ -6,4 +6,4 @@ use Rattle.cycle_run.proofs.finished.Goals as goal
 pub returns : goal.returns
 unfolding finished_at
 returns c =
-    rw c.Ending-of.ensures
+    rw c.ending_of.ensures

@@ -11,12 +11,12 @@ pub returns-then-phase_over : goal.returns-then-phase_over
 unfolding next_position
 returns-then-phase_over c =
     let a = c.args in
-    let ended : phase_over (phase_at a.t1 a.q.place) a.cutoff (a.q.clock ⊕ a.g.dt) ≡ true = sym c.phase_over.ensures ∙ c.if-phase_over.true in
+    let ended : phase_over (phase_at a.phases a.q.place) a.cutoff (a.q.clock ⊕ a.g.dt) ≡ true = sym c.phase_over.ensures ∙ c.if-phase_over.true in
     rw ended c.moved_on.ensures
 
 pub returns : goal.returns
 unfolding next_position
 returns c =
     let a = c.args in
-    let goes_on : phase_over (phase_at a.t1 a.q.place) a.cutoff (a.q.clock ⊕ a.g.dt) ≡ false = sym c.phase_over.ensures ∙ c.if-phase_over.false in
+    let goes_on : phase_over (phase_at a.phases a.q.place) a.cutoff (a.q.clock ⊕ a.g.dt) ≡ false = sym c.phase_over.ensures ∙ c.if-phase_over.false in
     rw goes_on

@@ -1,9 +1,9 @@
 -- `decimal_spelling::first_digit` meets its contract. Assumes nothing.
-use Prim.Native.Nat.{suc, ◌≤◌, ◌+◌, ◌-◌}
+use Prim.Native.Nat.{suc, ◌-◌}
 use mathlib.Core.Path.{◌≡◌, refl, ◌∙◌}
 use native.Mathlib.Omega.{arith}
 use borrow.Author.Rules.{rules}
-use Rattle.decimal_spelling.specs.Spelling.{pass_zeros, turn_from}
+use Rattle.decimal_spelling.specs.Spelling.{turn_from}
 use Rattle.decimal_spelling.proofs.Turns.{after, after_some, zeros-turn}
 use Rattle.decimal_spelling.proofs.first_digit.Goals as goal
 
@@ -25,7 +25,7 @@ loop-left-preserved c =
       omega (arith, c.next_left-left.ensures.1),
       rw c.next_left-left.ensures.0
           (zeros-turn (loop.left - 1) loop.zeros loop.rest loop.gap
-          (turn_from next-digit.new.0 next-digit.new.1.0 next-digit.result.value next-digit.result.last) next-digit.ensures
+          (turn_from next-digit.new.rest next-digit.new.gap next-digit.result.value next-digit.result.last) next-digit.ensures
           ∙ rw l (after_some loop.left loop.zeros loop.rest loop.gap loop.value loop.last loop-test.true ∙ loop.invariant.1)),
     )
 

@@ -1,10 +1,8 @@
 -- `decimal_spelling::first_digit` meets its contract. Assumes nothing.
-use Prim.Native.Nat.{suc, ◌≤◌, ◌+◌, ◌-◌}
-use mathlib.Core.Path.{◌≡◌, refl, ◌∙◌}
-use native.Mathlib.Omega.{arith}
-use borrow.Author.Rules.{rules}
-use Rattle.decimal_spelling.specs.Spelling.{pass_zeros, turn_from}
-use Rattle.decimal_spelling.proofs.Turns.{after, after_some, zeros-turn}
+use Prim.Native.Nat.{◌≤◌, ◌+◌}
+use mathlib.Core.Path.{◌≡◌}
+use Rattle.decimal_spelling.specs.Spelling.{pass_zeros}
+use Rattle.decimal_spelling.proofs.Turns.{after}
 use Rattle.decimal_spelling.proofs.first_digit.Given as goal
 
 abbrev pub invariant-loop-left : goal.invariant-loop-left

@@ -1,5 +1,4 @@
 -- `decimal_spelling::half_gap` meets its contract. Assumes nothing.
-use borrow.Author.Rules.{rules}
 use Rattle.decimal_spelling.specs.Spelling.{gap_of}
 use Rattle.decimal_spelling.proofs.half_gap.Goals as goal
 

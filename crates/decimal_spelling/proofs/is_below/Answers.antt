@@ -1,13 +1,12 @@
 -- `decimal_spelling::is_below` meets its contract. Assumes nothing.
-use Prim.Native.Nat.{◌≤◌, ◌-◌}
 use mathlib.Core.Path.{◌≡◌, refl}
-use mathlib.Core.Logic.{⊎_elim}
 use native.Mathlib.Omega.{arith}
 use native.Mathlib.Numerals.{add-one}
 use borrow.Author.Rules.{rules}
 use borrow.Author.Tests.{eq-eqb, ne_eqb}
 use Rattle.decimal_spelling.specs.Limbs.{below_by_of}
 use Rattle.decimal_spelling.proofs.is_below.Goals as goal
+use Rattle.decimal_spelling.proofs.is_below.Goals.{then-x-y, else-x-y}
 
 pub loop-i-init : goal.loop-i-init
 unfolding below_by_of
@@ -19,7 +18,10 @@ unfolding below_by_of
 loop-i-preserved c =
     let loop = c.loop-i in (
       search rules,
-      ⊎_elim (λ w. rw (w.1, add-one loop.i, ne_eqb _ _ w.0.taken)) (λ w. rw (w.1, add-one loop.i, eq-eqb _ _ w.0.left, loop.invariant.1)) c.if-x-y.branch,
+      elim c.if-x-y.branch [
+        | then-x-y w ↦ rw (w.below-is, add-one loop.i, ne_eqb _ _ w.if-x-y.true)
+        | else-x-y w ↦ rw (w.below-is, add-one loop.i, eq-eqb _ _ w.if-x-y.false, loop.invariant.1)
+      ],
     )
 
 pub returns : goal.returns

@@ -1,6 +1,5 @@
 -- `decimal_spelling::next_digit` meets its contract. Assumes nothing.
 use native.Mathlib.Omega.{arith}
-use borrow.Author.Rules.{rules}
 use Rattle.decimal_spelling.specs.Limbs.{whole_part_of}
 use Rattle.decimal_spelling.proofs.Turns.{next_up, next_plain}
 use Rattle.decimal_spelling.proofs.next_digit.Goals as goal
@@ -20,7 +19,7 @@ returns-then-high-low c =
     let times-ten2 = c.times_ten-2 in
     let times-ten = c.times_ten in
     let args = c.args in
-    next_up args.rest.now args.gap.now times-ten.new.0 times-ten2.new.0 take_whole.new.0 placed.result sum_of.result
+    next_up args.rest.now args.gap.now times-ten.new.a times-ten2.new.a take_whole.new.a placed.result sum_of.result
     take_whole.result is_below.result is-below2.result times-ten.ensures times-ten2.ensures take_whole.ensures.0 take_whole.ensures.1
     is_below.ensures placed.ensures sum_of.ensures is-below2.ensures c.if-high-low.true
 
@@ -34,6 +33,6 @@ returns c =
     let times-ten2 = c.times_ten-2 in
     let times-ten = c.times_ten in
     let args = c.args in
-    next_plain args.rest.now args.gap.now times-ten.new.0 times-ten2.new.0 take_whole.new.0 placed.result sum_of.result
+    next_plain args.rest.now args.gap.now times-ten.new.a times-ten2.new.a take_whole.new.a placed.result sum_of.result
     take_whole.result is_below.result is-below2.result times-ten.ensures times-ten2.ensures take_whole.ensures.0 take_whole.ensures.1
     is_below.ensures placed.ensures sum_of.ensures is-below2.ensures c.if-high-low.false

@@ -1,7 +1,6 @@
 -- `decimal_spelling::placed` meets its contract. Assumes nothing.
 use Prim.Native.Nat.{◌-◌}
 use native.Mathlib.Omega.{arith}
-use borrow.Author.Rules.{rules}
 use Prim.Native.Nat.{◌^◌, ◌%◌}
 use native.Mathlib.Nat.{one-le-pow, zero-lt-suc, mod-lt}
 use borrow.Author.Tests.{lt-ltb, le-ltb}

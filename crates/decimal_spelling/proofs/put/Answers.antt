@@ -1,5 +1,4 @@
 -- `decimal_spelling::put` meets its contract. Assumes nothing.
-use borrow.Author.Rules.{rules}
 use borrow.Author.Tests.{lt-ltb, le-ltb}
 use Rattle.decimal_spelling.proofs.put.Goals as goal
 

@@ -1,5 +1,5 @@
 -- `decimal_spelling::put_digits` meets its contract. Assumes nothing.
-use Prim.Native.Nat.{suc, ◌≤◌, ◌-◌}
+use Prim.Native.Nat.{suc, ◌-◌}
 use mathlib.Core.Path.{◌≡◌, refl, ◌∙◌}
 use native.Mathlib.Omega.{arith}
 use borrow.Author.Rules.{rules}
@@ -25,7 +25,7 @@ loop-left-preserved c =
       omega (arith, c.next_left-left.ensures.1),
       rw (put.ensures, glyph-of.ensures, c.next_left-left.ensures.0)
           (digits-turn (written loop.line loop.at) loop.rest loop.gap (loop.left - 1)
-          (turn_from next-digit.new.0 next-digit.new.1.0 next-digit.result.value next-digit.result.last) next-digit.ensures
+          (turn_from next-digit.new.rest next-digit.new.gap next-digit.result.value next-digit.result.last) next-digit.ensures
           ∙ rw l loop.invariant.1),
     )
 

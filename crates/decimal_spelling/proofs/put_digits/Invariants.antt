@@ -1,10 +1,7 @@
 -- `decimal_spelling::put_digits` meets its contract. Assumes nothing.
-use Prim.Native.Nat.{suc, ◌≤◌, ◌-◌}
-use mathlib.Core.Path.{◌≡◌, refl, ◌∙◌}
-use native.Mathlib.Omega.{arith}
-use borrow.Author.Rules.{rules}
-use Rattle.decimal_spelling.specs.Spelling.{written, put_all, digits_by, turn_from}
-use Rattle.decimal_spelling.proofs.Turns.{digits-turn}
+use Prim.Native.Nat.{◌≤◌}
+use mathlib.Core.Path.{◌≡◌}
+use Rattle.decimal_spelling.specs.Spelling.{written, put_all, digits_by}
 use Rattle.decimal_spelling.proofs.put_digits.Given as goal
 
 abbrev pub invariant-loop-left : goal.invariant-loop-left

@@ -1,5 +1,4 @@
 -- `decimal_spelling::put_if` meets its contract. Assumes nothing.
-use borrow.Author.Rules.{rules}
 use Rattle.decimal_spelling.proofs.put_if.Goals as goal
 
 pub returns-then-test : goal.returns-then-test

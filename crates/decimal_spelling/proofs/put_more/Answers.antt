@@ -1,6 +1,5 @@
 -- `decimal_spelling::put_more` meets its contract. Assumes nothing.
 use mathlib.Core.Path.{◌∙◌}
-use borrow.Author.Rules.{rules}
 use Rattle.decimal_spelling.specs.Spelling.{more_text, put_all}
 use Rattle.decimal_spelling.proofs.put_more.Goals as goal
 

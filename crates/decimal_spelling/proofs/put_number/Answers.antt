@@ -1,6 +1,5 @@
 -- `decimal_spelling::put_number` meets its contract. Assumes nothing.
 use mathlib.Core.Path.{◌∙◌}
-use borrow.Author.Rules.{rules}
 use Rattle.decimal_spelling.specs.Spelling.{written, spelling, put_all, size_text}
 use Rattle.decimal_spelling.proofs.Turns.{sign_is}
 use Rattle.decimal_spelling.proofs.put_number.Goals as goal

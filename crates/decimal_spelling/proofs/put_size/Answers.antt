@@ -1,5 +1,4 @@
 -- `decimal_spelling::put_size` meets its contract. Assumes nothing.
-use borrow.Author.Rules.{rules}
 use Rattle.decimal_spelling.specs.Spelling.{size_text}
 use Rattle.decimal_spelling.proofs.put_size.Goals as goal
 

@@ -1,11 +1,8 @@
 -- `decimal_spelling::put_whole` meets its contract. Assumes nothing.
-use Prim.Native.Nat.{ℕ, suc, ◌≤◌, ◌-◌}
-use mathlib.Core.Path.{◌≡◌, refl, ◌∙◌, ap}
-use native.Mathlib.Omega.{arith}
-use borrow.Author.Rules.{rules}
+use Prim.Native.Nat.{◌≤◌}
+use mathlib.Core.Path.{◌≡◌}
 use Prim.Native.Nat.{◌^◌, ◌/◌}
 use Rattle.decimal_spelling.specs.Spelling.{written, put_all, whole_text}
-use Rattle.decimal_spelling.proofs.Turns.{power_is, power_pos, whole_turn}
 use Rattle.decimal_spelling.proofs.put_whole.Given as goal
 
 abbrev pub invariant-loop-left : goal.invariant-loop-left

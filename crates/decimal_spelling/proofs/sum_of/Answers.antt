@@ -1,11 +1,9 @@
 -- `decimal_spelling::sum_of` meets its contract. Assumes nothing.
-use Prim.Native.Nat.{◌≤◌, ◌-◌}
 use mathlib.Core.Path.{◌≡◌, refl, ap}
 use native.Mathlib.Omega.{arith}
 use native.Mathlib.Numerals.{add-one}
 use borrow.Author.Rules.{rules}
-use lib.ListN.{length}
-use Rattle.decimal_spelling.specs.Limbs.{sum_by, carried, Carried}
+use Rattle.decimal_spelling.specs.Limbs.{sum_by, Carried}
 use Rattle.decimal_spelling.proofs.sum_of.Goals as goal
 
 pub loop-i-init : goal.loop-i-init

@@ -1,11 +1,8 @@
 -- `decimal_spelling::sum_of` meets its contract. Assumes nothing.
 use Prim.Native.Nat.{◌≤◌, ◌-◌}
-use mathlib.Core.Path.{◌≡◌, refl, ap}
-use native.Mathlib.Omega.{arith}
-use native.Mathlib.Numerals.{add-one}
-use borrow.Author.Rules.{rules}
+use mathlib.Core.Path.{◌≡◌}
 use lib.ListN.{length}
-use Rattle.decimal_spelling.specs.Limbs.{sum_by, carried, Carried}
+use Rattle.decimal_spelling.specs.Limbs.{sum_by, carried}
 use Rattle.decimal_spelling.proofs.sum_of.Given as goal
 
 abbrev pub invariant-loop-i : goal.invariant-loop-i

@@ -1,11 +1,9 @@
 -- `decimal_spelling::times_ten` meets its contract. Assumes nothing.
-use Prim.Native.Nat.{◌≤◌, ◌-◌}
 use mathlib.Core.Path.{◌≡◌, refl, ap}
 use native.Mathlib.Omega.{arith}
 use native.Mathlib.Numerals.{add-one}
 use borrow.Author.Rules.{rules}
-use lib.ListN.{length}
-use Rattle.decimal_spelling.specs.Limbs.{ten_by, carried, Carried}
+use Rattle.decimal_spelling.specs.Limbs.{ten_by, Carried}
 use Rattle.decimal_spelling.proofs.times_ten.Goals as goal
 
 pub loop-i-init : goal.loop-i-init

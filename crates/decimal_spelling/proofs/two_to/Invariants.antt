@@ -1,11 +1,7 @@
 -- `decimal_spelling::two_to` meets its contract. Assumes nothing.
 use Prim.Native.Nat.{◌≤◌, ◌-◌}
-use mathlib.Core.Path.{◌≡◌, refl}
-use native.Mathlib.Omega.{arith}
-use native.Mathlib.Numerals.{add-one}
-use borrow.Author.Rules.{rules}
+use mathlib.Core.Path.{◌≡◌}
 use Prim.Native.Nat.{◌^◌}
-use native.Mathlib.Nat.{pow-suc, pow-le-pow_right, zero-lt-suc}
 use Rattle.decimal_spelling.proofs.two_to.Given as goal
 
 abbrev pub invariant-loop-i : goal.invariant-loop-i

@@ -1,8 +1,7 @@
 -- `decimal_text::digit_run` meets its contract. Assumes nothing.
-use Rattle.std.proofs.Common.{◌≡◌, ◌+◌, ◌-◌, ◌≤◌, min, true, false, length, get_or, drop, sym, refl, ◌∙◌, arith, rules}
+use Rattle.std.proofs.Common.{◌≡◌, true, false, get_or, sym, refl, ◌∙◌, arith}
 use native.Mathlib.Nat.{min-eq_left}
-use borrow.Author.Tests.{not-true, not-false}
-use Rattle.decimal_text.specs.Digits.{most, is_digit, digits_ahead, value_with}
+use Rattle.decimal_text.specs.Digits.{is_digit}
 use Rattle.decimal_text.proofs.Runs.{turn_value, turn_end, stop_value, stop_end, over_value, over_end}
 use Rattle.decimal_text.proofs.digit_run.Goals as goal
 
@@ -15,21 +14,21 @@ returns-then-not-digit c =
     let loop-test = c.loop-at-test in
     let loop = c.loop-at in
     let args = c.args in
-    let d : is_digit (get_or args.s.now loop.at 0) ≡ false = not-true _ c.if-not-digit.true in (
+    let d : is_digit (get_or args.s.now loop.at 0) ≡ false = c.if-not-digit.true in (
       omega (arith, stop_end loop.value args.s.now loop.at loop-test.true d),
       sym (min-eq_left loop.invariant.0) ∙ rw (stop_value loop.value args.s.now loop.at loop-test.true d) at loop.invariant.1,
     )
 
 pub with_digit-value-requires : goal.with_digit-value-requires
 with_digit-value-requires c =
-    not-false _ c.if-not-digit.false
+    c.if-not-digit.false
 
 pub loop-at-preserved : goal.loop-at-preserved
 loop-at-preserved c =
     let loop-test = c.loop-at-test in
     let loop = c.loop-at in
     let args = c.args in
-    let d : is_digit (get_or args.s.now loop.at 0) ≡ true = not-false _ c.if-not-digit.false in (
+    let d : is_digit (get_or args.s.now loop.at 0) ≡ true = c.if-not-digit.false in (
       omega (arith, c.with_digit-value.ensures),
       rw c.with_digit-value.ensures (turn_value loop.value args.s.now loop.at loop-test.true d ∙ loop.invariant.1),
       turn_end loop.value args.s.now loop.at loop-test.true d ∙ loop.invariant.2,

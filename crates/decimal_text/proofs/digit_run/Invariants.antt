@@ -1,9 +1,6 @@
 -- `decimal_text::digit_run` meets its contract. Assumes nothing.
-use Rattle.std.proofs.Common.{◌≡◌, ◌+◌, ◌-◌, ◌≤◌, min, true, false, length, get_or, drop, sym, refl, ◌∙◌, arith, rules}
-use native.Mathlib.Nat.{min-eq_left}
-use borrow.Author.Tests.{not-true, not-false}
-use Rattle.decimal_text.specs.Digits.{most, is_digit, digits_ahead, value_with}
-use Rattle.decimal_text.proofs.Runs.{turn_value, turn_end, stop_value, stop_end, over_value, over_end}
+use Rattle.std.proofs.Common.{◌≡◌, ◌+◌, ◌-◌, ◌≤◌, min, length, drop}
+use Rattle.decimal_text.specs.Digits.{most, digits_ahead, value_with}
 use Rattle.decimal_text.proofs.digit_run.Given as goal
 
 abbrev pub invariant-loop-at : goal.invariant-loop-at

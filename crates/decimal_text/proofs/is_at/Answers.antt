@@ -1,5 +1,5 @@
 -- `decimal_text::is_at` meets its contract. Assumes nothing.
-use Rattle.std.proofs.Common.{rules, le-ltb, lt-ltb}
+use Rattle.std.proofs.Common.{le-ltb, lt-ltb}
 use Rattle.decimal_text.proofs.is_at.Goals as goal
 
 pub returns-then-at-s : goal.returns-then-at-s

@@ -1,5 +1,5 @@
 -- `decimal_text::past` meets its contract. Assumes nothing.
-use Rattle.std.proofs.Common.{sym, ◌∙◌, arith, rules}
+use Rattle.std.proofs.Common.{sym, ◌∙◌, arith}
 use Rattle.decimal_text.proofs.Runs.{at_inside}
 use Rattle.decimal_text.proofs.past.Goals as goal
 

@@ -1,6 +1,5 @@
 -- `decimal_text::raised` meets its contract. Assumes nothing.
-use Rattle.std.proofs.Common.{◌≡◌, ◌-◌, ◌*◌, ◌^◌, ◌≤◌, min, ◌∙◌, arith, rules}
-use Rattle.decimal_text.specs.Digits.{most}
+use Rattle.std.proofs.Common.{◌≡◌, ◌∙◌, arith, rules}
 use Rattle.decimal_text.proofs.Runs.{raise_turn}
 use Rattle.decimal_text.proofs.raised.Goals as goal
 

@@ -1,7 +1,6 @@
 -- `decimal_text::raised` meets its contract. Assumes nothing.
-use Rattle.std.proofs.Common.{◌≡◌, ◌-◌, ◌*◌, ◌^◌, ◌≤◌, min, ◌∙◌, arith, rules}
+use Rattle.std.proofs.Common.{◌≡◌, ◌-◌, ◌*◌, ◌^◌, ◌≤◌, min}
 use Rattle.decimal_text.specs.Digits.{most}
-use Rattle.decimal_text.proofs.Runs.{raise_turn}
 use Rattle.decimal_text.proofs.raised.Given as goal
 
 abbrev pub invariant-loop-i : goal.invariant-loop-i

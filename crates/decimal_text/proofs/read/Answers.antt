@@ -1,5 +1,5 @@
 -- `decimal_text::read` meets its contract. Assumes nothing.
-use Rattle.std.proofs.Common.{◌∙◌, rules}
+use Rattle.std.proofs.Common.{◌∙◌}
 use borrow.Author.Tests.{not-false}
 use Rattle.decimal_text.proofs.Answers.{read_none, read_long, read_number, digits_most}
 use Rattle.decimal_text.proofs.read.Goals as goal

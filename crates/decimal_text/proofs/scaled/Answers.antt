@@ -1,5 +1,5 @@
 -- `decimal_text::scaled` meets its contract. Assumes nothing.
-use Rattle.std.proofs.Common.{◌+◌, ◌∙◌, arith, rules}
+use Rattle.std.proofs.Common.{◌+◌, ◌∙◌, arith}
 use Rattle.decimal_text.specs.DecimalText.{scaled_by}
 use Rattle.decimal_text.proofs.Cut.{nearest_long, scaled_places, scaled_raised}
 use Rattle.decimal_text.proofs.scaled.Goals as goal

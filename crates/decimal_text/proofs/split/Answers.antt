@@ -1,5 +1,4 @@
 -- `decimal_text::split` meets its contract. Assumes nothing.
-use Rattle.std.proofs.Common.{rules}
 use Rattle.decimal_text.proofs.InParts.{split-is}
 use Rattle.decimal_text.proofs.split.Goals as goal
 

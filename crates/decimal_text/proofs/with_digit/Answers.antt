@@ -1,5 +1,5 @@
 -- `decimal_text::with_digit` meets its contract. Assumes nothing.
-use Rattle.std.proofs.Common.{arith, rules}
+use Rattle.std.proofs.Common.{arith}
 use Rattle.decimal_text.proofs.Runs.{digit_low, digit_high}
 use Rattle.decimal_text.proofs.with_digit.Goals as goal
 

@@ -1,5 +1,4 @@
 -- `decimal_text::with_sign` meets its contract. Assumes nothing.
-use Rattle.std.proofs.Common.{rules}
 use Rattle.decimal_text.specs.DecimalText.{signed}
 use Rattle.decimal_text.proofs.with_sign.Goals as goal
 

@@ -40,11 +40,11 @@ overflow_mul-n c =
 pub returns-then-not-a-n : goal.returns-then-not-a-n
 returns-then-not-a-n c =
     let s = c.args in
-    sym (wrong-length s.a.now s.b.now s.n c.if-n-gt32.false (not-true _ c.if-not-a-n.true))
+    sym (wrong-length s.a.now s.b.now s.n c.if-n-gt32.false c.if-not-a-n.true)
 
 pub returns : goal.returns
 returns c =
     let s = c.args in
     c.refusal_unless.ensures
     ∙ ap₂ (λ (x y : Bool). refusal_unless (x && y) sheet) c.entries_finite.ensures c.entries_finite-2.ensures
-    ∙ sym (by_entries s.a.now s.b.now s.n c.if-n-gt32.false (not-false _ c.if-not-a-n.false))
+    ∙ sym (by_entries s.a.now s.b.now s.n c.if-n-gt32.false c.if-not-a-n.false)

@@ -21,8 +21,8 @@ load_row-requires c =
 pub loop-row-preserved : goal.loop-row-preserved
 loop-row-preserved c =
     let turn = c.loop-row in
-    let loaded = c.Load-row in
-    (search rules, (loaded.auto.0 ∙ turn.invariant.1.0, rw (range_next 0 turn.row _ _ (omega arith), loaded.ensures, ← turn.invariant.1.1)))
+    let loaded = c.load_row in
+    (search rules, (loaded.auto.m ∙ turn.invariant.1.0, rw (range_next 0 turn.row _ _ (omega arith), loaded.ensures, ← turn.invariant.1.1)))
 
 pub shape_of-m : goal.shape_of-m
 shape_of-m c =

@@ -13,11 +13,11 @@ load_matrix-requires c =
 
 pub eliminate-stopped-requires : goal.eliminate-stopped-requires
 eliminate-stopped-requires c =
-    (search rules, c.load_matrix.auto.0 ∙ zeros_long _ _ c.requires.1.0)
+    (search rules, c.load_matrix.auto.m ∙ zeros_long _ _ c.requires.1.0)
 
 pub shape_of-m-then-stopped-ne0 : goal.shape_of-m-then-stopped-ne0
 shape_of-m-then-stopped-ne0 c =
-    c.eliminate-stopped.auto.0 ∙ c.load_matrix.auto.0
+    c.eliminate-stopped.auto.a ∙ c.load_matrix.auto.m
 
 pub returns-then-stopped-ne0 : goal.returns-then-stopped-ne0
 unfolding solution_refusal reduced loaded first_refusal answer
@@ -34,11 +34,11 @@ returns-then-stopped-ne0 c =
 
 pub substitute-missing-requires : goal.substitute-missing-requires
 substitute-missing-requires c =
-    (search rules, c.eliminate-stopped.auto.0 ∙ (c.load_matrix.auto.0 ∙ zeros_long _ _ c.requires.1.0))
+    (search rules, c.eliminate-stopped.auto.a ∙ (c.load_matrix.auto.m ∙ zeros_long _ _ c.requires.1.0))
 
 pub shape_of-m : goal.shape_of-m
 shape_of-m c =
-    c.eliminate-stopped.auto.0 ∙ c.load_matrix.auto.0
+    c.eliminate-stopped.auto.a ∙ c.load_matrix.auto.m
 
 pub returns : goal.returns
 unfolding solution_refusal solution reduced loaded first_refusal

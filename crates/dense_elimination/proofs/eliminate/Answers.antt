@@ -3,7 +3,6 @@
 use Prim.Native.Nat.{◌≤◌, ◌+◌, ◌-◌}
 use mathlib.Core.Path.{◌≡◌, refl, sym, ◌∙◌}
 use mathlib.Core.Bool.{false}
-use mathlib.Core.Logic.{⊎_elim}
 use native.Mathlib.Omega.{arith}
 use lib.ListN.{length}
 use borrow.Author.Rules.{rules}
@@ -12,13 +11,7 @@ use Rattle.matrix_columns.specs.Columns.{system}
 use Rattle.dense_elimination.specs.Elimination.{tiny, pivot_of, column_done, eliminated}
 use Rattle.dense_elimination.proofs.Pivots.{pivot_first, pivot_next, pivot_row, column_none, column_some}
 use Rattle.dense_elimination.proofs.eliminate.Goals as goal
-
--- a turn of the search leaves the pivot of one row more
-larger-is : (c : tie.After-larger invariant-loop decreases-loop invariant-columns decreases-columns) → c.larger.result ≡ pivot_of c.before.before.before.before.before.before.before.before.columns.a c.before.before.before.before.before.before.before.before.columns.col (c.before.before.before.before.loop.row + 1)
-larger-is c =
-    let candidate2 = c.before.candidate2 in
-    let loop = c.before.before.before.before.loop in
-    rw (c.larger.ensures, candidate2.ensures, loop.invariant.1.1.1.0) (pivot_next _ _ _ loop.invariant.0)
+use Rattle.dense_elimination.proofs.eliminate.Goals.{then-row-n+else-p, else-row-n}
 
 pub columns-init : goal.columns-init
 columns-init c =
@@ -31,7 +24,9 @@ loop-row-init c =
 pub loop-row-preserved : goal.loop-row-preserved
 loop-row-preserved c =
     let loop = c.loop-row in
-    (search rules, (search rules, (loop.invariant.1.1.0, (larger-is c, ⊎_elim (λ w. λ e. w.2.left) (λ w. λ e. absurd (w.left e)) c.if-row-n.branch))))
+    let e : c.larger-p.result ≡ pivot_of c.columns.a c.columns.col (loop.row + 1) = rw (c.larger-p.ensures, c.candidate.ensures, c.loop-row.invariant.1.1.1.0) (pivot_next _ _ _ c.loop-row.invariant.0) in
+    let f : loop.row + 1 ≡ c.args.n → tiny c.larger-p.result.val ≡ false = elim c.if-row-n.branch [ then-row-n+else-p w ↦ λ e. w.if-p.false | else-row-n w ↦ λ e. absurd (w.if-row-n.false e) ] in
+    (search rules, (search rules, (loop.invariant.1.1.0, (e, f))))
 
 pub take_pivot-requires : goal.take_pivot-requires
 take_pivot-requires c =
@@ -48,7 +43,7 @@ columns-preserved c =
     let taken = c.take_pivot in
     let e : found.row ≡ c.args.n = omega arith in
     let some = column_some _ _ (system turn.a turn.x) _ (rw e at found.invariant.1.1.1.0) (found.invariant.1.1.1.1 e) in
-    (search rules, (found.invariant.1.1.0, (taken.auto.0 ∙ turn.invariant.1.1.0, rw taken.ensures (sym (try_next _ _ _ _ turn.invariant.1.1.1 ∙ some)))))
+    (search rules, (found.invariant.1.1.0, (taken.auto.a ∙ turn.invariant.1.1.0, rw taken.ensures (sym (try_next _ _ _ _ turn.invariant.1.1.1 ∙ some)))))
 
 pub shape_of-a-after-columns : goal.shape_of-a-after-columns
 shape_of-a-after-columns c =
@@ -70,5 +65,6 @@ returns-then-p c =
     let if1 = c.if-row-n in
     let columns-test = c.columns-test in
     let columns = c.columns in
+    let e : c.larger-p.result ≡ pivot_of c.columns.a c.columns.col (c.loop-row.row + 1) = rw (c.larger-p.ensures, c.candidate.ensures, c.loop-row.invariant.1.1.1.0) (pivot_next _ _ _ c.loop-row.invariant.0) in
     try_ends _ _ _ columns.col _ _ columns-test.true (λ z. absurd (omega (arith, z))) columns.invariant.1.1.1
-    (column_none _ _ (system columns.a columns.x) _ (rw if1.true at (larger-is (before))) c.if-p.true)
+    (column_none _ _ (system columns.a columns.x) _ (rw if1.true at e) c.if-p.true)

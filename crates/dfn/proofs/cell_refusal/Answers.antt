@@ -1,5 +1,6 @@
 -- `dfn::cell_refusal` meets its contract. Assumes nothing.
-use borrow.Author.Tests.{not-true, not-false}
+use mathlib.Core.Bool.{not}
+use mathlib.Core.Path.{ap}
 use Rattle.std.proofs.Common.{arith, rules}
 use Rattle.refusal.specs.Numbers.{refusal_unless, first_refusal}
 use Rattle.dfn_solid.specs.Room.{room}
@@ -9,15 +10,15 @@ use Rattle.dfn.proofs.cell_refusal.Goals as goal
 pub returns-then-not-grid_fits : goal.returns-then-not-grid_fits
 unfolding first_refusal refusal_unless
 returns-then-not-grid_fits c =
-    rw (← c.grid_fits.ensures, not-true c.grid_fits.result c.if-not-grid_fits.true)
+    rw (← c.grid_fits.ensures, c.if-not-grid_fits.true)
 
 pub overflow_mul-g : goal.overflow_mul-g
 overflow_mul-g c =
     let if1 = c.if-not-grid_fits in
     let grid-fits = c.grid_fits in
     let args = c.args in
-    let g = grid_of args.g grid-fits.result grid-fits.ensures if1.false in
-    let r = room args.g.n_x_neg args.g.n_r g.most-neg g.most-r in
+    let g = grid_of args.g grid-fits.result grid-fits.ensures (ap not if1.false) in
+    let r = room args.g.n_x_neg args.g.n_r g.most_neg g.most_r in
     omega (arith, r)
 
 pub overflow_mul-g-2 : goal.overflow_mul-g-2
@@ -25,8 +26,8 @@ overflow_mul-g-2 c =
     let if1 = c.if-not-grid_fits in
     let grid-fits = c.grid_fits in
     let args = c.args in
-    let g = grid_of args.g grid-fits.result grid-fits.ensures if1.false in
-    let r = room args.g.n_x_pos args.g.n_r g.most_pos g.most-r in
+    let g = grid_of args.g grid-fits.result grid-fits.ensures (ap not if1.false) in
+    let r = room args.g.n_x_pos args.g.n_r g.most_pos g.most_r in
     omega (arith, r)
 
 pub overflow_add-g : goal.overflow_add-g
@@ -34,16 +35,16 @@ overflow_add-g c =
     let if1 = c.if-not-grid_fits in
     let grid-fits = c.grid_fits in
     let args = c.args in
-    let g = grid_of args.g grid-fits.result grid-fits.ensures if1.false in
-    omega (arith, g.most-neg)
+    let g = grid_of args.g grid-fits.result grid-fits.ensures (ap not if1.false) in
+    omega (arith, g.most_neg)
 
 pub overflow_add-g-2 : goal.overflow_add-g-2
 overflow_add-g-2 c =
     let if1 = c.if-not-grid_fits in
     let grid-fits = c.grid_fits in
     let args = c.args in
-    let g = grid_of args.g grid-fits.result grid-fits.ensures if1.false in
-    omega (arith, g.most-neg, g.most_pos)
+    let g = grid_of args.g grid-fits.result grid-fits.ensures (ap not if1.false) in
+    omega (arith, g.most_neg, g.most_pos)
 
 pub returns : goal.returns
 unfolding first_refusal refusal_unless
@@ -58,7 +59,7 @@ returns c =
     let grid-fits = c.grid_fits in
     rw (
       ← grid-fits.ensures,
-      not-false grid-fits.result if1.false,
+      if1.false,
       c.refusal_unless.ensures,
       fit.ensures,
       limits-fit.ensures,

@@ -5,77 +5,63 @@ use Rattle.dfn.proofs.Endings.{valid, refused_step_lem, made_step, not_finite_st
 use Rattle.std.proofs.Common.{rules}
 use Rattle.dfn.proofs.step_in_place.Goals as goal
 
--- the step's arguments, and what its cell has met where nothing refuses it
-abbrev given : tie.Else1 → tie.Start
-given c = c.before.before.before.before.before.before.before
-
-fit : (c : tie.Else1)
-    → Valid (cell_of (given c).args.p (given c).args.g (given c).args.time-s (given c).args.neg.now (given c).args.pos.now (given c).args.c-e.now
-    (given c).args.time-s (given c).args.time-s (given c).args.time-s (given c).args.time-s)
-fit c =
-    let first_refusal_lem = c.before.first-refusal in
-    let load-refusal = c.before.before.load-refusal in
-    let cell-refusal = c.before.before.before.cell-refusal in
-    let s = (given c).args in
-    let cell = cell-refusal in
-    let first = first_refusal_lem in
-    valid s.p s.g s.time-s s.neg.now s.pos.now s.c-e.now s.current s.dt cell.result load-refusal.result first.result cell.ensures
-    first.ensures c.if1.false
-
 pub returns-then-number-ne0 : goal.returns-then-number-ne0
 returns-then-number-ne0 c =
     let if1 = c.if-number-ne0 in
-    let first_refusal_lem = c.first_refusal-number in
-    let load-refusal = c.load_refusal in
-    let cell-refusal = c.cell_refusal-unfit in
-    let args = c.args in
-    let s = args in
-    let cell = cell-refusal in
-    let load = load-refusal in
-    let first = first_refusal_lem in
-    refused_step_lem s.p s.g s.time-s s.neg.now s.pos.now s.c-e.now s.current s.dt cell.result load.result first.result cell.ensures
+    let s = c.args in
+    let cell = c.cell_refusal-unfit in
+    let load = c.load_refusal in
+    let first = c.first_refusal-number in
+    refused_step_lem s.p s.g s.time_s s.neg.now s.pos.now s.c_e.now s.current s.dt cell.result load.result first.result cell.ensures
     first.ensures load.ensures
     if1.true c.no_report.result c.no_report.ensures
 
 pub particle_params-anode-requires : goal.particle_params-anode-requires
 particle_params-anode-requires c =
-    (fit c).nodes.least-r
+    (valid c.args.p c.args.g c.args.time_s c.args.neg.now c.args.pos.now c.args.c_e.now c.args.current c.args.dt c.cell_refusal-unfit.result c.load_refusal.result c.first_refusal-number.result c.cell_refusal-unfit.ensures
+    c.first_refusal-number.ensures c.if-number-ne0.false).nodes.least_r
 
 pub particle_params-cathode-requires : goal.particle_params-cathode-requires
 particle_params-cathode-requires c =
-    (fit c).nodes.least-r
+    (valid c.args.p c.args.g c.args.time_s c.args.neg.now c.args.pos.now c.args.c_e.now c.args.current c.args.dt c.cell_refusal-unfit.result c.load_refusal.result c.first_refusal-number.result c.cell_refusal-unfit.ensures
+    c.first_refusal-number.ensures c.if-number-ne0.false).nodes.least_r
 
 pub update_solid-new_neg-requires : goal.update_solid-new_neg-requires
 update_solid-new_neg-requires c =
-    let n = (fit c).nodes in
-    rw c.particle_params-anode.ensures (n.least-r, (n.most-r, n.most-neg))
+    let n = (valid c.args.p c.args.g c.args.time_s c.args.neg.now c.args.pos.now c.args.c_e.now c.args.current c.args.dt c.cell_refusal-unfit.result c.load_refusal.result c.first_refusal-number.result c.cell_refusal-unfit.ensures
+    c.first_refusal-number.ensures c.if-number-ne0.false).nodes in
+    rw c.particle_params-anode.ensures (n.least_r, (n.most_r, n.most_neg))
 
 pub update_solid-new_pos-requires : goal.update_solid-new_pos-requires
 update_solid-new_pos-requires c =
-    let n = (fit c).nodes in
-    rw c.particle_params-cathode.ensures (n.least-r, (n.most-r, n.most_pos))
+    let n = (valid c.args.p c.args.g c.args.time_s c.args.neg.now c.args.pos.now c.args.c_e.now c.args.current c.args.dt c.cell_refusal-unfit.result c.load_refusal.result c.first_refusal-number.result c.cell_refusal-unfit.ensures
+    c.first_refusal-number.ensures c.if-number-ne0.false).nodes in
+    rw c.particle_params-cathode.ensures (n.least_r, (n.most_r, n.most_pos))
 
 pub update_electrolyte-new_c_e-requires : goal.update_electrolyte-new_c_e-requires
 update_electrolyte-new_c_e-requires c =
-    let n = (fit c).nodes in
-    (n.most-neg, n.most_pos)
+    let n = (valid c.args.p c.args.g c.args.time_s c.args.neg.now c.args.pos.now c.args.c_e.now c.args.current c.args.dt c.cell_refusal-unfit.result c.load_refusal.result c.first_refusal-number.result c.cell_refusal-unfit.ensures
+    c.first_refusal-number.ensures c.if-number-ne0.false).nodes in
+    (n.most_neg, n.most_pos)
 
 pub report_of-report-requires : goal.report_of-report-requires
 report_of-report-requires c =
-    let f = fit c in
-    (f.nodes, (f.coeffs-neg, f.coeffs-pos))
+    let f = (valid c.args.p c.args.g c.args.time_s c.args.neg.now c.args.pos.now c.args.c_e.now c.args.current c.args.dt c.cell_refusal-unfit.result c.load_refusal.result c.first_refusal-number.result c.cell_refusal-unfit.ensures
+    c.first_refusal-number.ensures c.if-number-ne0.false) in
+    (f.nodes, (f.coeffs_neg, f.coeffs_pos))
 
 pub outcome_refusal-outcome-requires : goal.outcome_refusal-outcome-requires
 outcome_refusal-outcome-requires c =
-    (fit c).nodes
+    (valid c.args.p c.args.g c.args.time_s c.args.neg.now c.args.pos.now c.args.c_e.now c.args.current c.args.dt c.cell_refusal-unfit.result c.load_refusal.result c.first_refusal-number.result c.cell_refusal-unfit.ensures
+    c.first_refusal-number.ensures c.if-number-ne0.false).nodes
 
 pub returns-then-outcome-ne0 : goal.returns-then-outcome-ne0
 returns-then-outcome-ne0 c =
-    let s = (given fits).args in
+    let s = c.args in
     let cell = c.cell_refusal-unfit in
     let load = c.load_refusal in
     let first = c.first_refusal-number in
-    not_finite_step s.p s.g s.time-s s.neg.now s.pos.now s.c-e.now s.current s.dt
+    not_finite_step s.p s.g s.time_s s.neg.now s.pos.now s.c_e.now s.current s.dt
     cell.result load.result first.result cell.ensures first.ensures load.ensures c.if-number-ne0.false
     c.anode.result c.cathode.result c.particle_params-anode.result c.particle_params-cathode.result
     c.update_solid-new_neg.result c.update_solid-new_pos.result c.update_electrolyte-new_c_e.result
@@ -86,11 +72,11 @@ returns-then-outcome-ne0 c =
 
 pub returns : goal.returns
 returns c =
-    let s = (given fits).args in
+    let s = c.args in
     let cell = c.cell_refusal-unfit in
     let load = c.load_refusal in
     let first = c.first_refusal-number in
-    made_step s.p s.g s.time-s s.neg.now s.pos.now s.c-e.now s.current s.dt
+    made_step s.p s.g s.time_s s.neg.now s.pos.now s.c_e.now s.current s.dt
     cell.result load.result first.result cell.ensures first.ensures load.ensures c.if-number-ne0.false
     c.anode.result c.cathode.result c.particle_params-anode.result c.particle_params-cathode.result
     c.update_solid-new_neg.result c.update_solid-new_pos.result c.update_electrolyte-new_c_e.result

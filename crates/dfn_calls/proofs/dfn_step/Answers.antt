@@ -5,7 +5,7 @@ use Rattle.dfn_calls.proofs.dfn_step.Goals as goal
 
 pub shape_of-answer : goal.shape_of-answer
 shape_of-answer c =
-    c.put_stepped.auto.0
+    c.put_stepped.auto.answer
 
 pub returns-then-refusal-eq0 : goal.returns-then-refusal-eq0
 returns-then-refusal-eq0 c =
@@ -17,12 +17,13 @@ returns-then-refusal-eq0 c =
     let fill-512 = c.fill_512 in
     let read-f64 = c.read_f64-t in
     let config-at = c.config_at-g in
-    let params_at_lem = c.params_at_lem in
+    let params_at_lem = c.params_at in
     let args = c.args in
     let a = args in
-    step_taken a.cell.now a.answer.now a.current-a a.dt-s params_at_lem.result config-at.result read-f64.result _ _ _
+    let r = step_taken a.cell.now a.answer.now a.current_a a.dt_s params_at_lem.result config-at.result read-f64.result _ _ _
     params_at_lem.ensures config-at.ensures read-f64.ensures fill-512.ensures fill-5122.ensures fill-33.ensures
-    step-in-place.result _ _ _ step-in-place.ensures _ if1.true put-stepped.ensures
+    step-in-place.result _ _ _ step-in-place.ensures _ if1.true put-stepped.ensures in
+    record { number = r.0; written = r.1 }
 
 pub returns-else-refusal-eq0 : goal.returns-else-refusal-eq0
 returns-else-refusal-eq0 c =
@@ -32,9 +33,10 @@ returns-else-refusal-eq0 c =
     let fill-512 = c.fill_512 in
     let read-f64 = c.read_f64-t in
     let config-at = c.config_at-g in
-    let params_at_lem = c.params_at_lem in
+    let params_at_lem = c.params_at in
     let args = c.args in
     let a = args in
-    step_left a.cell.now a.answer.now a.current-a a.dt-s params_at_lem.result config-at.result read-f64.result _ _ _
+    let r = step_left a.cell.now a.answer.now a.current_a a.dt_s params_at_lem.result config-at.result read-f64.result _ _ _
     params_at_lem.ensures config-at.ensures read-f64.ensures fill-512.ensures fill-5122.ensures fill-33.ensures
-    step-in-place.result _ _ _ step-in-place.ensures c.if-refusal-eq0.false
+    step-in-place.result _ _ _ step-in-place.ensures c.if-refusal-eq0.false in
+    record { number = r.0; written = r.1 }

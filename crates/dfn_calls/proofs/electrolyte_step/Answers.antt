@@ -8,7 +8,7 @@ use Rattle.dfn_calls.proofs.electrolyte_step.Goals as goal
 
 pub shape_of-answer : goal.shape_of-answer
 shape_of-answer c =
-    c.put_electrolyte.auto.0
+    c.put_electrolyte.auto.s
 
 pub returns-then-refusal-eq0 : goal.returns-then-refusal-eq0
 unfolding electrolyte_return electrolyte_after
@@ -18,8 +18,9 @@ returns-then-refusal-eq0 c =
     let step-concentration = c.step_concentration-out in
     let electrolyte-at = c.electrolyte_at in
     let args = c.args in
-    accepted (λ (t : ElectrolyteAnswer). t.refusal) (λ (t : ElectrolyteAnswer). put_electrolyte args.answer.now t.state) _ _ _ (rw electrolyte-at.ensures at
-    step-concentration.ensures) _ if1.true put-electrolyte.ensures
+    let r = accepted (λ (t : ElectrolyteAnswer). t.refusal) (λ (t : ElectrolyteAnswer). put_electrolyte args.answer.now t.state) _ _ _ (rw electrolyte-at.ensures at
+    step-concentration.ensures) _ if1.true put-electrolyte.ensures in
+    record { number = r.0; written = r.1 }
 
 pub returns-else-refusal-eq0 : goal.returns-else-refusal-eq0
 unfolding electrolyte_return electrolyte_after
@@ -27,5 +28,6 @@ returns-else-refusal-eq0 c =
     let step-concentration = c.step_concentration-out in
     let electrolyte-at = c.electrolyte_at in
     let args = c.args in
-    refused (λ (t : ElectrolyteAnswer). t.refusal) (λ (t : ElectrolyteAnswer). put_electrolyte args.answer.now t.state) _ _ _ (rw electrolyte-at.ensures at
-    step-concentration.ensures) c.if-refusal-eq0.false
+    let r = refused (λ (t : ElectrolyteAnswer). t.refusal) (λ (t : ElectrolyteAnswer). put_electrolyte args.answer.now t.state) _ _ _ (rw electrolyte-at.ensures at
+    step-concentration.ensures) c.if-refusal-eq0.false in
+    record { number = r.0; written = r.1 }

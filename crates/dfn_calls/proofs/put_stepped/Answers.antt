@@ -8,7 +8,7 @@ shape_of-answer c =
     let put-report = c.put_report in
     let put_last = c.put_last in
     let put-places = c.put_places in
-    put-report.auto.0 ∙ put_last.auto.0 ∙ put-places.auto.0
+    put-report.auto.s ∙ put_last.auto.s ∙ put-places.auto.s
 
 pub returns : goal.returns
 returns c =

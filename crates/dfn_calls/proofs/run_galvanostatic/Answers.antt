@@ -17,7 +17,7 @@ returns-then-refusal-made c =
     let if1 = c.if-refusal-made in
     let ending-refusal = c.ending_refusal-refusal in
     let run-galvanostatic = c.run_galvanostatic-run in
-    let Cell-at = c.Cell-at in
+    let Cell-at = c.cell_at in
     let args = c.args in
     let kept = rw Cell-at.ensures at run-galvanostatic.ensures in
     let p =
@@ -25,14 +25,14 @@ returns-then-refusal-made c =
     t.ended.ending t.rows) _ _ _
     kept.0
     _ (rw ending-refusal.ensures at if1.true) (rw (put-cell.ensures, ending-number.ensures) at put-ending.ensures) in
-    (ending-refusal.ensures ∙ p.0, (kept.1.0, (kept.1.1, p.1)))
+    record { number = ending-refusal.ensures ∙ p.0; rows = kept.1.0; lowest = kept.1.1; written = p.1 }
 
 pub returns-else-refusal-made : goal.returns-else-refusal-made
 unfolding galvanostatic_return galvanostatic_rows galvanostatic_lowest galvanostatic_after
 returns-else-refusal-made c =
     let ending-refusal = c.ending_refusal-refusal in
     let run-galvanostatic = c.run_galvanostatic-run in
-    let Cell-at = c.Cell-at in
+    let Cell-at = c.cell_at in
     let args = c.args in
     let kept = rw Cell-at.ensures at run-galvanostatic.ensures in
     let p =
@@ -40,4 +40,4 @@ returns-else-refusal-made c =
     t.rows) _ _ _
     kept.0
     (rw ending-refusal.ensures at c.if-refusal-made.false) in
-    (ending-refusal.ensures ∙ p.0, (kept.1.0, (kept.1.1, p.1)))
+    record { number = ending-refusal.ensures ∙ p.0; rows = kept.1.0; lowest = kept.1.1; written = p.1 }

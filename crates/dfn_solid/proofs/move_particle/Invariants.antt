@@ -7,7 +7,7 @@ use Rattle.dfn_solid.proofs.NodeKinds.{one_place, inner_is, surface_is, last_pla
 use Rattle.dfn_solid.proofs.move_particle.Given as goal
 
 abbrev pub invariant-loop-i : goal.invariant-loop-i
-invariant-loop-i l = (1 ≤ l.i) × ((l.i ≤ l.v.n - 1) × ((l : List Float) → l.initial.out ≡ places_by l.base 1 (clamped_node l.v l.c l.d l.base) l → l.out ≡ places_by l.base l.i (clamped_node l.v l.c l.d l.base) l))
+invariant-loop-i l = (1 ≤ l.i) × ((l.i ≤ l.v.n - 1) × ((xs : List Float) → l.initial.out ≡ places_by l.base 1 (clamped_node l.v l.c l.d l.base) xs → l.out ≡ places_by l.base l.i (clamped_node l.v l.c l.d l.base) xs))
 
 abbrev pub decreases-loop-i : goal.decreases-loop-i
 decreases-loop-i l = l.v.n - 1 - l.i

@@ -6,4 +6,4 @@ use Rattle.discharge_run.proofs.finished.Goals as goal
 pub returns : goal.returns
 unfolding finished_run
 returns c =
-    rw c.Ending-of.ensures
+    rw c.ending_of.ensures

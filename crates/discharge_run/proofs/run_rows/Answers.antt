@@ -22,7 +22,7 @@ returns-then-run-ne-GOING c =
     let pre = c.requires in
     let a = c.args in
     let q = over_at_once over_of (turned a.w) last_row_of a.first a.out.now a.total if1.true in
-    (c.finished.ensures ∙ ap finished_run q.0, (q.1, summary_ends rows_of _ _ 0 _ _ _ _ q pre.0 (sym (summary_none _ _))))
+    record { result = c.finished.ensures ∙ ap finished_run q.0; rows = q.1; lowest = summary_ends rows_of _ _ 0 _ _ _ _ q pre.0 (sym (summary_none _ _)) }
 
 pub loop-i-init : goal.loop-i-init
 unfolding run_after rows_after
@@ -52,7 +52,7 @@ returns-then-run-eq-REFUSED c =
     let t = turn.ensures in
     let q = ends_refused over_of (turned w) last_row_of _ _ _ _ _ _ loop.invariant.0 _ t if2.true loop-test.true in
     let n = ap rows_of t ∙ turned_refused w loop.run (rw t at if2.true) ∙ loop.invariant.1.0 in
-    (c.finished-then-run-eq-REFUSED.ensures ∙ ap finished_run q.0, (q.1, summary_ends rows_of _ _ loop.i _ _ _ _ q n loop.invariant.1.1))
+    record { result = c.finished-then-run-eq-REFUSED.ensures ∙ ap finished_run q.0; rows = q.1; lowest = summary_ends rows_of _ _ loop.i _ _ _ _ q n loop.invariant.1.1 }
 
 pub overflow_mul-i : goal.overflow_mul-i
 overflow_mul-i c =
@@ -75,12 +75,12 @@ overflow_add-i c =
 
 pub shape_of-out-then-run-ne-GOING-2 : goal.shape_of-out-then-run-ne-GOING-2
 shape_of-out-then-run-ne-GOING-2 c =
-    c.put_row.auto.0 ∙ c.loop-i.invariant.0.long
+    c.put_row.auto.out ∙ c.loop-i.invariant.0.long
 
 pub shape_of-lowest-then-run-ne-GOING-2 : goal.shape_of-lowest-then-run-ne-GOING-2
 shape_of-lowest-then-run-ne-GOING-2 c =
     let loop = c.loop-i in
-    c.update_lowest.auto.0 ∙ rw loop.invariant.1.1 (summary_length _ _ _)
+    c.update_lowest.auto.lowest ∙ rw loop.invariant.1.1 (summary_length _ _ _)
 
 pub returns-then-run-ne-GOING-2 : goal.returns-then-run-ne-GOING-2
 unfolding all_turns all_rows finished_run
@@ -101,7 +101,7 @@ returns-then-run-ne-GOING-2 c =
     let s =
     summary_updated _ _ _ row_of.result _ _ loop.i _ loop.invariant.1.1 refl put-row.ensures update-lowest.ensures (omega (arith, loop-test.true, pre.1.1.0, loop.invariant.0.long))
     (group_within _ _ _ loop-test.true pre.1.1.1) in
-    (c.finished-then-run-ne-GOING-2.ensures ∙ ap finished_run q.0, (q.1, summary_ends rows_of _ _ (loop.i + 1) _ _ _ _ q n s))
+    record { result = c.finished-then-run-ne-GOING-2.ensures ∙ ap finished_run q.0; rows = q.1; lowest = summary_ends rows_of _ _ (loop.i + 1) _ _ _ _ q n s }
 
 pub loop-i-smaller : goal.loop-i-smaller
 loop-i-smaller c =
@@ -120,7 +120,7 @@ loop-i-preserved c =
     let w = c.args.w in
     let t = turn.ensures in
     let g =
-    going_on over_of (turned w) last_row_of _ _ _ _ _ _ loop.invariant.0 _ _ _ t if2.false row_of.ensures put-row.ensures put-row.auto.0 loop-test.true c.if-run-ne-GOING-2.false in
+    going_on over_of (turned w) last_row_of _ _ _ _ _ _ loop.invariant.0 _ _ _ t if2.false row_of.ensures put-row.ensures put-row.auto.out loop-test.true c.if-run-ne-GOING-2.false in
     let n = ap rows_of t ∙ turned_rows w loop.run (rw t at if2.false) ∙ ap (λ (k : ℕ). k + 1) loop.invariant.1.0 in
     let s =
     summary_updated _ _ _ row_of.result _ _ loop.i _ loop.invariant.1.1 refl put-row.ensures update-lowest.ensures (omega (arith, loop-test.true, pre.1.1.0, loop.invariant.0.long))
@@ -142,4 +142,4 @@ returns c =
     let loop = c.loop-i in
     let w = c.args.w in
     let q = ends_full over_of (turned w) last_row_of _ _ _ _ _ _ loop.invariant.0 loop-test.false in
-    (c.finished-2.ensures ∙ ap finished_run q.0, (q.1, summary_ends rows_of _ _ loop.i _ _ _ _ q loop.invariant.1.0 loop.invariant.1.1))
+    record { result = c.finished-2.ensures ∙ ap finished_run q.0; rows = q.1; lowest = summary_ends rows_of _ _ loop.i _ _ _ _ q loop.invariant.1.0 loop.invariant.1.1 }

@@ -13,7 +13,7 @@ unfolding discharged discharged_rows discharged_lowest
 returns-then-number-ne0 c =
     let e = c.run_refusal-number.ensures in
     let n = ne_eqb _ _ c.if-number-ne0.true in
-    (rw (← e, n), (rw (← e, n), rw (← e, n) (sym (summary_none _ _))))
+    record { result = rw (← e, n); rows = rw (← e, n); lowest = rw (← e, n) (sym (summary_none _ _)) }
 
 pub run_rows-requires : goal.run_rows-requires
 unfolding started
@@ -30,4 +30,4 @@ returns c =
     let start = c.start in
     let if1 = c.if-number-ne0 in
     let run-refusal = c.run_refusal-number in
-    rw (← run-refusal.ensures, eq-eqb _ _ if1.false, ← start.ensures) run_rows.ensures
+    record { result = rw (← run-refusal.ensures, eq-eqb _ _ if1.false, ← start.ensures) run_rows.ensures.result; rows = rw (← run-refusal.ensures, eq-eqb _ _ if1.false, ← start.ensures) run_rows.ensures.rows; lowest = rw (← run-refusal.ensures, eq-eqb _ _ if1.false, ← start.ensures) run_rows.ensures.lowest }

@@ -33,4 +33,4 @@ returns-in-3 c =
 pub returns-in_default : goal.returns-in_default
 unfolding refusal_unless
 returns-in_default c =
-    rw (unknown _ c.in_default-own.rest.0.0.1 c.in_default-own.rest.0.1 c.in_default-own.rest.1)
+    rw (unknown _ c.in_default.in_default-own.rest.0.0.1 c.in_default.in_default-own.rest.0.1 c.in_default.in_default-own.rest.1)

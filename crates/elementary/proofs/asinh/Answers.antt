@@ -15,17 +15,9 @@ use Rattle.elementary.proofs.asinh.Goals as goal
 tested : (x a : Float) (b : Bool) → a ≡ abs_of x → lt a «0·0009765625» ≡ b → is_small x ≡ b
 tested x a b e h = ap (λ (z : Float). lt z «0·0009765625») (sym e) ∙ h
 
--- what `ln` gives, before the sign
-found : (c : tie.After-ln) → c.ln.result ≡ asinh_at (abs_of c.before.before.before.before.args.x)
-found c = c.ln.ensures ∙ ap (λ (r : Float). ln_of (c.before.before.before.abs.result ⊕ r)) c.before.sqrt.ensures.0 ∙ ap asinh_at c.before.before.before.abs.ensures
-
 signed : (x r : Float) (b : Bool) → negative x ≡ b → is_small x ≡ false → r ≡ asinh_at (abs_of x) → cond b (neg r) r ≡ asinh_of x
 unfolding asinh_log
 signed x r b h n e = ap (λ (z : Float). cond b (neg z) z) e ∙ ap (λ (z : Bool). cond z (neg (asinh_at (abs_of x))) (asinh_at (abs_of x))) (sym h) ∙ sym (asinh_log_lem x n)
-
--- the test that was not met, where `ln` has been called
-not-small : (c : tie.After-ln) → is_small c.before.before.before.before.args.x ≡ false
-not-small c = tested c.before.before.before.before.args.x c.before.before.before.abs.result false c.before.before.before.abs.ensures c.before.before.if1.false
 
 pub returns-then-a : goal.returns-then-a
 unfolding asinh_taylor
@@ -34,8 +26,10 @@ returns-then-a c =
 
 pub returns-then-is_negative : goal.returns-then-is_negative
 returns-then-is_negative c =
-    signed c.args.x _ true (sym c.is_negative.ensures ∙ c.if-is_negative.true) (not-small c) (found c)
+    signed c.args.x _ true (sym c.is_negative.ensures ∙ c.if-is_negative.true) (tested c.args.x c.abs-a.result false c.abs-a.ensures c.if-a.false)
+    (c.ln-r.ensures ∙ ap (λ (r : Float). ln_of (c.abs-a.result ⊕ r)) c.sqrt.ensures.value ∙ ap asinh_at c.abs-a.ensures)
 
 pub returns : goal.returns
 returns c =
-    signed c.args.x _ false (sym c.is_negative.ensures ∙ c.if-is_negative.false) (not-small c) (found c)
+    signed c.args.x _ false (sym c.is_negative.ensures ∙ c.if-is_negative.false) (tested c.args.x c.abs-a.result false c.abs-a.ensures c.if-a.false)
+    (c.ln-r.ensures ∙ ap (λ (r : Float). ln_of (c.abs-a.result ⊕ r)) c.sqrt.ensures.value ∙ ap asinh_at c.abs-a.ensures)

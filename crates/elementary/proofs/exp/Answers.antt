@@ -11,7 +11,7 @@ use Rattle.elementary.proofs.exp.Goals as goal
 
 pub returns-then-t : goal.returns-then-t
 returns-then-t c =
-    sym (exp_zero c.args.t (subst T (sym c.well-formed.0.1) tt) c.if-t.true)
+    sym (exp_zero c.args.t (subst T (sym c.well_formed.0.1) tt) c.if-t.true)
 
 pub float_from_bits-result : goal.float_from_bits-result
 float_from_bits-result c =
@@ -28,8 +28,4 @@ returns-then-t-3 c =
 
 pub returns : goal.returns
 returns c =
-    let short-series = c.short_series in
-    let if3 = c.if-t-3 in
-    let if2 = c.if-t-2 in
-    let start = before in
-    c.exp_squarings.ensures ∙ ap (squarings 10) short-series.ensures ∙ powered_is start.args.t ∙ sym (exp_mid start.args.t if2.false if3.false)
+    c.exp_squarings.ensures ∙ ap (squarings 10) c.short_series.ensures ∙ powered_is c.args.t ∙ sym (exp_mid c.args.t c.if-t-2.false c.if-t-3.false)

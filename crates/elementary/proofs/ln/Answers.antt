@@ -19,16 +19,6 @@ use Rattle.elementary.proofs.LnSplits.{ln_split_lem, nan_ln, infinity_ln, zero_l
 use borrow.Author.Rules.{rules}
 use Rattle.elementary.proofs.ln.Goals as goal
 
--- what owning an `f64` tells: the format holds it
-representable : (c : tie.Start) → T (fits binary64 c.args.x)
-representable c = subst T (sym c.well-formed.0.1) tt
-
-abbrev bits : (c : tie.Start) → ℕ
-bits c = to_bits binary64 c.args.x
-
-back : (c : tie.Start) → f64 (bits c) ≡ c.args.x
-back c = of_bits-to_bits binary64 c.args.x (representable c)
-
 zeros : (f64 0xfff0_0000_0000_0000 ≡ ln_of «0·0») × (f64 0xfff0_0000_0000_0000 ≡ ln_of (f64 (2 ^ 63)))
 unfolding of_bits
 zeros = (sym (zero_ln false (pos 0)), sym (zero_ln true (pos 0)))
@@ -37,23 +27,11 @@ minus-infinity : T (not (nan_bits binary64 0xfff0_0000_0000_0000))
 unfolding nan_bits
 minus-infinity = tt
 
--- the number is above zero, and it has parts
-above : (c : tie.After-parts-of) → 0 < bits c.before.before.before.before.before
-above c = omega (arith, c.before.before.if4.false)
-
-normal : (c : tie.After-parts-of) → Normal (units_of (bits c.before.before.before.before.before / 2 ^ 52) (bits c.before.before.before.before.before % 2 ^ 52)) c.parts-of.result.c c.parts-of.result.w
-normal c = c.parts-of.ensures.number (above c) c.before.if5.false
-
--- the logarithm, by the parts
-split : (c : tie.After-parts-of) → ln_of c.before.before.before.before.before.args.x ≡ ln_split (f64 (0x3fe0_0000_0000_0000 + c.parts-of.result.c)) (minus c.parts-of.result.w 1074)
-split c =
-    let if5 = c.before.if5 in
-    let before = c.before.before.before.before.before in
-    let start = before in
-    let b = bits start in
-    ap ln_of (sym (back start))
-    ∙ ln_split_lem (f64 b) (units_of (b / 2 ^ 52) (b % 2 ^ 52)) c.parts-of.result.c c.parts-of.result.w (of_bits-fits binary64 b) (positive_value b if5.false)
-    (positive_units b (above c)) (normal c)
+-- the logarithm of x, by the parts of the number whose bits are b
+split : (x : Float) (b c w : ℕ) → f64 b ≡ x → 0 < b → b < 0x7ff0_0000_0000_0000 → Normal (units_of (b / 2 ^ 52) (b % 2 ^ 52)) c w → ln_of x ≡ ln_split (f64 (0x3fe0_0000_0000_0000 + c)) (minus w 1074)
+split x b c w e p q n =
+    ap ln_of (sym e)
+    ∙ ln_split_lem (f64 b) (units_of (b / 2 ^ 52) (b % 2 ^ 52)) c w (of_bits-fits binary64 b) (positive_value b q) (positive_units b p) n
 
 pub returns-then-x : goal.returns-then-x
 returns-then-x c =
@@ -69,14 +47,14 @@ float_from_bits-result c =
 
 pub returns-then-b : goal.returns-then-b
 returns-then-b c =
-    zeros.1 ∙ ap ln_of (ap f64 (sym c.if-b.true) ∙ back c)
+    zeros.1 ∙ ap ln_of (ap f64 (sym c.if-b.true) ∙ of_bits-to_bits binary64 c.args.x (subst T (sym c.well_formed.0.1) tt))
 
 pub returns-then-b-ge9223372036854775808 : goal.returns-then-b-ge9223372036854775808
 returns-then-b-ge9223372036854775808 c =
-    let if2 = c.if-b-ge9223372036854775808 in
-    let start = before in
-    let lt : bits start < 2 ^ 64 = to_bits-lt binary64 start.args.x (representable start) in
-    zero_by_zero ∙ sym (subst (λ (v : Float). ln_of v ≡ nan) (back start) (at_negative ln_of nan_ln negative_ln (bits start) (lt_of_le-ne if2.true (λ e. c.if-b.false
+    let x = c.args.x in
+    let f : T (fits binary64 x) = (subst T (sym c.well_formed.0.1) tt) in
+    let lt : to_bits binary64 x < 2 ^ 64 = to_bits-lt binary64 x f in
+    zero_by_zero ∙ sym (subst (λ (v : Float). ln_of v ≡ nan) (of_bits-to_bits binary64 x f) (at_negative ln_of nan_ln negative_ln (to_bits binary64 x) (lt_of_le-ne c.if-b-ge9223372036854775808.true (λ e. c.if-b.false
     (sym e))) lt))
 
 pub float_from_bits-result-then-b-eq0 : goal.float_from_bits-result-then-b-eq0
@@ -85,38 +63,40 @@ float_from_bits-result-then-b-eq0 c =
 
 pub returns-then-b-eq0 : goal.returns-then-b-eq0
 returns-then-b-eq0 c =
-    zeros.0 ∙ ap ln_of (ap f64 (sym c.if-b-eq0.true) ∙ back c)
+    zeros.0 ∙ ap ln_of (ap f64 (sym c.if-b-eq0.true) ∙ of_bits-to_bits binary64 c.args.x (subst T (sym c.well_formed.0.1) tt))
 
 pub returns-then-b-ge9218868437227405312 : goal.returns-then-b-ge9218868437227405312
 returns-then-b-ge9218868437227405312 c =
-    sym (subst (λ (v : Float). ln_of v ≡ v) (back start) (at_top ln_of nan_ln infinity_ln (bits start) c.if-b-ge9218868437227405312.true c.if-b-ge9223372036854775808.false))
+    sym (subst (λ (v : Float). ln_of v ≡ v) (of_bits-to_bits binary64 c.args.x (subst T (sym c.well_formed.0.1) tt)) (at_top ln_of nan_ln infinity_ln (to_bits binary64 c.args.x) c.if-b-ge9218868437227405312.true c.if-b-ge9223372036854775808.false))
 
 pub overflow_add-m : goal.overflow_add-m
 overflow_add-m c =
-    omega (arith, (normal c).below)
+    omega (arith, (c.parts_of-p.ensures.number (omega (arith, c.if-b-eq0.false)) c.if-b-ge9218868437227405312.false).below)
 
 pub float_from_bits-m : goal.float_from_bits-m
 float_from_bits-m c =
-    no_nan_bits (0x3fe0_0000_0000_0000 + c.parts_of-p.result.c) (omega (arith, (normal c).below))
+    no_nan_bits (0x3fe0_0000_0000_0000 + c.parts_of-p.result.c) (omega (arith, (c.parts_of-p.ensures.number (omega (arith, c.if-b-eq0.false)) c.if-b-ge9218868437227405312.false).below))
 
 pub overflow_add-w : goal.overflow_add-w
 overflow_add-w c =
-    omega (arith, (normal c).top)
+    omega (arith, (c.parts_of-p.ensures.number (omega (arith, c.if-b-eq0.false)) c.if-b-ge9218868437227405312.false).top)
 
 pub exponent-requires : goal.exponent-requires
 exponent-requires c =
-    omega (arith, (normal c).top)
+    omega (arith, (c.parts_of-p.ensures.number (omega (arith, c.if-b-eq0.false)) c.if-b-ge9218868437227405312.false).top)
 
 pub returns-then-m : goal.returns-then-m
 returns-then-m c =
     let m = f64 (0x3fe0_0000_0000_0000 + c.parts_of-p.result.c) in
-    c.ln_parts.ensures ∙ ap (ln_parts (m ⊘ two)) c.exponent.ensures ∙ sym (split p ∙ split_large m c.parts_of-p.result.w c.if-m.true)
+    c.ln_parts.ensures ∙ ap (ln_parts (m ⊘ two)) c.exponent.ensures ∙ sym (split c.args.x (to_bits binary64 c.args.x) c.parts_of-p.result.c c.parts_of-p.result.w (of_bits-to_bits binary64 c.args.x (subst T (sym c.well_formed.0.1) tt)) (omega (arith, c.if-b-eq0.false)) c.if-b-ge9218868437227405312.false (c.parts_of-p.ensures.number (omega (arith, c.if-b-eq0.false)) c.if-b-ge9218868437227405312.false)
+    ∙ split_large m c.parts_of-p.result.w c.if-m.true)
 
 pub exponent-requires-2 : goal.exponent-requires-2
 exponent-requires-2 c =
-    omega (arith, (normal c).top)
+    omega (arith, (c.parts_of-p.ensures.number (omega (arith, c.if-b-eq0.false)) c.if-b-ge9218868437227405312.false).top)
 
 pub returns : goal.returns
 returns c =
     let m = f64 (0x3fe0_0000_0000_0000 + c.parts_of-p.result.c) in
-    c.ln_parts-2.ensures ∙ ap (ln_parts m) c.exponent-2.ensures ∙ sym (split p ∙ split_small m (minus c.parts_of-p.result.w 1074) c.if-m.false)
+    c.ln_parts-2.ensures ∙ ap (ln_parts m) c.exponent-2.ensures ∙ sym (split c.args.x (to_bits binary64 c.args.x) c.parts_of-p.result.c c.parts_of-p.result.w (of_bits-to_bits binary64 c.args.x (subst T (sym c.well_formed.0.1) tt)) (omega (arith, c.if-b-eq0.false)) c.if-b-ge9218868437227405312.false (c.parts_of-p.ensures.number (omega (arith, c.if-b-eq0.false)) c.if-b-ge9218868437227405312.false)
+    ∙ split_small m (minus c.parts_of-p.result.w 1074) c.if-m.false)

@@ -43,7 +43,7 @@ returns-then-run-eq-REFUSED c =
     let t = turn.ensures in
     let q = ends_refused over_of (turned w) last_row_of _ _ _ _ _ _ loop.invariant.0 _ t if1.true loop-test.true in
     let n = ap rows_of t ∙ turned_refused w loop.run (rw t at if1.true) ∙ loop.invariant.1.0 in
-    (c.finished.ensures ∙ ap finished_run q.0, (q.1, summary_ends rows_of _ _ loop.i _ _ _ _ q n loop.invariant.1.1))
+    record { answer = c.finished.ensures ∙ ap finished_run q.0; rows = q.1; lowest = summary_ends rows_of _ _ loop.i _ _ _ _ q n loop.invariant.1.1 }
 
 pub overflow_mul-i : goal.overflow_mul-i
 overflow_mul-i c =
@@ -66,12 +66,12 @@ overflow_add-i c =
 
 pub shape_of-out-then-run-ne-GOING : goal.shape_of-out-then-run-ne-GOING
 shape_of-out-then-run-ne-GOING c =
-    c.put_row.auto.0 ∙ c.loop-i.invariant.0.long
+    c.put_row.auto.out ∙ c.loop-i.invariant.0.long
 
 pub shape_of-lowest-then-run-ne-GOING : goal.shape_of-lowest-then-run-ne-GOING
 shape_of-lowest-then-run-ne-GOING c =
     let loop = c.loop-i in
-    c.update_lowest.auto.0 ∙ rw loop.invariant.1.1 (summary_length _ _ _)
+    c.update_lowest.auto.lowest ∙ rw loop.invariant.1.1 (summary_length _ _ _)
 
 pub returns-then-run-ne-GOING : goal.returns-then-run-ne-GOING
 unfolding all_turns all_rows finished_run
@@ -91,7 +91,7 @@ returns-then-run-ne-GOING c =
     let s =
     summary_updated _ _ _ turn.result.row _ _ loop.i _ loop.invariant.1.1 refl put-row.ensures update-lowest.ensures
     (omega (arith, loop-test.true, pre.1.1.1.0, loop.invariant.0.long)) (group_within _ _ _ loop-test.true pre.1.1.1.1) in
-    (c.finished-then-run-ne-GOING.ensures ∙ ap finished_run q.0, (q.1, summary_ends rows_of _ _ (loop.i + 1) _ _ _ _ q n s))
+    record { answer = c.finished-then-run-ne-GOING.ensures ∙ ap finished_run q.0; rows = q.1; lowest = summary_ends rows_of _ _ (loop.i + 1) _ _ _ _ q n s }
 
 pub loop-i-smaller : goal.loop-i-smaller
 loop-i-smaller c =
@@ -108,7 +108,7 @@ loop-i-preserved c =
     let pre = c.requires in
     let w = c.args.w in
     let t = turn.ensures in
-    let g = going_on over_of (turned w) last_row_of _ _ _ _ _ _ loop.invariant.0 _ _ _ t if1.false refl put-row.ensures put-row.auto.0 loop-test.true c.if-run-ne-GOING.false in
+    let g = going_on over_of (turned w) last_row_of _ _ _ _ _ _ loop.invariant.0 _ _ _ t if1.false refl put-row.ensures put-row.auto.out loop-test.true c.if-run-ne-GOING.false in
     let n = ap rows_of t ∙ turned_rows w loop.run (rw t at if1.false) ∙ ap (λ (k : ℕ). k + 1) loop.invariant.1.0 in
     let s =
     summary_updated _ _ _ turn.result.row _ _ loop.i _ loop.invariant.1.1 refl put-row.ensures update-lowest.ensures
@@ -130,4 +130,4 @@ returns c =
     let loop = c.loop-i in
     let w = c.args.w in
     let q = ends_full over_of (turned w) last_row_of _ _ _ _ _ _ loop.invariant.0 loop-test.false in
-    (c.finished-2.ensures ∙ ap finished_run q.0, (q.1, summary_ends rows_of _ _ loop.i _ _ _ _ q loop.invariant.1.0 loop.invariant.1.1))
+    record { answer = c.finished-2.ensures ∙ ap finished_run q.0; rows = q.1; lowest = summary_ends rows_of _ _ loop.i _ _ _ _ q loop.invariant.1.0 loop.invariant.1.1 }

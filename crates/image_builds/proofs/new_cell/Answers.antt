@@ -11,10 +11,12 @@ returns-then-refusal-eq0 c =
     let if1 = c.if-refusal-eq0 in
     let built_cell = c.built_cell-new in
     let args = c.args in
-    accepted (λ (t : SpmBuildAnswer). t.refusal) (λ (t : SpmBuildAnswer). put_cell args.answer.now t.solver) _ _ _ built_cell.ensures _ if1.true put-cell.ensures
+    let r = accepted (λ (t : SpmBuildAnswer). t.refusal) (λ (t : SpmBuildAnswer). put_cell args.answer.now t.solver) _ _ _ built_cell.ensures _ if1.true put-cell.ensures in
+    record { number = r.0; written = r.1 }
 
 pub returns-else-refusal-eq0 : goal.returns-else-refusal-eq0
 returns-else-refusal-eq0 c =
     let built_cell = c.built_cell-new in
     let args = c.args in
-    refused (λ (t : SpmBuildAnswer). t.refusal) (λ (t : SpmBuildAnswer). put_cell args.answer.now t.solver) _ _ _ built_cell.ensures c.if-refusal-eq0.false
+    let r = refused (λ (t : SpmBuildAnswer). t.refusal) (λ (t : SpmBuildAnswer). put_cell args.answer.now t.solver) _ _ _ built_cell.ensures c.if-refusal-eq0.false in
+    record { number = r.0; written = r.1 }

@@ -11,11 +11,13 @@ returns-then-refusal-eq0 c =
     let if1 = c.if-refusal-eq0 in
     let built-electrolyte = c.built_electrolyte-new in
     let args = c.args in
-    accepted (λ (t : ElectrolyteAnswer). t.refusal) (λ (t : ElectrolyteAnswer). put_electrolyte args.answer.now t.state) _ _ _ built-electrolyte.ensures _ if1.true
-    put-electrolyte.ensures
+    let r = accepted (λ (t : ElectrolyteAnswer). t.refusal) (λ (t : ElectrolyteAnswer). put_electrolyte args.answer.now t.state) _ _ _ built-electrolyte.ensures _ if1.true
+    put-electrolyte.ensures in
+    record { number = r.0; written = r.1 }
 
 pub returns-else-refusal-eq0 : goal.returns-else-refusal-eq0
 returns-else-refusal-eq0 c =
     let built-electrolyte = c.built_electrolyte-new in
     let args = c.args in
-    refused (λ (t : ElectrolyteAnswer). t.refusal) (λ (t : ElectrolyteAnswer). put_electrolyte args.answer.now t.state) _ _ _ built-electrolyte.ensures c.if-refusal-eq0.false
+    let r = refused (λ (t : ElectrolyteAnswer). t.refusal) (λ (t : ElectrolyteAnswer). put_electrolyte args.answer.now t.state) _ _ _ built-electrolyte.ensures c.if-refusal-eq0.false in
+    record { number = r.0; written = r.1 }

@@ -17,7 +17,8 @@ returns-then-refusal-eq0 c =
     let sheet_at_lem = c.sheet_at in
     let args = c.args in
     let e : new.result ≡ particle_made args.image.now = rw (← sheet_at_lem.ensures, ← read_word.ensures) new.ensures in
-    accepted (λ (t : ParticleAnswer). t.refusal) (λ (t : ParticleAnswer). put_particle args.answer.now 0 t.particle) _ _ _ e _ if1.true put-particle.ensures
+    let r = accepted (λ (t : ParticleAnswer). t.refusal) (λ (t : ParticleAnswer). put_particle args.answer.now 0 t.particle) _ _ _ e _ if1.true put-particle.ensures in
+    record { number = r.0; written = r.1 }
 
 pub returns-else-refusal-eq0 : goal.returns-else-refusal-eq0
 unfolding particle_made
@@ -27,4 +28,5 @@ returns-else-refusal-eq0 c =
     let sheet_at_lem = c.sheet_at in
     let args = c.args in
     let e : new.result ≡ particle_made args.image.now = rw (← sheet_at_lem.ensures, ← read_word.ensures) new.ensures in
-    refused (λ (t : ParticleAnswer). t.refusal) (λ (t : ParticleAnswer). put_particle args.answer.now 0 t.particle) _ _ _ e c.if-refusal-eq0.false
+    let r = refused (λ (t : ParticleAnswer). t.refusal) (λ (t : ParticleAnswer). put_particle args.answer.now 0 t.particle) _ _ _ e c.if-refusal-eq0.false in
+    record { number = r.0; written = r.1 }

@@ -12,4 +12,4 @@ returns-in-5 c =
 pub returns-in_default : goal.returns-in_default
 unfolding ready_params
 returns-in_default c =
-    rw (ne_eqb _ _ c.in_default-own.rest.1) c.lfp_graphite.ensures
+    rw (ne_eqb _ _ c.in_default.in_default-own.rest.1) c.lfp_graphite.ensures

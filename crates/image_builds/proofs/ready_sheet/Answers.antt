@@ -17,4 +17,4 @@ returns-in-2 c =
 pub returns-in_default : goal.returns-in_default
 unfolding ready_sheet
 returns-in_default c =
-    rw (ne_eqb _ _ c.in_default-own.rest.0.1, ne_eqb _ _ c.in_default-own.rest.1) c.nmc_cathode.ensures
+    rw (ne_eqb _ _ c.in_default.in_default-own.rest.0.1, ne_eqb _ _ c.in_default.in_default-own.rest.1) c.nmc_cathode.ensures

@@ -11,4 +11,4 @@ returns-in-11 c =
 pub returns-in_default : goal.returns-in_default
 unfolding cell_number
 returns-in_default c =
-    rw (ne_eqb _ _ c.in_default-own.rest.1) c.soc_estimate.ensures
+    rw (ne_eqb _ _ c.in_default.in_default-own.rest.1) c.soc_estimate.ensures

@@ -16,4 +16,4 @@ returns-in-18 c =
 pub returns-in_default : goal.returns-in_default
 unfolding electrolyte_number
 returns-in_default c =
-    rw (ne_eqb _ _ c.in_default-own.rest.0.1, ne_eqb _ _ c.in_default-own.rest.1) c.dt_stable.ensures
+    rw (ne_eqb _ _ c.in_default.in_default-own.rest.0.1, ne_eqb _ _ c.in_default.in_default-own.rest.1) c.dt_stable.ensures

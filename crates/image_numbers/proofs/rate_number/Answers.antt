@@ -21,4 +21,4 @@ returns-in-15 c =
 pub returns-in_default : goal.returns-in_default
 unfolding rate_number
 returns-in_default c =
-    rw (ne_eqb _ _ c.in_default-own.rest.0.0.1, ne_eqb _ _ c.in_default-own.rest.0.1, ne_eqb _ _ c.in_default-own.rest.1) c.kappa_eff.ensures
+    rw (ne_eqb _ _ c.in_default.in_default-own.rest.0.0.1, ne_eqb _ _ c.in_default.in_default-own.rest.0.1, ne_eqb _ _ c.in_default.in_default-own.rest.1) c.kappa_eff.ensures

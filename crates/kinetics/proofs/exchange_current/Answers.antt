@@ -6,4 +6,4 @@ use Rattle.kinetics.proofs.exchange_current.Goals as goal
 pub returns : goal.returns
 unfolding exchange
 returns c =
-    rw (c.sqrt.ensures.0, c.clamp-theta_s.ensures, c.surface_theta.ensures)
+    rw (c.sqrt.ensures.value, c.clamp-theta_s.ensures, c.surface_theta.ensures)

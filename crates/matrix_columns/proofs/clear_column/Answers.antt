@@ -18,7 +18,7 @@ loop-row-preserved c =
     let a = c.args in
     let turn = c.loop-row in
     let reduced = c.reduce_row in
-    (search rules, (search rules, (reduced.auto.0 ∙ turn.invariant.1.1.0, rw (range_next (a.col + 1) turn.row _ _ turn.invariant.0, ← turn.invariant.1.1.1, reduced.ensures))))
+    (search rules, (search rules, (reduced.auto.a ∙ turn.invariant.1.1.0, rw (range_next (a.col + 1) turn.row _ _ turn.invariant.0, ← turn.invariant.1.1.1, reduced.ensures))))
 
 pub shape_of-a : goal.shape_of-a
 shape_of-a c =

@@ -9,7 +9,7 @@ returns-then-row-col c =
 
 pub shape_of-a : goal.shape_of-a
 shape_of-a c =
-    c.swap_rows.auto.0
+    c.swap_rows.auto.a
 
 pub returns : goal.returns
 returns c =

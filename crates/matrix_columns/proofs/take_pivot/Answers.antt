@@ -6,7 +6,7 @@ use Rattle.matrix_columns.proofs.take_pivot.Goals as goal
 
 pub shape_of-a : goal.shape_of-a
 shape_of-a c =
-    c.clear_column.auto.0 ∙ c.exchange_rows.auto.0
+    c.clear_column.auto.a ∙ c.exchange_rows.auto.a
 
 pub returns : goal.returns
 unfolding pivot_taken

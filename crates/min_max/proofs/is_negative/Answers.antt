@@ -15,4 +15,4 @@ float_to_bits-result c =
 
 pub returns : goal.returns
 returns c =
-    let x = c.args.x in sign_bit x (subst T (sym c.well-formed.0.1) tt) (nan_test x false c.if-x.false)
+    let x = c.args.x in sign_bit x (subst T (sym c.well_formed.0.1) tt) (nan_test x false c.if-x.false)

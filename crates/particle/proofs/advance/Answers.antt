@@ -14,4 +14,4 @@ returns c =
     let a = c.args in
     let p = particle_of a.params a.n a.c in
     rw (c.sub_steps.ensures, c.prepare-v.ensures, c.inverse_radii-w.ensures, c.spacing-dr.ensures)
-    (times_cong _ _ a.turns (same_sub_step (sub_step_params_of p a.d-s a.j-n a.dt) c.requires.1) a.c)
+    (times_cong _ _ a.turns (same_sub_step (sub_step_params_of p a.d_s a.j_n a.dt) c.requires.1) a.c)

@@ -4,4 +4,4 @@ use Rattle.particle.proofs.fields_fit.Goals as goal
 
 pub returns : goal.returns
 returns c =
-    rw (c.profile_fits.ensures, c.fits2.ensures)
+    rw (c.profile_fits.ensures, c.fits.ensures)

@@ -1,6 +1,5 @@
 -- `plain_text::after_mark` meets its contract. Assumes nothing.
 use mathlib.Core.Path.{sym, ◌∙◌}
-use borrow.Author.Rules.{rules}
 use mathlib.Core.List.{[], ◌∷◌}
 use Rattle.plain_text.specs.Text.{after_mark}
 use Rattle.plain_text.specs.Pieces.{starts_long, rest_is}

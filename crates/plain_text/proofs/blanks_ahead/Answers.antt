@@ -1,12 +1,7 @@
 -- `plain_text::blanks_ahead` meets its contract. Assumes nothing.
-use Prim.Native.Nat.{◌+◌, ◌-◌}
-use mathlib.Core.Path.{◌≡◌, sym, ◌∙◌}
+use mathlib.Core.Path.{sym, ◌∙◌}
 use native.Mathlib.Omega.{arith}
-use borrow.Author.Rules.{rules}
-use lib.ListN.{length, drop}
-use borrow.Author.Tests.{not-true, not-false}
 use native.Mathlib.Nat.{zero-add}
-use Rattle.plain_text.specs.Text.{blanks_ahead}
 use Rattle.plain_text.proofs.Ahead.{blanks_turn, blanks_stop, blanks_over}
 use Rattle.plain_text.proofs.blanks_ahead.Goals as goal
 
@@ -20,7 +15,7 @@ returns-then-not-is_blank c =
     let loop-test = c.loop-at-test in
     let loop = c.loop-at in
     let args = c.args in
-    omega (arith, blanks_stop args.s.now loop.at loop-test.true (sym is-blank.ensures ∙ not-true _ c.if-not-is_blank.true))
+    omega (arith, blanks_stop args.s.now loop.at loop-test.true (sym is-blank.ensures ∙ c.if-not-is_blank.true))
 
 pub loop-at-preserved : goal.loop-at-preserved
 loop-at-preserved c =
@@ -28,7 +23,7 @@ loop-at-preserved c =
     let loop-test = c.loop-at-test in
     let loop = c.loop-at in
     let args = c.args in
-    blanks_turn args.s.now loop.at loop-test.true (sym is-blank.ensures ∙ not-false _ c.if-not-is_blank.false) ∙ loop.invariant
+    blanks_turn args.s.now loop.at loop-test.true (sym is-blank.ensures ∙ c.if-not-is_blank.false) ∙ loop.invariant
 
 pub returns : goal.returns
 returns c =

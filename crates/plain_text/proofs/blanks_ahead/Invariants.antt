@@ -1,13 +1,8 @@
 -- `plain_text::blanks_ahead` meets its contract. Assumes nothing.
 use Prim.Native.Nat.{◌+◌, ◌-◌}
-use mathlib.Core.Path.{◌≡◌, sym, ◌∙◌}
-use native.Mathlib.Omega.{arith}
-use borrow.Author.Rules.{rules}
+use mathlib.Core.Path.{◌≡◌}
 use lib.ListN.{length, drop}
-use borrow.Author.Tests.{not-true, not-false}
-use native.Mathlib.Nat.{zero-add}
 use Rattle.plain_text.specs.Text.{blanks_ahead}
-use Rattle.plain_text.proofs.Ahead.{blanks_turn, blanks_stop, blanks_over}
 use Rattle.plain_text.proofs.blanks_ahead.Given as goal
 
 abbrev pub invariant-loop-at : goal.invariant-loop-at

@@ -1,6 +1,5 @@
 -- `plain_text::byte_at` meets its contract. Assumes nothing.
 use mathlib.Core.Path.{sym}
-use borrow.Author.Rules.{rules}
 use lib.ListN.{get_or-eq_default}
 use Rattle.plain_text.proofs.byte_at.Goals as goal
 

@@ -1,11 +1,8 @@
 -- `plain_text::find` meets its contract. Assumes nothing.
-use Prim.Native.Nat.{◌≤◌, ◌+◌, ◌-◌}
-use mathlib.Core.Path.{◌≡◌, refl, ◌∙◌}
+use mathlib.Core.Path.{refl, ◌∙◌}
 use native.Mathlib.Omega.{arith}
 use borrow.Author.Rules.{rules}
-use lib.ListN.{length, drop}
 use borrow.Author.Tests.{eq-eqb, ne_eqb}
-use Rattle.plain_text.specs.Text.{index_of}
 use Rattle.plain_text.proofs.Ahead.{index_turn, index_stop, index_over}
 use Rattle.plain_text.proofs.find.Goals as goal
 

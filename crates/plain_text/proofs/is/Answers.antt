@@ -1,5 +1,4 @@
 -- `plain_text::is` meets its contract. Assumes nothing.
-use borrow.Author.Rules.{rules}
 use Rattle.plain_text.specs.Text.{is_text}
 use Rattle.plain_text.proofs.is.Goals as goal
 

@@ -1,12 +1,8 @@
 -- `plain_text::solid_end` meets its contract. Assumes nothing.
 use Prim.Native.Nat.{◌≤◌, ◌-◌}
-use mathlib.Core.Path.{◌≡◌, refl}
-use native.Mathlib.Omega.{arith}
-use native.Mathlib.Numerals.{add-one}
-use borrow.Author.Rules.{rules}
+use mathlib.Core.Path.{◌≡◌}
 use lib.ListN.{length}
 use Rattle.plain_text.specs.Text.{solid_end}
-use Rattle.plain_text.proofs.Ahead.{solid_le}
 use Rattle.plain_text.proofs.solid_end.Given as goal
 
 abbrev pub invariant-loop-i : goal.invariant-loop-i

@@ -1,11 +1,9 @@
 -- `plain_text::starts_with` meets its contract. Assumes nothing.
-use Prim.Native.Nat.{◌≤◌, ◌-◌}
 use mathlib.Core.Path.{◌≡◌, refl}
 use native.Mathlib.Omega.{arith}
 use native.Mathlib.Numerals.{add-one}
 use borrow.Author.Rules.{rules}
-use lib.Dec.{eqb}
-use lib.ListN.{get_or, length}
+use lib.ListN.{length}
 use Rattle.iterate.specs.Iterate.{all_below}
 use Rattle.plain_text.specs.Text.{starts_with}
 use Rattle.plain_text.proofs.starts_with.Goals as goal

@@ -1,13 +1,9 @@
 -- `plain_text::starts_with` meets its contract. Assumes nothing.
 use Prim.Native.Nat.{◌≤◌, ◌-◌}
-use mathlib.Core.Path.{◌≡◌, refl}
-use native.Mathlib.Omega.{arith}
-use native.Mathlib.Numerals.{add-one}
-use borrow.Author.Rules.{rules}
+use mathlib.Core.Path.{◌≡◌}
 use lib.Dec.{eqb}
 use lib.ListN.{get_or, length}
 use Rattle.iterate.specs.Iterate.{all_below}
-use Rattle.plain_text.specs.Text.{starts_with}
 use Rattle.plain_text.proofs.starts_with.Given as goal
 
 abbrev pub invariant-loop-j : goal.invariant-loop-j

@@ -1,7 +1,6 @@
 -- `plain_text::without_blanks` meets its contract. Assumes nothing.
 use mathlib.Core.Path.{◌∙◌}
 use native.Mathlib.Omega.{arith}
-use borrow.Author.Rules.{rules}
 use Rattle.plain_text.specs.Text.{trimmed}
 use Rattle.plain_text.proofs.Ahead.{least_is}
 use Rattle.plain_text.proofs.without_blanks.Goals as goal

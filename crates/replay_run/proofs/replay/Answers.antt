@@ -8,7 +8,7 @@ use Rattle.replay_run.proofs.replay.Goals as goal
 pub returns-then-number-ne0 : goal.returns-then-number-ne0
 unfolding replayed replayed_rows
 returns-then-number-ne0 c =
-    (rw (← c.replay_refusal-number.ensures, ne_eqb _ _ c.if-number-ne0.true), rw (← c.replay_refusal-number.ensures, ne_eqb _ _ c.if-number-ne0.true))
+    record { result = rw (← c.replay_refusal-number.ensures, ne_eqb _ _ c.if-number-ne0.true); rows = rw (← c.replay_refusal-number.ensures, ne_eqb _ _ c.if-number-ne0.true) }
 
 pub replay_rows-requires : goal.replay_rows-requires
 unfolding started
@@ -21,7 +21,4 @@ returns c =
     let replay-rows = c.replay_rows in
     let start = c.start in
     let if1 = c.if-number-ne0 in
-    let replay-refusal = c.replay_refusal-number in (
-      rw (← replay-refusal.ensures, eq-eqb _ _ if1.false, ← start.ensures) replay-rows.ensures.0,
-      rw (← replay-refusal.ensures, eq-eqb _ _ if1.false, ← start.ensures) replay-rows.ensures.1,
-    )
+    let replay-refusal = c.replay_refusal-number in record { result = rw (← replay-refusal.ensures, eq-eqb _ _ if1.false, ← start.ensures) replay-rows.ensures.result; rows = rw (← replay-refusal.ensures, eq-eqb _ _ if1.false, ← start.ensures) replay-rows.ensures.rows }

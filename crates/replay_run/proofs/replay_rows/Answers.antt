@@ -14,8 +14,8 @@ pub returns-then-run-ne-GOING : goal.returns-then-run-ne-GOING
 unfolding all_turns all_rows
 returns-then-run-ne-GOING c =
     let a = c.args in
-    let q = over_at_once over_of (turned a.text.now a.temp-k) last_row_of a.first a.out.now a.total c.if-run-ne-GOING.true in
-    (c.finished.ensures ∙ ap finished_replay q.0, q.1)
+    let q = over_at_once over_of (turned a.text.now a.temp_k) last_row_of a.first a.out.now a.total c.if-run-ne-GOING.true in
+    record { result = c.finished.ensures ∙ ap finished_replay q.0; rows = q.1 }
 
 pub loop-i-init : goal.loop-i-init
 unfolding run_after rows_after
@@ -38,8 +38,8 @@ returns-then-run-eq-REFUSED c =
     let loop-test = c.loop-i-test in
     let loop = c.loop-i in
     let args = c.args in
-    let q = ends_refused over_of (turned args.text.now args.temp-k) last_row_of _ _ _ _ _ _ loop.invariant.0 _ turn.ensures if2.true loop-test.true in
-    (c.finished-then-run-eq-REFUSED.ensures ∙ ap finished_replay q.0, q.1)
+    let q = ends_refused over_of (turned args.text.now args.temp_k) last_row_of _ _ _ _ _ _ loop.invariant.0 _ turn.ensures if2.true loop-test.true in
+    record { result = c.finished-then-run-eq-REFUSED.ensures ∙ ap finished_replay q.0; rows = q.1 }
 
 pub overflow_mul-i : goal.overflow_mul-i
 overflow_mul-i c =
@@ -64,7 +64,7 @@ pub shape_of-out-then-run-ne-GOING-2 : goal.shape_of-out-then-run-ne-GOING-2
 shape_of-out-then-run-ne-GOING-2 c =
     let put-row = c.put_row in
     let loop = c.loop-i in
-    put-row.auto.0 ∙ loop.invariant.0.long
+    put-row.auto.out ∙ loop.invariant.0.long
 
 pub returns-then-run-ne-GOING-2 : goal.returns-then-run-ne-GOING-2
 unfolding all_turns all_rows
@@ -77,9 +77,9 @@ returns-then-run-ne-GOING-2 c =
     let loop-test = c.loop-i-test in
     let loop = c.loop-i in
     let args = c.args in
-    let q = ends_stopped over_of (turned args.text.now args.temp-k) last_row_of _ _ _ _ _ _ loop.invariant.0 _ _ _ turn.ensures if2.false row_of.ensures put-row.ensures loop-test.true
+    let q = ends_stopped over_of (turned args.text.now args.temp_k) last_row_of _ _ _ _ _ _ loop.invariant.0 _ _ _ turn.ensures if2.false row_of.ensures put-row.ensures loop-test.true
     if3.true in
-    (c.finished-then-run-ne-GOING-2.ensures ∙ ap finished_replay q.0, q.1)
+    record { result = c.finished-then-run-ne-GOING-2.ensures ∙ ap finished_replay q.0; rows = q.1 }
 
 pub loop-i-smaller : goal.loop-i-smaller
 loop-i-smaller c =
@@ -96,9 +96,9 @@ loop-i-preserved c =
     let args = c.args in
     let t = turn.ensures in
     let l = loop in (
-      going_on over_of (turned args.text.now args.temp-k) last_row_of _ _ _ _ _ _ l.invariant.0 _ _ _ t if2.false row_of.ensures put-row.ensures put-row.auto.0 loop-test.true
+      going_on over_of (turned args.text.now args.temp_k) last_row_of _ _ _ _ _ _ l.invariant.0 _ _ _ t if2.false row_of.ensures put-row.ensures put-row.auto.out loop-test.true
           c.if-run-ne-GOING-2.false,
-      ap (λ (r : ReplayState). r.rows) t ∙ turned_rows args.text.now args.temp-k l.run (rw t at if2.false) ∙ ap (λ (k : ℕ). k + 1) l.invariant.1,
+      ap (λ (r : ReplayState). r.rows) t ∙ turned_rows args.text.now args.temp_k l.run (rw t at if2.false) ∙ ap (λ (k : ℕ). k + 1) l.invariant.1,
     )
 
 pub shape_of-out : goal.shape_of-out
@@ -111,5 +111,5 @@ returns c =
     let loop-test = c.loop-i-test in
     let loop = c.loop-i in
     let args = c.args in
-    let q = ends_full over_of (turned args.text.now args.temp-k) last_row_of _ _ _ _ _ _ loop.invariant.0 loop-test.false in
-    (c.finished-2.ensures ∙ ap finished_replay q.0, q.1)
+    let q = ends_full over_of (turned args.text.now args.temp_k) last_row_of _ _ _ _ _ _ loop.invariant.0 loop-test.false in
+    record { result = c.finished-2.ensures ∙ ap finished_replay q.0; rows = q.1 }

@@ -32,9 +32,9 @@ pub returns-in_default : goal.returns-in_default
 unfolding ending_of
 returns-in_default c =
     rw (
-      ne_eqb _ _ c.in_default-own.rest.0.0.0.0.1,
-      ne_eqb _ _ c.in_default-own.rest.0.0.0.1,
-      ne_eqb _ _ c.in_default-own.rest.0.0.1,
-      ne_eqb _ _ c.in_default-own.rest.0.1,
-      ne_eqb _ _ c.in_default-own.rest.1,
+      ne_eqb _ _ c.in_default.in_default-own.rest.0.0.0.0.1,
+      ne_eqb _ _ c.in_default.in_default-own.rest.0.0.0.1,
+      ne_eqb _ _ c.in_default.in_default-own.rest.0.0.1,
+      ne_eqb _ _ c.in_default.in_default-own.rest.0.1,
+      ne_eqb _ _ c.in_default.in_default-own.rest.1,
     )

@@ -21,5 +21,5 @@ returns c =
       c.clock_fits.ensures,
       c.fields_fit-2.ensures,
       c.fields_fit.ensures,
-      c.fits2.ensures,
+      c.fits.ensures,
     )

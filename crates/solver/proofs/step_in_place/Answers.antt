@@ -70,9 +70,9 @@ returns-then-early-ne0 c =
     let cell-refusal = c.cell_refusal-unfit in
     let args = c.args in
     let a = args in
-    let s = cell_of a.q a.c-neg.now a.c_pos.now in
+    let s = cell_of a.q a.c_neg.now a.c_pos.now in
     rw (
-      refused-early s a.current-a a.dt a.temp-k _ _ _ cell-refusal.ensures argument-refusal.ensures first_refusal_lem.ensures if1.true,
+      refused-early s a.current_a a.dt a.temp_k _ _ _ cell-refusal.ensures argument-refusal.ensures first_refusal_lem.ensures if1.true,
       c.refused_move.ensures,
     )
     (refl, (refl, (refl, (refl, refl))))
@@ -85,8 +85,8 @@ plan_of-p-requires c =
     let cell-refusal = c.cell_refusal-unfit in
     let args = c.args in
     let a = args in
-    let s = cell_of a.q a.c-neg.now a.c_pos.now in
-    nodes s a.current-a a.dt a.temp-k _ _ _ cell-refusal.ensures argument-refusal.ensures first_refusal_lem.ensures if1.false
+    let s = cell_of a.q a.c_neg.now a.c_pos.now in
+    nodes s a.current_a a.dt a.temp_k _ _ _ cell-refusal.ensures argument-refusal.ensures first_refusal_lem.ensures if1.false
 
 pub returns-then-late-ne0 : goal.returns-then-late-ne0
 unfolding plan_of current_density
@@ -100,9 +100,9 @@ returns-then-late-ne0 c =
     let cell-refusal = c.cell_refusal-unfit in
     let args = c.args in
     let a = args in
-    let s = cell_of a.q a.c-neg.now a.c_pos.now in
+    let s = cell_of a.q a.c_neg.now a.c_pos.now in
     rw (
-      refused-late s a.current-a a.dt a.temp-k _ _ _ cell-refusal.ensures argument-refusal.ensures first_refusal_lem.ensures if1.false _ plan-of.ensures _
+      refused-late s a.current_a a.dt a.temp_k _ _ _ cell-refusal.ensures argument-refusal.ensures first_refusal_lem.ensures if1.false _ plan-of.ensures _
           plan-refusal.ensures if2.true,
       c.refused_move-then-late-ne0.ensures,
     )
@@ -116,8 +116,8 @@ follow-requires c =
     let cell-refusal = c.cell_refusal-unfit in
     let args = c.args in
     let a = args in
-    let s = cell_of a.q a.c-neg.now a.c_pos.now in
-    nodes s a.current-a a.dt a.temp-k _ _ _ cell-refusal.ensures argument-refusal.ensures first_refusal_lem.ensures if1.false
+    let s = cell_of a.q a.c_neg.now a.c_pos.now in
+    nodes s a.current_a a.dt a.temp_k _ _ _ cell-refusal.ensures argument-refusal.ensures first_refusal_lem.ensures if1.false
 
 pub returns : goal.returns
 unfolding plan_of current_density
@@ -131,7 +131,7 @@ returns c =
     let cell-refusal = c.cell_refusal-unfit in
     let args = c.args in
     let a = args in
-    let s = cell_of a.q a.c-neg.now a.c_pos.now in
-    rw (to_end s a.current-a a.dt a.temp-k _ _ _ cell-refusal.ensures argument-refusal.ensures first_refusal_lem.ensures if1.false _ plan-of.ensures _
+    let s = cell_of a.q a.c_neg.now a.c_pos.now in
+    rw (to_end s a.current_a a.dt a.temp_k _ _ _ cell-refusal.ensures argument-refusal.ensures first_refusal_lem.ensures if1.false _ plan-of.ensures _
     plan-refusal.ensures if2.false)
-    (followed-agrees a.q _ a.c-neg.now a.c_pos.now a.current-a a.dt a.temp-k _ _ _ c.follow.ensures)
+    (followed-agrees a.q _ a.c_neg.now a.c_pos.now a.current_a a.dt a.temp_k _ _ _ c.follow.ensures)

@@ -61,10 +61,10 @@ returns-then-finite_with c =
     let a = c.args in
     let neg = c.advance-neg.ensures ∙ profile-by a.p a.dt _ _ _ _ _ count c.nearest_u64_to_f64.ensures in
     let pos = c.advance-pos.ensures ∙ profile-by a.p a.dt _ _ _ _ _ count c.nearest_u64_to_f64.ensures in
-    let e = to_end a.q a.current-a a.dt a.temp-k a.p a.c-neg.now a.c_pos.now _ _ neg pos _ _
-    (report-of a.q a.current-a a.dt a.temp-k a.p a.c-neg.now a.c_pos.now _ _ neg pos _ _ _
+    let e = to_end a.q a.current_a a.dt a.temp_k a.p a.c_neg.now a.c_pos.now _ _ neg pos _ _
+    (report-of a.q a.current_a a.dt a.temp_k a.p a.c_neg.now a.c_pos.now _ _ neg pos _ _ _
     c.surface_state-anode.ensures c.surface_state-cathode.ensures c.reported-state.ensures)
-    (tested a.q a.current-a a.dt a.temp-k a.p a.c-neg.now a.c_pos.now _ _ neg pos _ _ _ _
+    (tested a.q a.current_a a.dt a.temp_k a.p a.c_neg.now a.c_pos.now _ _ neg pos _ _ _ _
     c.profile_finite.ensures c.profile_finite-2.ensures c.finite_with.ensures) in
     rw (e, c.if-finite_with.true, ← count)
 
@@ -74,9 +74,9 @@ returns c =
     let a = c.args in
     let neg = c.advance-neg.ensures ∙ profile-by a.p a.dt _ _ _ _ _ count c.nearest_u64_to_f64.ensures in
     let pos = c.advance-pos.ensures ∙ profile-by a.p a.dt _ _ _ _ _ count c.nearest_u64_to_f64.ensures in
-    let e = to_end a.q a.current-a a.dt a.temp-k a.p a.c-neg.now a.c_pos.now _ _ neg pos _ _
-    (report-of a.q a.current-a a.dt a.temp-k a.p a.c-neg.now a.c_pos.now _ _ neg pos _ _ _
+    let e = to_end a.q a.current_a a.dt a.temp_k a.p a.c_neg.now a.c_pos.now _ _ neg pos _ _
+    (report-of a.q a.current_a a.dt a.temp_k a.p a.c_neg.now a.c_pos.now _ _ neg pos _ _ _
     c.surface_state-anode.ensures c.surface_state-cathode.ensures c.reported-state.ensures)
-    (tested a.q a.current-a a.dt a.temp-k a.p a.c-neg.now a.c_pos.now _ _ neg pos _ _ _ _
+    (tested a.q a.current_a a.dt a.temp_k a.p a.c_neg.now a.c_pos.now _ _ neg pos _ _ _ _
     c.profile_finite.ensures c.profile_finite-2.ensures c.finite_with.ensures) in
     rw (e, c.if-finite_with.false, c.refused_move.ensures)

@@ -25,4 +25,4 @@ pub returns : goal.returns
 returns c =
     let l = c.loop-low in
     let e : l.high ≡ l.low + 1 = omega arith in
-    (nearest_between l.low l.high _ e l.invariant.3 l.invariant.4, (omega arith, l.invariant.2))
+    record { nearest_whole = nearest_between l.low l.high _ e l.invariant.3 l.invariant.4; digits53 = (omega arith, l.invariant.2) }

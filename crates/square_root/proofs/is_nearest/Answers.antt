@@ -9,11 +9,9 @@ use Rattle.square_root.proofs.is_nearest.Goals as goal
 
 pub returns : goal.returns
 returns c =
-    let squared = c.squared-s in
-    let s = squared in
-    let start = before in
-    let n = start.args.n in
-    let x = start.args.x in
+    let s = c.squared-s in
+    let n = c.args.n in
+    let x = c.args.x in
     let le : leb x (s.result.high + (s.result.low + n) / 2 ^ 52) ≡ leb (x * 2 ^ 52) (n * n + n) = words_le s.result.high (s.result.low + n) (n * n + n) x (omega (
       arith,
       s.ensures.same,

@@ -16,4 +16,4 @@ returns-in-3 c =
 pub returns-in_default : goal.returns-in_default
 unfolding phase_of
 returns-in_default c =
-    rw (ne_eqb _ _ c.in_default-own.rest.0.1, ne_eqb _ _ c.in_default-own.rest.1)
+    rw (ne_eqb _ _ c.in_default.in_default-own.rest.0.1, ne_eqb _ _ c.in_default.in_default-own.rest.1)

@@ -1,5 +1,5 @@
 -- `cell_file::records::config_of` meets its contract. Assumes nothing.
-use Rattle.std.proofs.Common.{lit<, rules}
+use Rattle.std.proofs.Common.{lit<}
 use Rattle.cell_file.specs.Records.{config_at}
 use Rattle.cell_file.proofs.records.config_of.Goals as goal
 

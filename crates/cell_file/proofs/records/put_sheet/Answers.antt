@@ -1,5 +1,4 @@
 -- `cell_file::records::put_sheet` meets its contract. Assumes nothing.
-use Rattle.std.proofs.Common.{rules}
 use Rattle.cell_file.specs.Records.{with_sheet}
 use Rattle.cell_file.proofs.records.put_sheet.Goals as goal
 

@@ -1,5 +1,5 @@
 -- `cell_file::records::put_ten` meets its contract: after i turns the first i numbers are there. Assumes nothing.
-use Rattle.std.proofs.Common.{◌≡◌, ◌-◌, ◌≤◌, refl, add-one, arith, rules}
+use Rattle.std.proofs.Common.{◌≡◌, ◌-◌, ◌≤◌}
 use Rattle.cell_file.specs.Records.{put_by}
 use Rattle.cell_file.proofs.records.put_ten.Given as goal
 

@@ -1,5 +1,4 @@
 -- `cell_file::records::ready` meets its contract. Assumes nothing.
-use Rattle.std.proofs.Common.{rules}
 use Rattle.cell_file.specs.Records.{put_by, with_sheet, ready_with}
 use Rattle.cell_file.proofs.records.ready.Goals as goal
 

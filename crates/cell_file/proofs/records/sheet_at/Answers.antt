@@ -1,5 +1,4 @@
 -- `cell_file::records::sheet_at` meets its contract. Assumes nothing.
-use Rattle.std.proofs.Common.{rules}
 use Rattle.cell_file.specs.Records.{sheet_at}
 use Rattle.cell_file.proofs.records.sheet_at.Goals as goal
 

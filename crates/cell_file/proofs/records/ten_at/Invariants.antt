@@ -1,8 +1,7 @@
 -- `cell_file::records::ten_at` meets its contract: after i turns the first i numbers are there. Assumes nothing.
-use Rattle.std.proofs.Common.{◌≡◌, ◌+◌, ◌-◌, ◌≤◌, get_or, refl, ◌∙◌, add-zero, add-one, arith, rules}
+use Rattle.std.proofs.Common.{◌≡◌, ◌+◌, ◌-◌, ◌≤◌, get_or}
 use lib.Ieee.{nan}
 use Rattle.iterate.specs.Iterate.{first_by}
-use Rattle.cell_file.specs.Records.{ten_at}
 use Rattle.cell_file.proofs.records.ten_at.Given as goal
 
 abbrev pub invariant-loop-i : goal.invariant-loop-i

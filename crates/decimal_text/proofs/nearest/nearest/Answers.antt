@@ -1,5 +1,4 @@
 -- `decimal_text::nearest::nearest` meets its contract: within both bounds digits and power of ten are exact. Assumes nothing.
-use Rattle.std.proofs.Common.{rules}
 use Rattle.decimal_text.specs.Nearest.{nearest_to}
 use Rattle.decimal_text.proofs.Exact.{quotient_within}
 use Rattle.decimal_text.proofs.nearest.nearest.Goals as goal

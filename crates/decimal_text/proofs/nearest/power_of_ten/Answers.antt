@@ -1,5 +1,5 @@
 -- `decimal_text::nearest::power_of_ten` meets its contract: after i turns the product is the i-th. Assumes nothing.
-use Rattle.std.proofs.Common.{◌≡◌, ◌-◌, ◌≤◌, refl, add-one, arith, rules}
+use Rattle.std.proofs.Common.{◌≡◌, refl, add-one, arith, rules}
 use Rattle.decimal_text.specs.Nearest.{tens}
 use Rattle.decimal_text.proofs.nearest.power_of_ten.Goals as goal
 

@@ -1,6 +1,7 @@
 -- `dfn::DfnSolver::new` meets its contract. Assumes nothing.
 use Rattle.std.proofs.Common.{◌&&◌, arith, rules}
-use borrow.Author.Tests.{not-true, not-false}
+use mathlib.Core.Bool.{not}
+use mathlib.Core.Path.{ap}
 use Rattle.refusal.specs.Numbers.{refusal_unless, first_refusal}
 use Rattle.dfn_solid.specs.Room.{room}
 use Rattle.dfn.specs.Checks.{grid_of}
@@ -10,7 +11,7 @@ use Rattle.dfn.proofs.DfnSolver.new.Goals as goal
 pub returns-then-not-grid_fits : goal.returns-then-not-grid_fits
 unfolding made new_refusal first_refusal refusal_unless
 returns-then-not-grid_fits c =
-    rw (← c.grid_fits.ensures, not-true c.grid_fits.result c.if-not-grid_fits.true, c.no_cell.ensures)
+    rw (← c.grid_fits.ensures, c.if-not-grid_fits.true, c.no_cell.ensures)
 
 pub returns-then-not-fit-limits_fit : goal.returns-then-not-fit-limits_fit
 unfolding made new_refusal first_refusal refusal_unless
@@ -22,10 +23,10 @@ returns-then-not-fit-limits_fit c =
     let grid-fits = c.grid_fits in
     rw (
       ← grid-fits.ensures,
-      not-false grid-fits.result if1.false,
+      if1.false,
       ← fit.ensures,
       ← limits-fit.ensures,
-      not-true (fit.result && limits-fit.result) if2.true,
+      if2.true,
       c.no_cell-then-not-fit-limits_fit.ensures,
     )
 
@@ -34,8 +35,8 @@ overflow_mul-config c =
     let if1 = c.if-not-grid_fits in
     let grid-fits = c.grid_fits in
     let args = c.args in
-    let g = grid_of args.config grid-fits.result grid-fits.ensures if1.false in
-    let r = room args.config.n_x_neg args.config.n_r g.most-neg g.most-r in
+    let g = grid_of args.config grid-fits.result grid-fits.ensures (ap not if1.false) in
+    let r = room args.config.n_x_neg args.config.n_r g.most_neg g.most_r in
     omega (arith, r)
 
 pub uniform_solid-c_s_neg-requires : goal.uniform_solid-c_s_neg-requires
@@ -43,8 +44,8 @@ uniform_solid-c_s_neg-requires c =
     let if1 = c.if-not-grid_fits in
     let grid-fits = c.grid_fits in
     let args = c.args in
-    let g = grid_of args.config grid-fits.result grid-fits.ensures if1.false in
-    let r = room args.config.n_x_neg args.config.n_r g.most-neg g.most-r in
+    let g = grid_of args.config grid-fits.result grid-fits.ensures (ap not if1.false) in
+    let r = room args.config.n_x_neg args.config.n_r g.most_neg g.most_r in
     r
 
 pub overflow_mul-config-2 : goal.overflow_mul-config-2
@@ -52,8 +53,8 @@ overflow_mul-config-2 c =
     let if1 = c.if-not-grid_fits in
     let grid-fits = c.grid_fits in
     let args = c.args in
-    let g = grid_of args.config grid-fits.result grid-fits.ensures if1.false in
-    let r = room args.config.n_x_pos args.config.n_r g.most_pos g.most-r in
+    let g = grid_of args.config grid-fits.result grid-fits.ensures (ap not if1.false) in
+    let r = room args.config.n_x_pos args.config.n_r g.most_pos g.most_r in
     omega (arith, r)
 
 pub uniform_solid-c_s_pos-requires : goal.uniform_solid-c_s_pos-requires
@@ -61,8 +62,8 @@ uniform_solid-c_s_pos-requires c =
     let if1 = c.if-not-grid_fits in
     let grid-fits = c.grid_fits in
     let args = c.args in
-    let g = grid_of args.config grid-fits.result grid-fits.ensures if1.false in
-    let r = room args.config.n_x_pos args.config.n_r g.most_pos g.most-r in
+    let g = grid_of args.config grid-fits.result grid-fits.ensures (ap not if1.false) in
+    let r = room args.config.n_x_pos args.config.n_r g.most_pos g.most_r in
     r
 
 pub overflow_add-config : goal.overflow_add-config
@@ -70,24 +71,24 @@ overflow_add-config c =
     let if1 = c.if-not-grid_fits in
     let grid-fits = c.grid_fits in
     let args = c.args in
-    let g = grid_of args.config grid-fits.result grid-fits.ensures if1.false in
-    omega (arith, g.most-neg)
+    let g = grid_of args.config grid-fits.result grid-fits.ensures (ap not if1.false) in
+    omega (arith, g.most_neg)
 
 pub overflow_add-config-2 : goal.overflow_add-config-2
 overflow_add-config-2 c =
     let if1 = c.if-not-grid_fits in
     let grid-fits = c.grid_fits in
     let args = c.args in
-    let g = grid_of args.config grid-fits.result grid-fits.ensures if1.false in
-    omega (arith, g.most-neg, g.most_pos)
+    let g = grid_of args.config grid-fits.result grid-fits.ensures (ap not if1.false) in
+    omega (arith, g.most_neg, g.most_pos)
 
 pub uniform_electrolyte-c_e-requires : goal.uniform_electrolyte-c_e-requires
 uniform_electrolyte-c_e-requires c =
     let if1 = c.if-not-grid_fits in
     let grid-fits = c.grid_fits in
     let args = c.args in
-    let g = grid_of args.config grid-fits.result grid-fits.ensures if1.false in
-    omega (arith, g.most-neg, g.most_pos)
+    let g = grid_of args.config grid-fits.result grid-fits.ensures (ap not if1.false) in
+    omega (arith, g.most_neg, g.most_pos)
 
 pub returns : goal.returns
 unfolding made new_refusal fresh first_refusal refusal_unless
@@ -101,10 +102,10 @@ returns c =
     let grid-fits = c.grid_fits in
     rw (
       ← grid-fits.ensures,
-      not-false grid-fits.result if1.false,
+      if1.false,
       ← fit.ensures,
       ← limits-fit.ensures,
-      not-false (fit.result && limits-fit.result) if2.false,
+      if2.false,
       c.uniform_electrolyte-c_e.ensures,
       uniform-solid2.ensures,
       uniform-solid.ensures,

@@ -16,8 +16,8 @@ returns c =
       c.within-3.ensures,
       c.within-2.ensures,
       c.within.ensures,
-      c.fits3.ensures,
-      c.cathode.ensures,
       c.fits-2.ensures,
+      c.cathode.ensures,
+      c.fits.ensures,
       c.anode.ensures,
     )

@@ -11,5 +11,5 @@ returns c =
     let refusal-unless2 = c.refusal_unless-out in
     let temperature_fits_lem = c.temperature_fits in
     let refusal-unless = c.refusal_unless-unfit in
-    let fits2 = c.fits2 in
+    let fits2 = c.fits in
     rw (c.answered.ensures, diffusivity-at.ensures, first_refusal_lem.ensures, refusal-unless2.ensures, temperature_fits_lem.ensures, refusal-unless.ensures, fits2.ensures)

@@ -9,5 +9,5 @@ returns c =
     let open-circuit = c.open_circuit in
     let refusal-unless = c.refusal_unless-unfit in
     let is_finite = c.is_finite in
-    let fits2 = c.fits2 in
+    let fits2 = c.fits in
     rw (c.answered.ensures, open-circuit.ensures, refusal-unless.ensures, is_finite.ensures, fits2.ensures)

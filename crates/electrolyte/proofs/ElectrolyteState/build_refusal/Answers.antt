@@ -10,7 +10,7 @@ returns c =
       c.first_refusal.ensures,
       c.refusal_unless.ensures,
       c.regions_fit.ensures,
-      c.fits2.ensures,
+      c.fits.ensures,
       c.refusal_unless-grid.ensures,
       c.counts_fit.ensures,
     )

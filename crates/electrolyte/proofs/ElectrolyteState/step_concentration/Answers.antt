@@ -29,7 +29,7 @@ returns-then-not-all_finite c =
       ← c.step_params.ensures,
       ← c.advanced-new.ensures,
       ← c.all_finite.ensures,
-      not-true c.all_finite.result c.if-not-all_finite.true,
+      c.if-not-all_finite.true,
     )
 
 pub returns : goal.returns
@@ -41,6 +41,6 @@ returns c =
       ← c.step_params.ensures,
       ← c.advanced-new.ensures,
       ← c.all_finite.ensures,
-      not-false c.all_finite.result c.if-not-all_finite.false,
+      c.if-not-all_finite.false,
       ← c.with_profile.ensures,
     )

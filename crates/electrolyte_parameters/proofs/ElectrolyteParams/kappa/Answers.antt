@@ -6,4 +6,4 @@ use Rattle.electrolyte_parameters.proofs.ElectrolyteParams.kappa.Goals as goal
 pub returns : goal.returns
 unfolding kappa_call
 returns c =
-    rw (c.answered.ensures, c.at_temperature.ensures, c.rate_refusal.ensures, c.fits2.ensures)
+    rw (c.answered.ensures, c.at_temperature.ensures, c.rate_refusal.ensures, c.fits.ensures)

@@ -11,5 +11,5 @@ returns c =
       c.conductivity_eff.ensures,
       c.rate_refusal.ensures,
       c.within.ensures,
-      c.fits2.ensures,
+      c.fits.ensures,
     )

@@ -21,13 +21,13 @@ returns-then-number-ne0 c =
     let temperature_fits_lem = c.temperature_fits in
     let args = c.args in
     let a = args in
-    let e : first_refusal_lem.result ≡ first_refusal (particle_refusal a.self) (refusal_unless (temperature_fits a.temp-k) temperature) = rw (
+    let e : first_refusal_lem.result ≡ first_refusal (particle_refusal a.self) (refusal_unless (temperature_fits a.temp_k) temperature) = rw (
       first_refusal_lem.ensures,
       refusal.ensures,
       refusal-unless.ensures,
       temperature_fits_lem.ensures,
     ) in
-    rw (← e, c.answered.ensures) (refused_outcome _ «0·0» (stable_step a.self.params a.self.n_nodes (diffusivity_at a.self.params a.temp-k)) if1.true)
+    rw (← e, c.answered.ensures) (refused_outcome _ «0·0» (stable_step a.self.params a.self.n_nodes (diffusivity_at a.self.params a.temp_k)) if1.true)
 
 pub stable_step-requires : goal.stable_step-requires
 stable_step-requires c =
@@ -38,13 +38,13 @@ stable_step-requires c =
     let temperature_fits_lem = c.temperature_fits in
     let args = c.args in
     let a = args in
-    let valid : first_refusal_lem.result ≡ first_refusal (particle_refusal a.self) (refusal_unless (temperature_fits a.temp-k) temperature) = rw (
+    let valid : first_refusal_lem.result ≡ first_refusal (particle_refusal a.self) (refusal_unless (temperature_fits a.temp_k) temperature) = rw (
       first_refusal_lem.ensures,
       refusal.ensures,
       refusal-unless.ensures,
       temperature_fits_lem.ensures,
     ) in
-    let e : first_refusal (particle_refusal a.self) (refusal_unless (temperature_fits a.temp-k) temperature) ≡ 0 = sym valid ∙ if1.false in
+    let e : first_refusal (particle_refusal a.self) (refusal_unless (temperature_fits a.temp_k) temperature) ≡ 0 = sym valid ∙ if1.false in
     nodes_of a.self (neither_refused _ _ e).0
 
 pub returns : goal.returns
@@ -58,7 +58,7 @@ returns c =
     let temperature_fits_lem = c.temperature_fits in
     let args = c.args in
     let a = args in
-    let e : first_refusal_lem.result ≡ first_refusal (particle_refusal a.self) (refusal_unless (temperature_fits a.temp-k) temperature) = rw (
+    let e : first_refusal_lem.result ≡ first_refusal (particle_refusal a.self) (refusal_unless (temperature_fits a.temp_k) temperature) = rw (
       first_refusal_lem.ensures,
       refusal.ensures,
       refusal-unless.ensures,

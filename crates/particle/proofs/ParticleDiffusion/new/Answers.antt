@@ -13,12 +13,12 @@ returns-then-refusal-ne0 c =
     let if1 = c.if-refusal-ne0 in
     let first_refusal_lem = c.first_refusal-refusal in
     let refusal-unless2 = c.refusal_unless in
-    let fits2 = c.fits2 in
+    let fits2 = c.fits in
     let refusal-unless = c.refusal_unless-few in
     let count_within = c.count_within in
     let args = c.args in
     let a = args in
-    let e : first_refusal_lem.result ≡ new_refusal a.params a.n-nodes = rw (
+    let e : first_refusal_lem.result ≡ new_refusal a.params a.n_nodes = rw (
       first_refusal_lem.ensures,
       refusal-unless2.ensures,
       fits2.ensures,
@@ -33,20 +33,20 @@ uniform-c_s-requires c =
     let if1 = c.if-refusal-ne0 in
     let first_refusal_lem = c.first_refusal-refusal in
     let refusal-unless2 = c.refusal_unless in
-    let fits2 = c.fits2 in
+    let fits2 = c.fits in
     let refusal-unless = c.refusal_unless-few in
     let count_within = c.count_within in
     let args = c.args in
     let a = args in
-    let valid : first_refusal_lem.result ≡ new_refusal a.params a.n-nodes = rw (
+    let valid : first_refusal_lem.result ≡ new_refusal a.params a.n_nodes = rw (
       first_refusal_lem.ensures,
       refusal-unless2.ensures,
       fits2.ensures,
       refusal-unless.ensures,
       count_within.ensures,
     ) in
-    let e : new_refusal a.params a.n-nodes ≡ 0 = sym valid ∙ if1.false in
-    (nodes_valid a.n-nodes (neither_refused _ _ e).0).1
+    let e : new_refusal a.params a.n_nodes ≡ 0 = sym valid ∙ if1.false in
+    (nodes_valid a.n_nodes (neither_refused _ _ e).0).1
 
 pub returns : goal.returns
 unfolding made new_refusal fresh
@@ -54,12 +54,12 @@ returns c =
     let if1 = c.if-refusal-ne0 in
     let first_refusal_lem = c.first_refusal-refusal in
     let refusal-unless2 = c.refusal_unless in
-    let fits2 = c.fits2 in
+    let fits2 = c.fits in
     let refusal-unless = c.refusal_unless-few in
     let count_within = c.count_within in
     let args = c.args in
     let a = args in
-    let e : first_refusal_lem.result ≡ new_refusal a.params a.n-nodes = rw (
+    let e : first_refusal_lem.result ≡ new_refusal a.params a.n_nodes = rw (
       first_refusal_lem.ensures,
       refusal-unless2.ensures,
       fits2.ensures,

@@ -14,14 +14,14 @@ returns-then-number-ne0 c =
     let if1 = c.if-number-ne0 in
     let refusal = c.refusal-number in
     let args = c.args in
-    rw (← refusal.ensures, c.answered.ensures) (refused_outcome _ «0·0» (surface_potential args.t1) if1.true)
+    rw (← refusal.ensures, c.answered.ensures) (refused_outcome _ «0·0» (surface_potential args.self) if1.true)
 
 pub surface_potential-requires : goal.surface_potential-requires
 surface_potential-requires c =
     let if1 = c.if-number-ne0 in
     let refusal = c.refusal-number in
     let args = c.args in
-    nodes_of args.t1 (sym refusal.ensures ∙ if1.false)
+    nodes_of args.self (sym refusal.ensures ∙ if1.false)
 
 pub returns : goal.returns
 unfolding ocp_surface

@@ -20,12 +20,12 @@ advance-c_s-requires c =
     let step-refusal = c.step_refusal-refusal in
     let args = c.args in
     let a = args in
-    nodes_of a.self (step_particle a.self a.j-n a.dt a.temp-k (sym step-refusal.ensures ∙ if1.false))
+    nodes_of a.self (step_particle a.self a.j_n a.dt a.temp_k (sym step-refusal.ensures ∙ if1.false))
 
 pub returns : goal.returns
 unfolding stepped times
 returns c =
     let d = c.diffusivity_at-d_s in
     let a = c.args in
-    let moved : c.advance-c_s.result ≡ sub_step (sub_step_params_of a.self d.result a.j-n a.dt) a.self.c_s = c.advance-c_s.ensures in
+    let moved : c.advance-c_s.result ≡ sub_step (sub_step_params_of a.self d.result a.j_n a.dt) a.self.c_s = c.advance-c_s.ensures in
     rw (c.accepted.ensures, moved, d.ensures, ← c.step_refusal-refusal.ensures, eq-eqb _ _ c.if-refusal-ne0.false)

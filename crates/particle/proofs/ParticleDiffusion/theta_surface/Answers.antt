@@ -18,7 +18,7 @@ surface_theta-requires c =
     let if1 = c.if-number-ne0 in
     let refusal = c.refusal-number in
     let args = c.args in
-    nodes_of args.t1 (sym refusal.ensures ∙ if1.false)
+    nodes_of args.self (sym refusal.ensures ∙ if1.false)
 
 pub returns : goal.returns
 unfolding theta_surface

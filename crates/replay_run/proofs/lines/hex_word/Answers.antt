@@ -44,4 +44,4 @@ pub returns : goal.returns
 returns c =
     let loop = c.loop-k in
     let e : loop.k ≡ 16 = omega arith in
-    (rw e at loop.invariant.1.0, rw e at loop.invariant.1.1)
+    record { digits = rw e at loop.invariant.1.0; bits = rw e at loop.invariant.1.1 }

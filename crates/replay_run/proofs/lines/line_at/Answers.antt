@@ -27,8 +27,8 @@ returns c =
       le-leb (args.k * 34 + 34) (length args.text.now) h,
       from-bits.ensures,
       c.from_bits-2.ensures,
-      hex-word.ensures.0,
-      hex-word.ensures.1,
-      hex-word2.ensures.0,
-      hex-word2.ensures.1,
+      hex-word.ensures.digits,
+      hex-word.ensures.bits,
+      hex-word2.ensures.digits,
+      hex-word2.ensures.bits,
     )

@@ -1,7 +1,7 @@
 -- `setting_table::names::is_named` meets its contract. Assumes nothing.
-use Rattle.std.proofs.Common.{◌≡◌, ◌-◌, ◌≤◌, eqb, refl, add-one, arith, rules}
+use Rattle.std.proofs.Common.{◌≡◌, refl, add-one, arith, rules}
 use Rattle.iterate.specs.Iterate.{all_below}
-use Rattle.setting_table.specs.Names.{letter_of, padded_at, is_named}
+use Rattle.setting_table.specs.Names.{is_named}
 use Rattle.setting_table.proofs.names.is_named.Goals as goal
 
 pub loop-j-init : goal.loop-j-init

@@ -1,7 +1,7 @@
 -- `setting_table::names::is_named` meets its contract. Assumes nothing.
-use Rattle.std.proofs.Common.{◌≡◌, ◌-◌, ◌≤◌, eqb, refl, add-one, arith, rules}
+use Rattle.std.proofs.Common.{◌≡◌, ◌-◌, ◌≤◌, eqb}
 use Rattle.iterate.specs.Iterate.{all_below}
-use Rattle.setting_table.specs.Names.{letter_of, padded_at, is_named}
+use Rattle.setting_table.specs.Names.{letter_of, padded_at}
 use Rattle.setting_table.proofs.names.is_named.Given as goal
 
 abbrev pub invariant-loop-j : goal.invariant-loop-j

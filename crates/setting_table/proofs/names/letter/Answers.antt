@@ -1,5 +1,4 @@
 -- `setting_table::names::letter` meets its contract. Assumes nothing.
-use Rattle.std.proofs.Common.{rules}
 use Rattle.setting_table.specs.Names.{bytes_of, letter_of}
 use Rattle.setting_table.proofs.names.letter.Goals as goal
 

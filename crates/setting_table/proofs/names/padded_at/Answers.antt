@@ -1,5 +1,5 @@
 -- `setting_table::names::padded_at` meets its contract. Assumes nothing.
-use Rattle.std.proofs.Common.{rules, le-ltb, lt-ltb}
+use Rattle.std.proofs.Common.{le-ltb, lt-ltb}
 use Rattle.setting_table.proofs.names.padded_at.Goals as goal
 
 pub returns-then-i-s : goal.returns-then-i-s

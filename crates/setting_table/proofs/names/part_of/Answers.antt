@@ -1,5 +1,4 @@
 -- `setting_table::names::part_of` meets its contract. Assumes nothing.
-use Rattle.std.proofs.Common.{rules}
 use Rattle.setting_table.proofs.names.part_of.Goals as goal
 
 pub returns : goal.returns

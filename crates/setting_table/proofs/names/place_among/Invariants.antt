@@ -1,5 +1,5 @@
 -- `setting_table::names::place_among` meets its contract. Assumes nothing.
-use Rattle.std.proofs.Common.{◌≡◌, ◌-◌, ◌≤◌, refl, add-one, arith, rules}
+use Rattle.std.proofs.Common.{◌≡◌, ◌-◌, ◌≤◌}
 use Rattle.setting_table.specs.Names.{place_by}
 use Rattle.setting_table.proofs.names.place_among.Given as goal
 

@@ -1,5 +1,5 @@
 -- `setting_table::names::place_of` meets its contract. Assumes nothing.
-use Rattle.std.proofs.Common.{◌≤◌, true, length, sym, ◌∙◌, arith, rules}
+use Rattle.std.proofs.Common.{◌≤◌, true, length, sym, ◌∙◌, arith}
 use Rattle.setting_table.specs.Names.{bytes_of}
 use Rattle.plain_text.specs.Pieces.{starts_long}
 use Rattle.setting_table.proofs.Ways.{place_anode, place-cathode, place_run}

@@ -1,5 +1,5 @@
 -- `setting_table::names::row_of` meets its contract. Assumes nothing.
-use Rattle.std.proofs.Common.{arith, rules, le-ltb, lt-ltb}
+use Rattle.std.proofs.Common.{arith, le-ltb, lt-ltb}
 use Rattle.setting_table.proofs.names.row_of.Goals as goal
 
 pub returns-then-k-lt-CATHODE : goal.returns-then-k-lt-CATHODE

@@ -1,5 +1,4 @@
 -- `setting_table::ranges::high` meets its contract. Assumes nothing.
-use Rattle.std.proofs.Common.{rules}
 use Rattle.setting_table.specs.Ranges.{high_of, high_ends}
 use Rattle.setting_table.proofs.ranges.high.Goals as goal
 

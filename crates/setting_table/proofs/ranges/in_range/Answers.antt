@@ -1,5 +1,4 @@
 -- `setting_table::ranges::in_range` meets its contract. Assumes nothing.
-use Rattle.std.proofs.Common.{rules}
 use Rattle.setting_table.specs.Ranges.{in_place}
 use Rattle.setting_table.proofs.ranges.in_range.Goals as goal
 

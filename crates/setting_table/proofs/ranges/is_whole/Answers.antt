@@ -1,5 +1,4 @@
 -- `setting_table::ranges::is_whole` meets its contract. Assumes nothing.
-use Rattle.std.proofs.Common.{rules}
 use Rattle.setting_table.specs.Ranges.{is_whole}
 use Rattle.setting_table.proofs.ranges.is_whole.Goals as goal
 

@@ -1,5 +1,4 @@
 -- `setting_table::ranges::low` meets its contract. Assumes nothing.
-use Rattle.std.proofs.Common.{rules}
 use Rattle.setting_table.specs.Ranges.{low_of, low_ends}
 use Rattle.setting_table.proofs.ranges.low.Goals as goal
 

@@ -12,21 +12,21 @@ returns-then-number-ne0 c =
     let if1 = c.if-number-ne0 in
     let refusal = c.refusal-number in
     let args = c.args in
-    rw (← refusal.ensures, c.answered.ensures) (refused_outcome _ «0·0» (open_circuit_voltage args.t1) if1.true)
+    rw (← refusal.ensures, c.answered.ensures) (refused_outcome _ «0·0» (open_circuit_voltage args.self) if1.true)
 
 pub surface_potential-u_neg-requires : goal.surface_potential-u_neg-requires
 surface_potential-u_neg-requires c =
     let if1 = c.if-number-ne0 in
     let refusal = c.refusal-number in
     let args = c.args in
-    anode_nodes args.t1 (sym refusal.ensures ∙ if1.false)
+    anode_nodes args.self (sym refusal.ensures ∙ if1.false)
 
 pub surface_potential-u_pos-requires : goal.surface_potential-u_pos-requires
 surface_potential-u_pos-requires c =
     let if1 = c.if-number-ne0 in
     let refusal = c.refusal-number in
     let args = c.args in
-    cathode_nodes args.t1 (sym refusal.ensures ∙ if1.false)
+    cathode_nodes args.self (sym refusal.ensures ∙ if1.false)
 
 pub returns : goal.returns
 unfolding ocv_call open_circuit_voltage

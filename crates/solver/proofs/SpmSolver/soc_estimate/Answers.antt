@@ -16,7 +16,7 @@ average_theta-theta-requires c =
     let if1 = c.if-number-ne0 in
     let refusal = c.refusal-number in
     let args = c.args in
-    anode_nodes args.t1 (sym refusal.ensures ∙ if1.false)
+    anode_nodes args.self (sym refusal.ensures ∙ if1.false)
 
 pub returns : goal.returns
 unfolding soc_call state_of_charge

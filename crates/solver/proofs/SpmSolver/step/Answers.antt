@@ -11,7 +11,7 @@ returns-then-m-ne0 c =
     let parts = c.parts-q in
     let args = c.args in
     let a = args in
-    c.refused_step.ensures ∙ answer_kept a.self a.current-a a.dt a.temp-k step-in-place.result _ _ (rw parts.ensures at step-in-place.ensures) if1.true
+    c.refused_step.ensures ∙ answer_kept a.self a.current_a a.dt a.temp_k step-in-place.result _ _ (rw parts.ensures at step-in-place.ensures) if1.true
 
 pub returns : goal.returns
 returns c =
@@ -20,4 +20,4 @@ returns c =
     let parts = c.parts-q in
     let args = c.args in
     let a = args in
-    rw parts.ensures (answer_made a.self a.current-a a.dt a.temp-k step-in-place.result _ _ (rw parts.ensures at step-in-place.ensures) if1.false)
+    rw parts.ensures (answer_made a.self a.current_a a.dt a.temp_k step-in-place.result _ _ (rw parts.ensures at step-in-place.ensures) if1.false)
