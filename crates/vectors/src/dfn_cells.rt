@@ -1,6 +1,6 @@
 // The lists of the Doyle-Fuller-Newman cell's calls.
 use crate::electrolytes;
-use crate::list::{is_array, is_f64, next_f64, next_u64, read_array, same, same_arrays};
+use crate::list::{List, is_array, is_f64, next_f64, next_u64, read_array, same, same_arrays};
 use crate::rows::{is_ending, is_rows, is_summary, mark_all};
 use dfn::{DfnSolver, DfnStep, DfnStepAnswer};
 use dfn_parameters::{DfnConfig, DfnParams};
@@ -8,21 +8,21 @@ use galvanostatic_run::{DfnRun, run_galvanostatic};
 
 // ---- arrays
 
-fn next_coeffs(fd: i32) -> [f64; 16] {
+fn next_coeffs(list: &mut List<'_>) -> [f64; 16] {
     let mut c = [0.0; 16];
-    read_array(fd, &mut c);
+    read_array(list, &mut c);
     c
 }
 
-fn next_solid(fd: i32) -> [f64; 512] {
+fn next_solid(list: &mut List<'_>) -> [f64; 512] {
     let mut c = [0.0; 512];
-    read_array(fd, &mut c);
+    read_array(list, &mut c);
     c
 }
 
-fn next_electrolyte(fd: i32) -> [f64; 33] {
+fn next_electrolyte(list: &mut List<'_>) -> [f64; 33] {
     let mut c = [0.0; 33];
-    read_array(fd, &mut c);
+    read_array(list, &mut c);
     c
 }
 
@@ -41,36 +41,36 @@ fn same_electrolyte(a: [f64; 33], b: [f64; 33]) -> bool {
 // ---- records
 
 // Parameters whose first number is read already.
-fn next_parameters(fd: i32, first: u64) -> DfnParams {
+fn next_parameters(list: &mut List<'_>, first: u64) -> DfnParams {
     let l_neg = words::from_bits(first);
-    let l_sep = next_f64(fd);
-    let l_pos = next_f64(fd);
-    let area = next_f64(fd);
-    let r_neg = next_f64(fd);
-    let d_s_neg_ref = next_f64(fd);
-    let c_s_neg_max = next_f64(fd);
-    let eps_neg = next_f64(fd);
-    let theta_neg_0 = next_f64(fd);
-    let k_neg = next_f64(fd);
-    let r_pos = next_f64(fd);
-    let d_s_pos_ref = next_f64(fd);
-    let c_s_pos_max = next_f64(fd);
-    let eps_pos = next_f64(fd);
-    let theta_pos_0 = next_f64(fd);
-    let k_pos = next_f64(fd);
-    let c_e0 = next_f64(fd);
-    let d_e0 = next_f64(fd);
-    let gamma_e = next_f64(fd);
-    let t_plus = next_f64(fd);
-    let kappa0 = next_f64(fd);
-    let eps_e_elec = next_f64(fd);
-    let eps_e_sep = next_f64(fd);
-    let brugg = next_f64(fd);
-    let temperature_k = next_f64(fd);
-    let ocv_neg_count = next_u64(fd) as usize;
-    let ocv_neg_coeffs = next_coeffs(fd);
-    let ocv_pos_count = next_u64(fd) as usize;
-    let ocv_pos_coeffs = next_coeffs(fd);
+    let l_sep = next_f64(list);
+    let l_pos = next_f64(list);
+    let area = next_f64(list);
+    let r_neg = next_f64(list);
+    let d_s_neg_ref = next_f64(list);
+    let c_s_neg_max = next_f64(list);
+    let eps_neg = next_f64(list);
+    let theta_neg_0 = next_f64(list);
+    let k_neg = next_f64(list);
+    let r_pos = next_f64(list);
+    let d_s_pos_ref = next_f64(list);
+    let c_s_pos_max = next_f64(list);
+    let eps_pos = next_f64(list);
+    let theta_pos_0 = next_f64(list);
+    let k_pos = next_f64(list);
+    let c_e0 = next_f64(list);
+    let d_e0 = next_f64(list);
+    let gamma_e = next_f64(list);
+    let t_plus = next_f64(list);
+    let kappa0 = next_f64(list);
+    let eps_e_elec = next_f64(list);
+    let eps_e_sep = next_f64(list);
+    let brugg = next_f64(list);
+    let temperature_k = next_f64(list);
+    let ocv_neg_count = next_u64(list) as usize;
+    let ocv_neg_coeffs = next_coeffs(list);
+    let ocv_pos_count = next_u64(list) as usize;
+    let ocv_pos_coeffs = next_coeffs(list);
     DfnParams {
         l_neg,
         l_sep,
@@ -144,12 +144,12 @@ fn same_parameters(a: DfnParams, b: DfnParams) -> bool {
         & same_coeffs(a_pos, b_pos)
 }
 
-fn next_config(fd: i32) -> DfnConfig {
-    let n_x_neg = next_u64(fd) as usize;
-    let n_x_pos = next_u64(fd) as usize;
-    let n_r = next_u64(fd) as usize;
-    let v_min = next_f64(fd);
-    let v_max = next_f64(fd);
+fn next_config(list: &mut List<'_>) -> DfnConfig {
+    let n_x_neg = next_u64(list) as usize;
+    let n_x_pos = next_u64(list) as usize;
+    let n_r = next_u64(list) as usize;
+    let v_min = next_f64(list);
+    let v_max = next_f64(list);
     DfnConfig {
         n_x_neg,
         n_x_pos,
@@ -168,17 +168,17 @@ fn same_config(a: DfnConfig, b: DfnConfig) -> bool {
 }
 
 // A cell whose first number is read already.
-pub(crate) fn next_cell(fd: i32, first: u64) -> DfnSolver {
-    let params = next_parameters(fd, first);
-    let config = next_config(fd);
-    let c_s_neg = next_solid(fd);
-    let c_s_pos = next_solid(fd);
-    let c_e = next_electrolyte(fd);
-    let time_s = next_f64(fd);
-    let voltage = next_f64(fd);
-    let current = next_f64(fd);
-    let theta_neg_surf = next_f64(fd);
-    let theta_pos_surf = next_f64(fd);
+pub(crate) fn next_cell(list: &mut List<'_>, first: u64) -> DfnSolver {
+    let params = next_parameters(list, first);
+    let config = next_config(list);
+    let c_s_neg = next_solid(list);
+    let c_s_pos = next_solid(list);
+    let c_e = next_electrolyte(list);
+    let time_s = next_f64(list);
+    let voltage = next_f64(list);
+    let current = next_f64(list);
+    let theta_neg_surf = next_f64(list);
+    let theta_pos_surf = next_f64(list);
     DfnSolver {
         params,
         config,
@@ -194,18 +194,18 @@ pub(crate) fn next_cell(fd: i32, first: u64) -> DfnSolver {
 }
 
 // Whether the next state is the cell's.
-fn is_state(fd: i32, cell: DfnSolver) -> bool {
+fn is_state(list: &mut List<'_>, cell: DfnSolver) -> bool {
     let neg = cell.c_s_neg;
     let pos = cell.c_s_pos;
     let electrolyte = cell.c_e;
-    is_array(fd, &neg)
-        & is_array(fd, &pos)
-        & is_array(fd, &electrolyte)
-        & is_f64(fd, cell.time_s)
-        & is_f64(fd, cell.voltage)
-        & is_f64(fd, cell.current)
-        & is_f64(fd, cell.theta_neg_surf)
-        & is_f64(fd, cell.theta_pos_surf)
+    is_array(list, &neg)
+        & is_array(list, &pos)
+        & is_array(list, &electrolyte)
+        & is_f64(list, cell.time_s)
+        & is_f64(list, cell.voltage)
+        & is_f64(list, cell.current)
+        & is_f64(list, cell.theta_neg_surf)
+        & is_f64(list, cell.theta_pos_surf)
 }
 
 // Whether two cells have the same parameters and grid.
@@ -240,15 +240,15 @@ fn flag(b: bool) -> u64 {
 }
 
 // Whether the next report is r.
-fn is_report(fd: i32, r: DfnStep) -> bool {
-    is_f64(fd, r.voltage)
-        & is_f64(fd, r.current)
-        & is_f64(fd, r.time_s)
-        & is_f64(fd, r.theta_neg)
-        & is_f64(fd, r.theta_pos)
-        & is_f64(fd, r.delta_c_e_max)
-        & (next_u64(fd) == flag(r.cutoff))
-        & (next_u64(fd) == r.newton_iter as u64)
+fn is_report(list: &mut List<'_>, r: DfnStep) -> bool {
+    is_f64(list, r.voltage)
+        & is_f64(list, r.current)
+        & is_f64(list, r.time_s)
+        & is_f64(list, r.theta_neg)
+        & is_f64(list, r.theta_pos)
+        & is_f64(list, r.delta_c_e_max)
+        & (next_u64(list) == flag(r.cutoff))
+        & (next_u64(list) == r.newton_iter as u64)
 }
 
 // Whether a report is the one beside a refusal.
@@ -266,19 +266,21 @@ fn is_empty(r: DfnStep) -> bool {
 // ---- lines
 
 // lipf6_ec_dmc, nmc_graphite and lfp_graphite.
-pub(crate) fn ready_line(fd: i32, first: u64) -> bool {
-    let electrolyte = electrolytes::is_ready(fd, first);
-    let nmc = next_parameters(fd, next_u64(fd));
-    let lfp = next_parameters(fd, next_u64(fd));
+pub(crate) fn ready_line(list: &mut List<'_>, first: u64) -> bool {
+    let electrolyte = electrolytes::is_ready(list, first);
+    let nmc_first = next_u64(list);
+    let nmc = next_parameters(list, nmc_first);
+    let lfp_first = next_u64(list);
+    let lfp = next_parameters(list, lfp_first);
     electrolyte
         & same_parameters(nmc, DfnParams::nmc_graphite())
         & same_parameters(lfp, DfnParams::lfp_graphite())
 }
 
-pub(crate) fn new_line(fd: i32, first: u64) -> bool {
-    let params = next_parameters(fd, first);
-    let config = next_config(fd);
-    let number = next_u64(fd);
+pub(crate) fn new_line(list: &mut List<'_>, first: u64) -> bool {
+    let params = next_parameters(list, first);
+    let config = next_config(list);
+    let number = next_u64(list);
     let b = DfnSolver::new(params, config);
     let cell = b.cell;
     let p = cell.params;
@@ -290,44 +292,44 @@ pub(crate) fn new_line(fd: i32, first: u64) -> bool {
             & (g.n_r == 0)
             & same(p.l_neg, 0.0);
     }
-    (b.refusal == 0) & same_parameters(p, params) & same_config(g, config) & is_state(fd, cell)
+    (b.refusal == 0) & same_parameters(p, params) & same_config(g, config) & is_state(list, cell)
 }
 
 // Whether the next answer is a: of an accepted step the report and the new state, of a refused one the cell as it was.
-fn is_answer(fd: i32, before: DfnSolver, a: DfnStepAnswer) -> bool {
-    let number = next_u64(fd);
+fn is_answer(list: &mut List<'_>, before: DfnSolver, a: DfnStepAnswer) -> bool {
+    let number = next_u64(list);
     let cell = a.cell;
     let report = a.report;
     if number != 0 {
         return (a.refusal == number) & same_cell(before, cell) & is_empty(report);
     }
-    (a.refusal == 0) & same_make(before, cell) & is_report(fd, report) & is_state(fd, cell)
+    (a.refusal == 0) & same_make(before, cell) & is_report(list, report) & is_state(list, cell)
 }
 
-pub(crate) fn step_line(fd: i32, first: u64) -> bool {
-    let cell = next_cell(fd, first);
-    let current = next_f64(fd);
-    let dt = next_f64(fd);
-    is_answer(fd, cell, cell.step(current, dt))
+pub(crate) fn step_line(list: &mut List<'_>, first: u64) -> bool {
+    let cell = next_cell(list, first);
+    let current = next_f64(list);
+    let dt = next_f64(list);
+    is_answer(list, cell, cell.step(current, dt))
 }
 
 // ---- runs
 
 // Whether the next answer is r: the ending, the refusal, the rows, and the new state where there is a row.
-fn is_run(fd: i32, before: DfnSolver, r: DfnRun, rows: &[f64]) -> bool {
+fn is_run(list: &mut List<'_>, before: DfnSolver, r: DfnRun, rows: &[f64]) -> bool {
     let kind = r.ending;
-    let number = next_u64(fd);
-    let ending = is_ending(kind, number, next_u64(fd));
-    let written = is_rows(fd, rows, r.rows);
+    let number = next_u64(list);
+    let ending = is_ending(kind, number, next_u64(list));
+    let written = is_rows(list, rows, r.rows);
     let cell = r.cell;
     if r.rows == 0 {
         return ending & written & same_cell(before, cell);
     }
-    ending & written & same_make(before, cell) & is_state(fd, cell)
+    ending & written & same_make(before, cell) & is_state(list, cell)
 }
 
 fn run_agrees(
-    fd: i32,
+    list: &mut List<'_>,
     cell: DfnSolver,
     current: f64,
     dt: f64,
@@ -338,21 +340,21 @@ fn run_agrees(
     mark_all(rows);
     mark_all(lowest);
     let r = run_galvanostatic(cell, current, dt, limit, rows, lowest);
-    is_run(fd, cell, r, rows) & is_summary(lowest, rows, r.rows)
+    is_run(list, cell, r, rows) & is_summary(lowest, rows, r.rows)
 }
 
 // No run of the list has more than 160 places, which are 20 rows and one group.
-pub(crate) fn run_line(fd: i32, first: u64) -> bool {
-    let cell = next_cell(fd, first);
-    let current = next_f64(fd);
-    let dt = next_f64(fd);
-    let limit = next_f64(fd);
-    let n = next_u64(fd) as usize;
+pub(crate) fn run_line(list: &mut List<'_>, first: u64) -> bool {
+    let cell = next_cell(list, first);
+    let current = next_f64(list);
+    let dt = next_f64(list);
+    let limit = next_f64(list);
+    let n = next_u64(list) as usize;
     if n <= 160 {
         let mut rows = [0.0; 160];
         let mut lowest = [0.0; 1];
         let lent = &mut rows[..n];
-        return run_agrees(fd, cell, current, dt, limit, lent, &mut lowest);
+        return run_agrees(list, cell, current, dt, limit, lent, &mut lowest);
     }
     false
 }

@@ -1,17 +1,17 @@
 // The lists of the electrolyte's calls.
-use crate::list::{is_answer, is_array, next_f64, next_u64, read_array, same, same_arrays};
+use crate::list::{List, is_answer, is_array, next_f64, next_u64, read_array, same, same_arrays};
 use electrolyte::{Count, ElectrolyteAnswer, ElectrolyteState};
 use electrolyte_parameters::ElectrolyteParams;
 
 // Parameters whose first number is read already.
-fn next_params(fd: i32, d_e_ref: f64) -> ElectrolyteParams {
-    let kappa_ref = next_f64(fd);
-    let t_plus = next_f64(fd);
-    let bruggeman = next_f64(fd);
-    let c_e_init = next_f64(fd);
-    let e_a_de = next_f64(fd);
-    let e_a_kappa = next_f64(fd);
-    let t_ref = next_f64(fd);
+fn next_params(list: &mut List<'_>, d_e_ref: f64) -> ElectrolyteParams {
+    let kappa_ref = next_f64(list);
+    let t_plus = next_f64(list);
+    let bruggeman = next_f64(list);
+    let c_e_init = next_f64(list);
+    let e_a_de = next_f64(list);
+    let e_a_kappa = next_f64(list);
+    let t_ref = next_f64(list);
     ElectrolyteParams {
         d_e_ref,
         kappa_ref,
@@ -24,22 +24,22 @@ fn next_params(fd: i32, d_e_ref: f64) -> ElectrolyteParams {
     }
 }
 
-fn next_count(fd: i32) -> usize {
-    next_u64(fd) as usize
+fn next_count(list: &mut List<'_>) -> usize {
+    next_u64(list) as usize
 }
 
 // A state with no node filled.
-fn next_regions(fd: i32, d_e_ref: f64) -> ElectrolyteState {
-    let params = next_params(fd, d_e_ref);
-    let l_neg = next_f64(fd);
-    let l_sep = next_f64(fd);
-    let l_pos = next_f64(fd);
-    let eps_neg = next_f64(fd);
-    let eps_sep = next_f64(fd);
-    let eps_pos = next_f64(fd);
-    let n_neg = next_count(fd);
-    let n_sep = next_count(fd);
-    let n_pos = next_count(fd);
+fn next_regions(list: &mut List<'_>, d_e_ref: f64) -> ElectrolyteState {
+    let params = next_params(list, d_e_ref);
+    let l_neg = next_f64(list);
+    let l_sep = next_f64(list);
+    let l_pos = next_f64(list);
+    let eps_neg = next_f64(list);
+    let eps_sep = next_f64(list);
+    let eps_pos = next_f64(list);
+    let n_neg = next_count(list);
+    let n_sep = next_count(list);
+    let n_pos = next_count(list);
     let c_e = [0.0; 96];
     ElectrolyteState {
         params,
@@ -56,21 +56,21 @@ fn next_regions(fd: i32, d_e_ref: f64) -> ElectrolyteState {
     }
 }
 
-fn next_places(fd: i32) -> [f64; 96] {
+fn next_places(list: &mut List<'_>) -> [f64; 96] {
     let mut c = [0.0; 96];
-    read_array(fd, &mut c);
+    read_array(list, &mut c);
     c
 }
 
-fn next_state(fd: i32, d_e_ref: f64) -> ElectrolyteState {
-    let mut e = next_regions(fd, d_e_ref);
-    let c = next_places(fd);
+fn next_state(list: &mut List<'_>, d_e_ref: f64) -> ElectrolyteState {
+    let mut e = next_regions(list, d_e_ref);
+    let c = next_places(list);
     e.c_e = c;
     e
 }
 
-fn is_profile(fd: i32, c: [f64; 96]) -> bool {
-    is_array(fd, &c)
+fn is_profile(list: &mut List<'_>, c: [f64; 96]) -> bool {
+    is_array(list, &c)
 }
 
 fn same_profile(c: [f64; 96], d: [f64; 96]) -> bool {
@@ -141,82 +141,87 @@ fn zero_state() -> ElectrolyteState {
 // Whether the next answer, a number of the table and a profile where that is 0, is a. Where it is 0 the regions must be
 // those of `given`, and else the whole state that of `refused`.
 fn is_state(
-    fd: i32,
+    list: &mut List<'_>,
     a: ElectrolyteAnswer,
     given: ElectrolyteState,
     refused: ElectrolyteState,
 ) -> bool {
-    let number = next_u64(fd);
+    let number = next_u64(list);
     let state = a.state;
     if number != 0 {
         return (a.refusal == number) & same_state(state, refused);
     }
     let c = state.c_e;
-    is_profile(fd, c) & (a.refusal == 0) & same_regions(state, given)
+    is_profile(list, c) & (a.refusal == 0) & same_regions(state, given)
 }
 
-fn is_count(fd: i32, a: Count) -> bool {
-    let number = next_u64(fd);
+fn is_count(list: &mut List<'_>, a: Count) -> bool {
+    let number = next_u64(list);
     if number != 0 {
         return match a {
             Count::Value(_) => false,
             Count::Refused(k) => k == number,
         };
     }
-    let value = next_count(fd);
+    let value = next_count(list);
     match a {
         Count::Value(n) => n == value,
         Count::Refused(_) => false,
     }
 }
 
-pub(crate) fn rates_line(fd: i32, first: u64) -> bool {
-    let p = next_params(fd, words::from_bits(first));
-    let porosity = next_f64(fd);
-    let temp_k = next_f64(fd);
-    let d_e = is_answer(fd, p.d_e(temp_k));
-    let kappa = is_answer(fd, p.kappa(temp_k));
-    let d_e_eff = is_answer(fd, p.d_e_eff(porosity, temp_k));
-    let kappa_eff = is_answer(fd, p.kappa_eff(porosity, temp_k));
+pub(crate) fn rates_line(list: &mut List<'_>, first: u64) -> bool {
+    let p = next_params(list, words::from_bits(first));
+    let porosity = next_f64(list);
+    let temp_k = next_f64(list);
+    let d_e = is_answer(list, p.d_e(temp_k));
+    let kappa = is_answer(list, p.kappa(temp_k));
+    let d_e_eff = is_answer(list, p.d_e_eff(porosity, temp_k));
+    let kappa_eff = is_answer(list, p.kappa_eff(porosity, temp_k));
     d_e & kappa & d_e_eff & kappa_eff
 }
 
-pub(crate) fn new_line(fd: i32, first: u64) -> bool {
-    let e = next_regions(fd, words::from_bits(first));
+pub(crate) fn new_line(list: &mut List<'_>, first: u64) -> bool {
+    let e = next_regions(list, words::from_bits(first));
     let params = e.params;
     let a = ElectrolyteState::new(
         params, e.l_neg, e.l_sep, e.l_pos, e.eps_neg, e.eps_sep, e.eps_pos, e.n_neg, e.n_sep,
         e.n_pos,
     );
-    is_state(fd, a, e, zero_state())
+    is_state(list, a, e, zero_state())
 }
 
-pub(crate) fn numbers_line(fd: i32, first: u64) -> bool {
-    let e = next_state(fd, words::from_bits(first));
-    let n_total = is_count(fd, e.n_total());
-    let c_avg = is_answer(fd, e.c_avg());
+pub(crate) fn numbers_line(list: &mut List<'_>, first: u64) -> bool {
+    let e = next_state(list, words::from_bits(first));
+    let n_total = is_count(list, e.n_total());
+    let c_avg = is_answer(list, e.c_avg());
     n_total & c_avg
 }
 
-pub(crate) fn step_line(fd: i32, first: u64) -> bool {
-    let e = next_state(fd, words::from_bits(first));
-    let j_n_neg = next_f64(fd);
-    let j_n_pos = next_f64(fd);
-    let dt = next_f64(fd);
-    let temp_k = next_f64(fd);
-    is_state(fd, e.step_concentration(j_n_neg, j_n_pos, dt, temp_k), e, e)
+pub(crate) fn step_line(list: &mut List<'_>, first: u64) -> bool {
+    let e = next_state(list, words::from_bits(first));
+    let j_n_neg = next_f64(list);
+    let j_n_pos = next_f64(list);
+    let dt = next_f64(list);
+    let temp_k = next_f64(list);
+    is_state(
+        list,
+        e.step_concentration(j_n_neg, j_n_pos, dt, temp_k),
+        e,
+        e,
+    )
 }
 
-pub(crate) fn dt_stable_line(fd: i32, first: u64) -> bool {
-    let e = next_state(fd, words::from_bits(first));
-    let temp_k = next_f64(fd);
-    is_answer(fd, e.dt_stable(temp_k))
+pub(crate) fn dt_stable_line(list: &mut List<'_>, first: u64) -> bool {
+    let e = next_state(list, words::from_bits(first));
+    let temp_k = next_f64(list);
+    is_answer(list, e.dt_stable(temp_k))
 }
 
 // The ready parameters, whose first number is read already.
-pub(crate) fn is_ready(fd: i32, d_e_ref: u64) -> bool {
+pub(crate) fn is_ready(list: &mut List<'_>, d_e_ref: u64) -> bool {
     same_params(
-        next_params(fd, words::from_bits(d_e_ref)),
+        next_params(list, words::from_bits(d_e_ref)),
         ElectrolyteParams::lipf6_ec_dmc(),
     )
 }

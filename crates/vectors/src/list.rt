@@ -10,6 +10,12 @@ pub struct Word {
     pub end: u8,
 }
 
+// What of a list's bytes is not read yet.
+#[derive(Drop)]
+pub struct List<'a> {
+    pub rest: &'a [u8],
+}
+
 fn wide(b: u8) -> u64 {
     b as u64
 }
@@ -29,25 +35,26 @@ fn word_of(text: &[u8; 17]) -> u64 {
     value
 }
 
-pub(crate) fn next_word(fd: i32) -> Word {
-    let mut text = [0u8; 17];
-    let n = io::read_full(fd, &mut text);
-    if n < 17 {
-        return Word { value: 0, end: 0 };
-    }
-    Word {
-        value: word_of(&text),
-        end: text[16],
+pub(crate) fn next_word(list: &mut List<'_>) -> Word {
+    match list.rest.split_first_chunk::<17>() {
+        None => Word { value: 0, end: 0 },
+        Some((text, rest)) => {
+            list.rest = rest;
+            Word {
+                value: word_of(text),
+                end: text[16],
+            }
+        }
     }
 }
 
-pub(crate) fn next_u64(fd: i32) -> u64 {
-    let w = next_word(fd);
+pub(crate) fn next_u64(list: &mut List<'_>) -> u64 {
+    let w = next_word(list);
     w.value
 }
 
-pub(crate) fn next_f64(fd: i32) -> f64 {
-    words::from_bits(next_u64(fd))
+pub(crate) fn next_f64(list: &mut List<'_>) -> f64 {
+    words::from_bits(next_u64(list))
 }
 
 // A test's answer: 1 where it passes, 0 where not.
@@ -56,20 +63,20 @@ pub(crate) fn is_flag(w: Word, passes: bool) -> bool {
 }
 
 // Whether the next word is x, by its bits.
-pub(crate) fn is_f64(fd: i32, x: f64) -> bool {
-    next_u64(fd) == words::to_bits(x)
+pub(crate) fn is_f64(list: &mut List<'_>, x: f64) -> bool {
+    next_u64(list) == words::to_bits(x)
 }
 
 // Whether the next answer, a number of the table and a value where that is 0, is a.
-pub(crate) fn is_answer(fd: i32, a: Answer) -> bool {
-    let number = next_u64(fd);
+pub(crate) fn is_answer(list: &mut List<'_>, a: Answer) -> bool {
+    let number = next_u64(list);
     if number != 0 {
         return match a {
             Answer::Value(_) => false,
             Answer::Refused(k) => k == number,
         };
     }
-    let value = next_u64(fd);
+    let value = next_u64(list);
     match a {
         Answer::Value(x) => words::to_bits(x) == value,
         Answer::Refused(_) => false,
@@ -79,26 +86,26 @@ pub(crate) fn is_answer(fd: i32, a: Answer) -> bool {
 // ---- arrays: how many places are listed, then these; the others are +0
 
 // A place's word: the next one where it is listed, else that of +0.
-fn word_at(fd: i32, listed: bool) -> u64 {
-    if listed { next_u64(fd) } else { 0 }
+fn word_at(list: &mut List<'_>, listed: bool) -> u64 {
+    if listed { next_u64(list) } else { 0 }
 }
 
 // Reads an array into all the places that there are.
-pub(crate) fn read_array(fd: i32, places: &mut [f64]) {
-    let listed = next_u64(fd);
+pub(crate) fn read_array(list: &mut List<'_>, places: &mut [f64]) {
+    let listed = next_u64(list);
     let n = places.len();
     for i in 0..n {
-        places[i] = words::from_bits(word_at(fd, (i as u64) < listed));
+        places[i] = words::from_bits(word_at(list, (i as u64) < listed));
     }
 }
 
 // Whether the next array is c, by its bits.
-pub(crate) fn is_array(fd: i32, c: &[f64]) -> bool {
-    let listed = next_u64(fd);
+pub(crate) fn is_array(list: &mut List<'_>, c: &[f64]) -> bool {
+    let listed = next_u64(list);
     let n = c.len();
     let mut agrees = listed <= n as u64;
     for i in 0..n {
-        agrees = agrees & (word_at(fd, (i as u64) < listed) == words::to_bits(c[i]));
+        agrees = agrees & (word_at(list, (i as u64) < listed) == words::to_bits(c[i]));
     }
     agrees
 }
@@ -134,14 +141,13 @@ fn keep(room: &mut [f64], kept: usize, x: f64) -> usize
 }
 
 // Reads a slice into the room that there is, and says how many places are kept.
-pub(crate) fn read_slice(fd: i32, room: &mut [f64]) -> usize
+pub(crate) fn read_slice(list: &mut List<'_>, room: &mut [f64]) -> usize
     ensures { result ≤ length room.new }
 {
-    let mut left = next_u64(fd);
+    let listed = next_u64(list);
     let mut kept: usize = 0;
-    while left > 0 {
-        kept = keep(room, kept, next_f64(fd));
-        left -= 1;
+    for _place in 0..listed {
+        kept = keep(room, kept, next_f64(list));
     }
     kept
 }

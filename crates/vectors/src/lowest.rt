@@ -2,7 +2,7 @@
 // places, and no summary more than 8.
 use crate::cells::next_solver;
 use crate::dfn_cells::next_cell;
-use crate::list::{is_array, next_f64, next_u64, read_slice};
+use crate::list::{List, is_array, next_f64, next_u64, read_slice};
 use crate::rows::{is_ending, mark_all};
 use dfn::DfnSolver;
 use discharge_run::simulate_discharge;
@@ -12,17 +12,17 @@ use runs::Ending;
 use solver::SpmSolver;
 
 // Whether the next answer is this: the ending, the refusal, the count of rows, and the summary as it is left.
-fn is_left(fd: i32, ending: Ending, count: usize, summary: &[f64]) -> bool {
-    let number = next_u64(fd);
-    let ended = is_ending(ending, number, next_u64(fd));
-    let counted = next_u64(fd) == count as u64;
-    ended & counted & is_array(fd, summary)
+fn is_left(list: &mut List<'_>, ending: Ending, count: usize, summary: &[f64]) -> bool {
+    let number = next_u64(list);
+    let ended = is_ending(ending, number, next_u64(list));
+    let counted = next_u64(list) == count as u64;
+    ended & counted & is_array(list, summary)
 }
 
 // ---- simulate_discharge
 
 fn discharge_agrees(
-    fd: i32,
+    list: &mut List<'_>,
     s: SpmSolver,
     rows: &mut [f64],
     room: &mut [f64],
@@ -31,26 +31,26 @@ fn discharge_agrees(
     temp_k: f64,
     limit: f64,
 ) -> bool {
-    let k = read_slice(fd, room);
+    let k = read_slice(list, room);
     let summary = &mut room[..k];
     mark_all(rows);
     let r = simulate_discharge(s, current_a, dt, temp_k, limit, rows, summary);
     let ending = r.ending;
-    is_left(fd, ending, r.rows, summary)
+    is_left(list, ending, r.rows, summary)
 }
 
-pub(crate) fn discharge_line(fd: i32, first: u64) -> bool {
-    let s = next_solver(fd, first);
-    let current_a = next_f64(fd);
-    let dt = next_f64(fd);
-    let temp_k = next_f64(fd);
-    let limit = next_f64(fd);
-    let n = next_u64(fd) as usize;
+pub(crate) fn discharge_line(list: &mut List<'_>, first: u64) -> bool {
+    let s = next_solver(list, first);
+    let current_a = next_f64(list);
+    let dt = next_f64(list);
+    let temp_k = next_f64(list);
+    let limit = next_f64(list);
+    let n = next_u64(list) as usize;
     if n <= 2048 {
         let mut rows = [0.0; 2048];
         let mut room = [0.0; 8];
         let lent = &mut rows[..n];
-        return discharge_agrees(fd, s, lent, &mut room, current_a, dt, temp_k, limit);
+        return discharge_agrees(list, s, lent, &mut room, current_a, dt, temp_k, limit);
     }
     false
 }
@@ -58,7 +58,7 @@ pub(crate) fn discharge_line(fd: i32, first: u64) -> bool {
 // ---- run_galvanostatic
 
 fn galvanostatic_agrees(
-    fd: i32,
+    list: &mut List<'_>,
     cell: DfnSolver,
     rows: &mut [f64],
     room: &mut [f64],
@@ -66,25 +66,25 @@ fn galvanostatic_agrees(
     dt: f64,
     limit: f64,
 ) -> bool {
-    let k = read_slice(fd, room);
+    let k = read_slice(list, room);
     let summary = &mut room[..k];
     mark_all(rows);
     let r = run_galvanostatic(cell, current, dt, limit, rows, summary);
     let ending = r.ending;
-    is_left(fd, ending, r.rows, summary)
+    is_left(list, ending, r.rows, summary)
 }
 
-pub(crate) fn galvanostatic_line(fd: i32, first: u64) -> bool {
-    let cell = next_cell(fd, first);
-    let current = next_f64(fd);
-    let dt = next_f64(fd);
-    let limit = next_f64(fd);
-    let n = next_u64(fd) as usize;
+pub(crate) fn galvanostatic_line(list: &mut List<'_>, first: u64) -> bool {
+    let cell = next_cell(list, first);
+    let current = next_f64(list);
+    let dt = next_f64(list);
+    let limit = next_f64(list);
+    let n = next_u64(list) as usize;
     if n <= 2048 {
         let mut rows = [0.0; 2048];
         let mut room = [0.0; 8];
         let lent = &mut rows[..n];
-        return galvanostatic_agrees(fd, cell, lent, &mut room, current, dt, limit);
+        return galvanostatic_agrees(list, cell, lent, &mut room, current, dt, limit);
     }
     false
 }
@@ -92,25 +92,25 @@ pub(crate) fn galvanostatic_line(fd: i32, first: u64) -> bool {
 // ---- the search
 
 // What stands in the place i: in a row's first place the next voltage, where it is listed, else -infinity.
-fn next_place(fd: i32, i: usize, listed: u64) -> f64 {
+fn next_place(list: &mut List<'_>, i: usize, listed: u64) -> f64 {
     if (i % 8 == 0) & (((i / 8) as u64) < listed) {
-        return next_f64(fd);
+        return next_f64(list);
     }
     words::from_bits(0xfff0_0000_0000_0000)
 }
 
 // Reads the rows' voltages.
-fn read_voltages(fd: i32, rows: &mut [f64]) {
-    let listed = next_u64(fd);
+fn read_voltages(list: &mut List<'_>, rows: &mut [f64]) {
+    let listed = next_u64(list);
     let n = rows.len();
     for i in 0..n {
-        rows[i] = next_place(fd, i, listed);
+        rows[i] = next_place(list, i, listed);
     }
 }
 
 // Whether the next answer is this: a refusal, or 0 with 1 and the row or 2 and 0.
-fn is_found(fd: i32, found: Found) -> bool {
-    let number = next_u64(fd);
+fn is_found(list: &mut List<'_>, found: Found) -> bool {
+    let number = next_u64(list);
     if number != 0 {
         return match found {
             Found::Row(_) => false,
@@ -118,8 +118,8 @@ fn is_found(fd: i32, found: Found) -> bool {
             Found::Refused(k) => k == number,
         };
     }
-    let how = next_u64(fd);
-    let row = next_u64(fd);
+    let how = next_u64(list);
+    let row = next_u64(list);
     match found {
         Found::Row(j) => (how == 1) & (row == j as u64),
         Found::None => (how == 2) & (row == 0),
@@ -127,22 +127,22 @@ fn is_found(fd: i32, found: Found) -> bool {
     }
 }
 
-fn search_agrees(fd: i32, which: u64, rows: &mut [f64], room: &mut [f64]) -> bool {
-    read_voltages(fd, rows);
-    let k = read_slice(fd, room);
-    let count = next_u64(fd) as usize;
-    let voltage = next_f64(fd);
+fn search_agrees(list: &mut List<'_>, which: u64, rows: &mut [f64], room: &mut [f64]) -> bool {
+    read_voltages(list, rows);
+    let k = read_slice(list, room);
+    let count = next_u64(list) as usize;
+    let voltage = next_f64(list);
     let found = first_below(which, rows, &room[..k], count, voltage);
-    is_found(fd, found)
+    is_found(list, found)
 }
 
-pub(crate) fn search_line(fd: i32, which: u64) -> bool {
-    let n = next_u64(fd) as usize;
+pub(crate) fn search_line(list: &mut List<'_>, which: u64) -> bool {
+    let n = next_u64(list) as usize;
     if n <= 2048 {
         let mut rows = [0.0; 2048];
         let mut room = [0.0; 8];
         let lent = &mut rows[..n];
-        return search_agrees(fd, which, lent, &mut room);
+        return search_agrees(list, which, lent, &mut room);
     }
     false
 }

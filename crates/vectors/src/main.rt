@@ -21,8 +21,13 @@ mod systems;
 
 ghost use Rattle.std.specs.Prelude.{◌≤◌, length};
 
-use libc::STDOUT_FILENO;
-use list::next_word;
+use list::{List, next_word};
+use std::env::{Args, Env, args};
+use std::fs::Files;
+use std::io::ErrorKind;
+
+// The descriptor that the program writes to.
+const STDOUT: i32 = 1;
 
 // The lists in the order of the arguments.
 const RANGES: u64 = 0;
@@ -96,68 +101,68 @@ const GALVANOSTATIC_LOWEST: u64 = 33;
 const FIRST_BELOW: u64 = 34;
 
 // Whether a line agrees, whose first word is read already: of the inner parts, the sheet and the particle.
-fn small_line(which: u64, fd: i32, first: u64) -> bool {
+fn small_line(which: u64, list: &mut List<'_>, first: u64) -> bool {
     match which {
-        RANGES => ranges::line(fd, first),
-        ELEMENTARY => functions::elementary_line(fd, first),
-        POWF => functions::powf_line(fd, first),
-        SMALL => functions::small_line(fd, first),
-        COUNTS => functions::count_line(fd, first),
-        READY_SHEETS => sheets::ready_line(fd, first),
-        D_S => sheets::d_s_line(fd, first),
-        SPECIFIC_AREA => sheets::area_line(fd, first),
-        OCP => sheets::ocp_line(fd, first),
-        SPHERE_VOLUME => sheets::volume_line(fd, first),
-        PARTICLE_NEW => particles::new_line(fd, first),
-        PARTICLE_STEP => particles::step_line(fd, first),
-        PARTICLE_DT_STABLE => particles::dt_stable_line(fd, first),
-        PARTICLE_NUMBERS => particles::number_line(fd, first),
+        RANGES => ranges::line(list, first),
+        ELEMENTARY => functions::elementary_line(list, first),
+        POWF => functions::powf_line(list, first),
+        SMALL => functions::small_line(list, first),
+        COUNTS => functions::count_line(list, first),
+        READY_SHEETS => sheets::ready_line(list, first),
+        D_S => sheets::d_s_line(list, first),
+        SPECIFIC_AREA => sheets::area_line(list, first),
+        OCP => sheets::ocp_line(list, first),
+        SPHERE_VOLUME => sheets::volume_line(list, first),
+        PARTICLE_NEW => particles::new_line(list, first),
+        PARTICLE_STEP => particles::step_line(list, first),
+        PARTICLE_DT_STABLE => particles::dt_stable_line(list, first),
+        PARTICLE_NUMBERS => particles::number_line(list, first),
         _ => false,
     }
 }
 
 // The same of the cells, the electrolyte, the equations, E where it is largest and least, recorded loads, phases, and the lowest voltages of groups.
-fn large_line(which: u64, fd: i32, first: u64) -> bool {
+fn large_line(which: u64, list: &mut List<'_>, first: u64) -> bool {
     match which {
-        READY_CELLS => cells::ready_line(fd, first),
-        CELL_NEW => cells::new_line(fd, first),
-        CELL_STEP => cells::step_line(fd, first),
-        CELL_NUMBERS => cells::number_line(fd, first),
-        SIMULATE_DISCHARGE => discharges::run_line(fd, first),
-        ELECTROLYTE_RATES => electrolytes::rates_line(fd, first),
-        ELECTROLYTE_NEW => electrolytes::new_line(fd, first),
-        ELECTROLYTE_NUMBERS => electrolytes::numbers_line(fd, first),
-        STEP_CONCENTRATION => electrolytes::step_line(fd, first),
-        ELECTROLYTE_DT_STABLE => electrolytes::dt_stable_line(fd, first),
-        SOLVE_DENSE => systems::line(fd, first),
-        READY_PARAMETERS => dfn_cells::ready_line(fd, first),
-        DFN_NEW => dfn_cells::new_line(fd, first),
-        DFN_STEP => dfn_cells::step_line(fd, first),
-        RUN_GALVANOSTATIC => dfn_cells::run_line(fd, first),
-        EXP => functions::exp_line(fd, first),
-        REPLAY => replays::run_line(fd, first),
-        CYCLE => cycles::run_line(fd, first),
-        DISCHARGE_LOWEST => lowest::discharge_line(fd, first),
-        GALVANOSTATIC_LOWEST => lowest::galvanostatic_line(fd, first),
-        FIRST_BELOW => lowest::search_line(fd, first),
+        READY_CELLS => cells::ready_line(list, first),
+        CELL_NEW => cells::new_line(list, first),
+        CELL_STEP => cells::step_line(list, first),
+        CELL_NUMBERS => cells::number_line(list, first),
+        SIMULATE_DISCHARGE => discharges::run_line(list, first),
+        ELECTROLYTE_RATES => electrolytes::rates_line(list, first),
+        ELECTROLYTE_NEW => electrolytes::new_line(list, first),
+        ELECTROLYTE_NUMBERS => electrolytes::numbers_line(list, first),
+        STEP_CONCENTRATION => electrolytes::step_line(list, first),
+        ELECTROLYTE_DT_STABLE => electrolytes::dt_stable_line(list, first),
+        SOLVE_DENSE => systems::line(list, first),
+        READY_PARAMETERS => dfn_cells::ready_line(list, first),
+        DFN_NEW => dfn_cells::new_line(list, first),
+        DFN_STEP => dfn_cells::step_line(list, first),
+        RUN_GALVANOSTATIC => dfn_cells::run_line(list, first),
+        EXP => functions::exp_line(list, first),
+        REPLAY => replays::run_line(list, first),
+        CYCLE => cycles::run_line(list, first),
+        DISCHARGE_LOWEST => lowest::discharge_line(list, first),
+        GALVANOSTATIC_LOWEST => lowest::galvanostatic_line(list, first),
+        FIRST_BELOW => lowest::search_line(list, first),
         _ => false,
     }
 }
 
-fn line(which: u64, fd: i32, first: u64) -> bool {
+fn line(which: u64, list: &mut List<'_>, first: u64) -> bool {
     if which < READY_CELLS {
-        return small_line(which, fd, first);
+        return small_line(which, list, first);
     }
-    large_line(which, fd, first)
+    large_line(which, list, first)
 }
 
 fn write_counts(name: &[u8], agreed: u64, lines: u64) {
-    io::write_all(STDOUT_FILENO, name);
-    io::write_all(STDOUT_FILENO, b": ");
-    io::print_decimal(STDOUT_FILENO, agreed);
-    io::write_all(STDOUT_FILENO, b" of ");
-    io::print_decimal(STDOUT_FILENO, lines);
-    io::write_all(STDOUT_FILENO, b" agree\n");
+    io::write_all(STDOUT, name);
+    io::write_all(STDOUT, b": ");
+    io::print_decimal(STDOUT, agreed);
+    io::write_all(STDOUT, b" of ");
+    io::print_decimal(STDOUT, lines);
+    io::write_all(STDOUT, b" agree\n");
 }
 
 // Writes each of the names, which '|' ends, with how many answers of it were replayed, and says how many these are together.
@@ -168,35 +173,53 @@ fn write_calls(names: &[u8], answers: u64) -> u64 {
             write_answers(answers);
             sum = std::num::wrapping_add_u64(sum, answers);
         } else {
-            io::write_all(STDOUT_FILENO, &[names[i]]);
+            io::write_all(STDOUT, &[names[i]]);
         }
     }
     sum
 }
 
 fn write_answers(answers: u64) {
-    io::write_all(STDOUT_FILENO, b": ");
-    io::print_decimal(STDOUT_FILENO, answers);
-    io::write_all(STDOUT_FILENO, b" answers\n");
+    io::write_all(STDOUT, b": ");
+    io::print_decimal(STDOUT, answers);
+    io::write_all(STDOUT, b" answers\n");
+}
+
+// All the bytes of the file `name`.
+fn read_list<R: Files + AllocGlobal>(rt: &R, name: &[u8]) -> std::io::Result<Vec<u8>> {
+    match std::str::from_utf8(name) {
+        Ok(path) => std::fs::read(rt, path),
+        Err(_) => Err(std::io::Error::from(ErrorKind::InvalidInput)),
+    }
 }
 
 // Replays the list `which`, which stands in the file `name` and has an answer of each of the calls in every line; says how many answers it holds.
-fn replay(which: u64, name: &[u8], calls: &[u8]) -> u64 {
-    let fd = os::open_read(name);
+fn replay<R: Files + AllocGlobal>(
+    rt: &R,
+    which: u64,
+    name: &[u8],
+    calls: &[u8],
+) -> std::io::Result<u64> {
+    let bytes = read_list(rt, name)?;
+    Ok(replay_list(which, &mut List { rest: &bytes }, name, calls))
+}
+
+// Replays the list `which`, as `replay` does, of whose bytes none is read yet.
+fn replay_list(which: u64, list: &mut List<'_>, name: &[u8], calls: &[u8]) -> u64 {
     let mut lines: u64 = 0;
     let mut agreed: u64 = 0;
-    // nothing says that a file ends, so the loop counts its turns down
-    let mut turns: u64 = 1000000;
-    let mut first = next_word(fd);
-    while turns > 0 && first.end != 0 {
+    let mut first = next_word(list);
+    // no list has more lines than this
+    for _turn in 0..1000000 {
+        if first.end == 0 {
+            break;
+        }
         lines = std::num::wrapping_add_u64(lines, 1);
-        if line(which, fd, first.value) {
+        if line(which, list, first.value) {
             agreed = std::num::wrapping_add_u64(agreed, 1);
         }
-        turns -= 1;
-        first = next_word(fd);
+        first = next_word(list);
     }
-    libc::close(fd);
     write_counts(name, agreed, lines);
     write_calls(calls, lines)
 }
@@ -212,30 +235,39 @@ fn calls_length(text: &[u8]) -> usize
     k
 }
 
-fn replay_text(which: u64, text: &[u8]) -> u64 {
+fn replay_text<R: Files + AllocGlobal>(rt: &R, which: u64, text: &[u8]) -> std::io::Result<u64> {
     let k = calls_length(text);
-    replay(which, &text[k..], &text[..k])
+    replay(rt, which, &text[k..], &text[..k])
 }
 
-// Replays the list of an argument; the first argument is number 1.
-fn replay_argument(which: usize) -> u64 {
-    let mut text = io::buffer();
-    let n = os::arg(std::num::wrapping_add_usize(which, 1), &mut text);
-    replay_text(which as u64, &text[..n])
+// Replays the list of the next argument; one that is missing counts as empty.
+fn replay_argument<R: Files + AllocGlobal>(
+    rt: &R,
+    which: usize,
+    texts: &mut Args,
+) -> std::io::Result<u64> {
+    match texts.next() {
+        Some(text) => replay_text(rt, which as u64, text.as_bytes()),
+        None => replay_text(rt, which as u64, b""),
+    }
 }
 
-fn replay_all() -> u64 {
+fn replay_all<R: Env + Files + AllocGlobal>(rt: &R) -> std::io::Result<u64> {
+    let mut texts = args(rt)?;
+    // the program's own name
+    let _ = texts.next();
     let mut answers: u64 = 0;
     for which in 0..35 {
-        answers = std::num::wrapping_add_u64(answers, replay_argument(which));
+        answers = std::num::wrapping_add_u64(answers, replay_argument(rt, which, &mut texts)?);
     }
-    answers
+    Ok(answers)
 }
 
-fn main() {
-    let answers = replay_all();
+fn main(rt: HostRuntime) -> std::io::Result<()> {
+    let answers = replay_all(&rt)?;
     run_only::particles();
     run_only::salty_steps();
-    io::write_all(STDOUT_FILENO, b"total");
+    io::write_all(STDOUT, b"total");
     write_answers(answers);
+    Ok(())
 }

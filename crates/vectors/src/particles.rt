@@ -1,17 +1,17 @@
 // The lists of the particle's calls.
-use crate::list::{is_answer, is_array, next_f64, next_u64, read_array, same_arrays};
+use crate::list::{List, is_answer, is_array, next_f64, next_u64, read_array, same_arrays};
 use crate::sheets::{next_sheet, same_sheet};
 use particle::{ParticleAnswer, ParticleDiffusion};
 
-fn next_places(fd: i32) -> [f64; 64] {
+fn next_places(list: &mut List<'_>) -> [f64; 64] {
     let mut c = [0.0; 64];
-    read_array(fd, &mut c);
+    read_array(list, &mut c);
     c
 }
 
 // Whether the next profile is c.
-fn is_places(fd: i32, c: [f64; 64]) -> bool {
-    is_array(fd, &c)
+fn is_places(list: &mut List<'_>, c: [f64; 64]) -> bool {
+    is_array(list, &c)
 }
 
 pub(crate) fn same_particle(a: ParticleDiffusion, b: ParticleDiffusion) -> bool {
@@ -23,10 +23,10 @@ pub(crate) fn same_particle(a: ParticleDiffusion, b: ParticleDiffusion) -> bool 
 }
 
 // A particle whose chemistry is read already.
-pub(crate) fn next_particle(fd: i32, electrode_type: u64) -> ParticleDiffusion {
-    let params = next_sheet(fd, electrode_type);
-    let n_nodes = next_u64(fd) as usize;
-    let c_s = next_places(fd);
+pub(crate) fn next_particle(list: &mut List<'_>, electrode_type: u64) -> ParticleDiffusion {
+    let params = next_sheet(list, electrode_type);
+    let n_nodes = next_u64(list) as usize;
+    let c_s = next_places(list);
     ParticleDiffusion {
         params,
         n_nodes,
@@ -35,8 +35,8 @@ pub(crate) fn next_particle(fd: i32, electrode_type: u64) -> ParticleDiffusion {
 }
 
 // Whether the next answer is a: of an accepted call the profile beside the old fields, of a refused one the particle as it was.
-fn is_particle_answer(fd: i32, before: ParticleDiffusion, a: ParticleAnswer) -> bool {
-    let number = next_u64(fd);
+fn is_particle_answer(list: &mut List<'_>, before: ParticleDiffusion, a: ParticleAnswer) -> bool {
+    let number = next_u64(list);
     let p = a.particle;
     if number != 0 {
         return (a.refusal == number) & same_particle(before, p);
@@ -44,13 +44,16 @@ fn is_particle_answer(fd: i32, before: ParticleDiffusion, a: ParticleAnswer) -> 
     let c_s = p.c_s;
     let params = p.params;
     let old = before.params;
-    (a.refusal == 0) & same_sheet(params, old) & (p.n_nodes == before.n_nodes) & is_places(fd, c_s)
+    (a.refusal == 0)
+        & same_sheet(params, old)
+        & (p.n_nodes == before.n_nodes)
+        & is_places(list, c_s)
 }
 
-pub(crate) fn new_line(fd: i32, first: u64) -> bool {
-    let params = next_sheet(fd, first);
-    let n = next_u64(fd) as usize;
-    let number = next_u64(fd);
+pub(crate) fn new_line(list: &mut List<'_>, first: u64) -> bool {
+    let params = next_sheet(list, first);
+    let n = next_u64(list) as usize;
+    let number = next_u64(list);
     let a = ParticleDiffusion::new(params, n);
     let p = a.particle;
     let c_s = p.c_s;
@@ -58,28 +61,28 @@ pub(crate) fn new_line(fd: i32, first: u64) -> bool {
     if number != 0 {
         return (a.refusal == number) & (p.n_nodes == 0) & (words::to_bits(c_s[0]) == 0);
     }
-    (a.refusal == 0) & same_sheet(made, params) & (p.n_nodes == n) & is_places(fd, c_s)
+    (a.refusal == 0) & same_sheet(made, params) & (p.n_nodes == n) & is_places(list, c_s)
 }
 
-pub(crate) fn step_line(fd: i32, first: u64) -> bool {
-    let p = next_particle(fd, first);
-    let j_n = next_f64(fd);
-    let dt = next_f64(fd);
-    let temp_k = next_f64(fd);
-    is_particle_answer(fd, p, p.step(j_n, dt, temp_k))
+pub(crate) fn step_line(list: &mut List<'_>, first: u64) -> bool {
+    let p = next_particle(list, first);
+    let j_n = next_f64(list);
+    let dt = next_f64(list);
+    let temp_k = next_f64(list);
+    is_particle_answer(list, p, p.step(j_n, dt, temp_k))
 }
 
-pub(crate) fn dt_stable_line(fd: i32, first: u64) -> bool {
-    let p = next_particle(fd, first);
-    let temp_k = next_f64(fd);
-    is_answer(fd, p.dt_stable(temp_k))
+pub(crate) fn dt_stable_line(list: &mut List<'_>, first: u64) -> bool {
+    let p = next_particle(list, first);
+    let temp_k = next_f64(list);
+    is_answer(list, p.dt_stable(temp_k))
 }
 
-pub(crate) fn number_line(fd: i32, first: u64) -> bool {
-    let p = next_particle(fd, first);
-    let surface = is_answer(fd, p.theta_surface());
-    let average = is_answer(fd, p.theta_avg());
-    let concentration = is_answer(fd, p.c_avg());
-    let potential = is_answer(fd, p.ocp_surface());
+pub(crate) fn number_line(list: &mut List<'_>, first: u64) -> bool {
+    let p = next_particle(list, first);
+    let surface = is_answer(list, p.theta_surface());
+    let average = is_answer(list, p.theta_avg());
+    let concentration = is_answer(list, p.c_avg());
+    let potential = is_answer(list, p.ocp_surface());
     surface & average & concentration & potential
 }

@@ -1,5 +1,5 @@
 // What a run leaves in the slice that it was lent, and how it ended.
-use crate::list::{next_u64, same};
+use crate::list::{List, next_u64, same};
 use runs::Ending;
 
 // What stands in the place i before a run.
@@ -15,20 +15,20 @@ pub(crate) fn mark_all(rows: &mut [f64]) {
 }
 
 // The word of the place i: the next one where it is written, else that from before the run.
-fn row_word(fd: i32, i: usize, written: u64) -> u64 {
+fn row_word(list: &mut List<'_>, i: usize, written: u64) -> u64 {
     if (i as u64) < written {
-        return next_u64(fd);
+        return next_u64(list);
     }
     words::to_bits(mark(i))
 }
 
 // Whether the next slice is the rows that were written, `count` of them, and the places after them are as they were.
-pub(crate) fn is_rows(fd: i32, rows: &[f64], count: usize) -> bool {
-    let written = next_u64(fd);
+pub(crate) fn is_rows(list: &mut List<'_>, rows: &[f64], count: usize) -> bool {
+    let written = next_u64(list);
     let n = rows.len();
     let mut agrees = count as u64 == written / 8;
     for i in 0..n {
-        agrees = agrees & (words::to_bits(rows[i]) == row_word(fd, i, written));
+        agrees = agrees & (words::to_bits(rows[i]) == row_word(list, i, written));
     }
     agrees
 }

@@ -1,14 +1,14 @@
 // The worked examples that are run only, a line each: what it is, and the number of the refusal, 0 where it passes.
+use crate::STDOUT;
 use dfn::DfnSolver;
 use dfn_parameters::{DfnConfig, DfnParams};
 use electrode::ElectrodeParams;
-use libc::STDOUT_FILENO;
 use particle::ParticleDiffusion;
 
 fn write_number(what: &[u8], number: u64) {
-    io::write_all(STDOUT_FILENO, what);
-    io::print_decimal(STDOUT_FILENO, number);
-    io::write_all(STDOUT_FILENO, b"\n");
+    io::write_all(STDOUT, what);
+    io::print_decimal(STDOUT, number);
+    io::write_all(STDOUT, b"\n");
 }
 
 fn particle_of(n: usize) -> u64 {

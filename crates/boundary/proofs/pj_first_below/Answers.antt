@@ -34,10 +34,9 @@ unfolding after_lengths search_return search_after
 returns-in-Row c =
     let write-word2 = c.write_word-in-Row in
     let write_word = c.write_word in
-    let found = c.found-1 in
     let first_below = c.first_below-found in
     let if1 = c.if-answer-ne-FOUND_BYTES in
-    let r = (found-written _ _ _ _ _ _ (ap found_by (sym found.given.1) ∙ first_below.ensures) refl write_word.ensures write-word2.ensures) in
+    let r = (found-written _ _ _ _ _ _ (ap found_by (sym c.in-Row.is) ∙ first_below.ensures) refl write_word.ensures write-word2.ensures) in
     record { number = rw (eq-eqb _ _ if1.false) r.0; written = rw (eq-eqb _ _ if1.false) r.1 }
 
 pub returns-in-None : goal.returns-in-None
@@ -45,17 +44,15 @@ unfolding after_lengths search_return search_after
 returns-in-None c =
     let write-word4 = c.write_word-in-None-2 in
     let write-word3 = c.write_word-in-None in
-    let enum_told = c.enum_told-1 in
     let first_below = c.first_below-found in
     let if1 = c.if-answer-ne-FOUND_BYTES in
-    let r = (found-written _ _ _ _ _ _ (ap found_by (sym enum_told.given.1) ∙ first_below.ensures) refl write-word3.ensures write-word4.ensures) in
+    let r = (found-written _ _ _ _ _ _ (ap found_by (sym c.in-None.is) ∙ first_below.ensures) refl write-word3.ensures write-word4.ensures) in
     record { number = rw (eq-eqb _ _ if1.false) r.0; written = rw (eq-eqb _ _ if1.false) r.1 }
 
 pub returns-in-Refused : goal.returns-in-Refused
 unfolding after_lengths search_return search_after
 returns-in-Refused c =
-    let found2 = c.found-in-Refused-1 in
     let first_below = c.first_below-found in
     let if1 = c.if-answer-ne-FOUND_BYTES in
-    let r = (found-refused _ _ _ (ap found_by (sym found2.given.1) ∙ first_below.ensures)) in
+    let r = (found-refused _ _ _ (ap found_by (sym c.in-Refused.is) ∙ first_below.ensures)) in
     record { number = rw (eq-eqb _ _ if1.false) r.0; written = rw (eq-eqb _ _ if1.false) r.1 }

@@ -29,14 +29,13 @@ pub returns-in-Value : goal.returns-in-Value
 unfolding number_call
 returns-in-Value c =
     let write-f64 = c.write_f64 in
-    let outcome = c.outcome-1 in
     let number_of = c.number_of-outcome in
     let if2 = c.if-not-lengths_fit in
     let lengths-fit = c.lengths_fit in
     let number-length = c.number_length in
     let if1 = c.if-not-is_listed in
     let is-listed = c.is_listed in
-    let r = (value_answered _ _ _ _ (ap outcome_of (sym outcome.given.1) ∙ number_of.ensures) write-f64.ensures) in
+    let r = (value_answered _ _ _ _ (ap outcome_of (sym c.in-Value.is) ∙ number_of.ensures) write-f64.ensures) in
     record { number = rw (
       ← is-listed.ensures,
       if1.false,
@@ -54,14 +53,13 @@ returns-in-Value c =
 pub returns-in-Refused : goal.returns-in-Refused
 unfolding number_call
 returns-in-Refused c =
-    let outcome2 = c.outcome-in-Refused-1 in
     let number_of = c.number_of-outcome in
     let if2 = c.if-not-lengths_fit in
     let lengths-fit = c.lengths_fit in
     let number-length = c.number_length in
     let if1 = c.if-not-is_listed in
     let is-listed = c.is_listed in
-    let r = (refusal_answered _ _ _ (ap outcome_of (sym outcome2.given.1) ∙ number_of.ensures)) in
+    let r = (refusal_answered _ _ _ (ap outcome_of (sym c.in-Refused.is) ∙ number_of.ensures)) in
     record { number = rw (
       ← is-listed.ensures,
       if1.false,

@@ -37,17 +37,17 @@ returns-then-kinds_fit c =
     let cycle = c.cycle-run in
     let phases-at = c.phases_at-list in
     let kinds-fit = c.kinds_fit in
-    let Cell-at = c.cell_at in
+    let cell = c.cell_at-s in
     let args = c.args in
     let fit = sym kinds-fit.ensures ∙ c.if-kinds_fit.true in
-    let run = rw (phases-at.ensures, Cell-at.ensures) at cycle.ensures.number ∙ kinds-listed _ _ _ _ fit in record { number = put-run.ensures.number ∙ ap (λ (r : RunOutcome). r.ended.refusal) run; rows = rw fit (rw (phases-at.ensures, Cell-at.ensures) at cycle.ensures.rows); written = put-run.ensures.written ∙ ap (λ (r : RunOutcome). run_written r args.answer.now) run }
+    let run = rw (phases-at.ensures, cell.ensures) at cycle.ensures.result ∙ kinds-listed _ _ _ _ fit in record { number = put-run.ensures.number ∙ ap (λ (r : RunOutcome). r.ended.refusal) run; rows = rw fit (rw (phases-at.ensures, cell.ensures) at cycle.ensures.rows); written = put-run.ensures.written ∙ ap (λ (r : RunOutcome). run_written r args.answer.now) run }
 
 pub returns : goal.returns
 unfolding cycle_return cycle_rows cycle_after
 returns c =
     let kinds-fit = c.kinds_fit in
-    let Cell-at = c.cell_at in
+    let cell = c.cell_at-s in
     let args = c.args in
     let unfit = sym kinds-fit.ensures ∙ c.if-kinds_fit.false in
-    let counts = rw Cell-at.ensures at c.counts_refusal.ensures in
+    let counts = rw cell.ensures at c.counts_refusal.ensures in
     let run = kind-refused _ _ _ _ unfit in record { number = c.first_refusal.ensures ∙ ap (λ (k : ℕ). N.first_refusal k N.sheet) counts ∙ ap (λ (r : RunOutcome). r.ended.refusal) run; rows = rw unfit; written = refused-unwritten _ _ _ ∙ ap (λ (r : RunOutcome). run_written r args.answer.now) run }

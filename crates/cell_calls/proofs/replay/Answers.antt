@@ -10,6 +10,6 @@ unfolding replay_return replay_rows replay_after
 returns c =
     let put-run = c.put_run in
     let replay = c.replay-run in
-    let Cell-at = c.cell_at in
+    let cell = c.cell_at in
     let args = c.args in
-    let run = rw Cell-at.ensures at replay.ensures.number in record { number = put-run.ensures.number ∙ ap (λ (r : RunOutcome). r.ended.refusal) run; rows = rw Cell-at.ensures at replay.ensures.rows; written = put-run.ensures.written ∙ ap (λ (r : RunOutcome). run_written r args.answer.now) run }
+    let run = rw cell.ensures at replay.ensures.result in record { number = put-run.ensures.number ∙ ap (λ (r : RunOutcome). r.ended.refusal) run; rows = rw cell.ensures at replay.ensures.rows; written = put-run.ensures.written ∙ ap (λ (r : RunOutcome). run_written r args.answer.now) run }

@@ -10,7 +10,6 @@ unfolding discharge_return discharge_rows discharge_lowest discharge_after
 returns c =
     let put-run = c.put_run in
     let simulate-discharge = c.simulate_discharge-run in
-    let Cell-at = c.cell_at in
+    let cell = c.cell_at in
     let args = c.args in
-    let kept = rw Cell-at.ensures at simulate-discharge.ensures in
-    let run = kept.0 in record { number = put-run.ensures.number ∙ ap (λ (r : RunOutcome). r.ended.refusal) run; rows = kept.1.0; lowest = kept.1.1; written = put-run.ensures.written ∙ ap (λ (r : RunOutcome). run_written r args.answer.now) run }
+    let run = rw cell.ensures at simulate-discharge.ensures.result in record { number = put-run.ensures.number ∙ ap (λ (r : RunOutcome). r.ended.refusal) run; rows = rw cell.ensures at simulate-discharge.ensures.rows; lowest = rw cell.ensures at simulate-discharge.ensures.lowest; written = put-run.ensures.written ∙ ap (λ (r : RunOutcome). run_written r args.answer.now) run }

@@ -13,7 +13,7 @@ use Rattle.cycle_run.proofs.cycle.Goals as goal
 pub returns-then-number-ne0 : goal.returns-then-number-ne0
 unfolding cycled cycled_rows
 returns-then-number-ne0 c =
-    (rw (← c.cycle_refusal-number.ensures, ne_eqb _ _ c.if-number-ne0.true), rw (← c.cycle_refusal-number.ensures, ne_eqb _ _ c.if-number-ne0.true))
+    record { result = rw (← c.cycle_refusal-number.ensures, ne_eqb _ _ c.if-number-ne0.true); rows = rw (← c.cycle_refusal-number.ensures, ne_eqb _ _ c.if-number-ne0.true) }
 
 pub cycle_rows-requires : goal.cycle_rows-requires
 unfolding started_at
@@ -35,7 +35,4 @@ returns c =
     let cycle-refusal = c.cycle_refusal-number in
     let a = c.args in
     let g = cycle_settings a.count a.repeats a.budget a.dt a.temp_k in
-    let m = settings_fit a.phases g a.s (length a.out.now) (sym cycle-refusal.ensures ∙ if1.false) in (
-      rw (← cycle-refusal.ensures, eq-eqb _ _ if1.false) (rw start.ensures at cycle-rows.ensures.0 ∙ turns_walked a.phases g a.s m.phases_least m.repeats_least),
-      rw (← cycle-refusal.ensures, eq-eqb _ _ if1.false) (rw start.ensures at cycle-rows.ensures.1 ∙ rows_walked a.phases g a.s m.phases_least m.repeats_least _),
-    )
+    let m = settings_fit a.phases g a.s (length a.out.now) (sym cycle-refusal.ensures ∙ if1.false) in record { result = rw (← cycle-refusal.ensures, eq-eqb _ _ if1.false) (rw start.ensures at cycle-rows.ensures.result ∙ turns_walked a.phases g a.s m.phases_least m.repeats_least); rows = rw (← cycle-refusal.ensures, eq-eqb _ _ if1.false) (rw start.ensures at cycle-rows.ensures.rows ∙ rows_walked a.phases g a.s m.phases_least m.repeats_least _) }

@@ -35,7 +35,7 @@ returns-then-run-eq-REFUSED c =
     let loop = c.loop-i in
     let args = c.args in
     let q = ends_refused over_at (turned_at args.phases args.g) row_at _ _ _ _ _ _ loop.invariant.0 _ turn.ensures if2.true if1.true in
-    (c.finished.ensures ∙ ap finished_at q.0, q.1)
+    record { result = c.finished.ensures ∙ ap finished_at q.0; rows = q.1 }
 
 pub overflow_mul-i : goal.overflow_mul-i
 overflow_mul-i c =
@@ -72,7 +72,7 @@ returns-then-run-ne-GOING c =
     let loop = c.loop-i in
     let args = c.args in
     let q = ends_stopped over_at (turned_at args.phases args.g) row_at _ _ _ _ _ _ loop.invariant.0 _ _ _ turn.ensures if2.false row_of.ensures put-row.ensures if1.true if3.true in
-    (c.finished-then-run-ne-GOING.ensures ∙ ap finished_at q.0, q.1)
+    record { result = c.finished-then-run-ne-GOING.ensures ∙ ap finished_at q.0; rows = q.1 }
 
 pub loop-i-smaller : goal.loop-i-smaller
 loop-i-smaller c =
@@ -107,4 +107,4 @@ returns c =
     let loop = c.loop-i in
     let args = c.args in
     let q = ends_full over_at (turned_at args.phases args.g) row_at _ _ _ _ _ _ loop.invariant.0 if1.false in
-    (c.finished-2.ensures ∙ ap finished_at q.0, q.1)
+    record { result = c.finished-2.ensures ∙ ap finished_at q.0; rows = q.1 }

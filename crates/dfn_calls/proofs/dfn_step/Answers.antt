@@ -17,11 +17,11 @@ returns-then-refusal-eq0 c =
     let fill-512 = c.fill_512 in
     let read-f64 = c.read_f64-t in
     let config-at = c.config_at-g in
-    let params_at_lem = c.params_at in
+    let params = c.params_at-p in
     let args = c.args in
     let a = args in
-    let r = step_taken a.cell.now a.answer.now a.current_a a.dt_s params_at_lem.result config-at.result read-f64.result _ _ _
-    params_at_lem.ensures config-at.ensures read-f64.ensures fill-512.ensures fill-5122.ensures fill-33.ensures
+    let r = step_taken a.cell.now a.answer.now a.current_a a.dt_s params.result config-at.result read-f64.result _ _ _
+    params.ensures config-at.ensures read-f64.ensures fill-512.ensures fill-5122.ensures fill-33.ensures
     step-in-place.result _ _ _ step-in-place.ensures _ if1.true put-stepped.ensures in
     record { number = r.0; written = r.1 }
 
@@ -33,10 +33,10 @@ returns-else-refusal-eq0 c =
     let fill-512 = c.fill_512 in
     let read-f64 = c.read_f64-t in
     let config-at = c.config_at-g in
-    let params_at_lem = c.params_at in
+    let params = c.params_at-p in
     let args = c.args in
     let a = args in
-    let r = step_left a.cell.now a.answer.now a.current_a a.dt_s params_at_lem.result config-at.result read-f64.result _ _ _
-    params_at_lem.ensures config-at.ensures read-f64.ensures fill-512.ensures fill-5122.ensures fill-33.ensures
+    let r = step_left a.cell.now a.answer.now a.current_a a.dt_s params.result config-at.result read-f64.result _ _ _
+    params.ensures config-at.ensures read-f64.ensures fill-512.ensures fill-5122.ensures fill-33.ensures
     step-in-place.result _ _ _ step-in-place.ensures c.if-refusal-eq0.false in
     record { number = r.0; written = r.1 }

@@ -17,27 +17,25 @@ returns-then-refusal-made c =
     let if1 = c.if-refusal-made in
     let ending-refusal = c.ending_refusal-refusal in
     let run-galvanostatic = c.run_galvanostatic-run in
-    let Cell-at = c.cell_at in
+    let cell = c.cell_at in
     let args = c.args in
-    let kept = rw Cell-at.ensures at run-galvanostatic.ensures in
     let p =
     run_written_lem (λ (t : RunOutcome). t.ended.refusal) (λ (t : RunOutcome). t.rows) (λ (t : RunOutcome). put_ending (put_cell args.answer.now t.cell) 1126
     t.ended.ending t.rows) _ _ _
-    kept.0
+    (rw cell.ensures at run-galvanostatic.ensures.answer)
     _ (rw ending-refusal.ensures at if1.true) (rw (put-cell.ensures, ending-number.ensures) at put-ending.ensures) in
-    record { number = ending-refusal.ensures ∙ p.0; rows = kept.1.0; lowest = kept.1.1; written = p.1 }
+    record { number = ending-refusal.ensures ∙ p.0; rows = rw cell.ensures at run-galvanostatic.ensures.rows; lowest = rw cell.ensures at run-galvanostatic.ensures.lowest; written = p.1 }
 
 pub returns-else-refusal-made : goal.returns-else-refusal-made
 unfolding galvanostatic_return galvanostatic_rows galvanostatic_lowest galvanostatic_after
 returns-else-refusal-made c =
     let ending-refusal = c.ending_refusal-refusal in
     let run-galvanostatic = c.run_galvanostatic-run in
-    let Cell-at = c.cell_at in
+    let cell = c.cell_at in
     let args = c.args in
-    let kept = rw Cell-at.ensures at run-galvanostatic.ensures in
     let p =
     run_kept (λ (t : RunOutcome). t.ended.refusal) (λ (t : RunOutcome). t.rows) (λ (t : RunOutcome). put_ending (put_cell args.answer.now t.cell) 1126 t.ended.ending
     t.rows) _ _ _
-    kept.0
+    (rw cell.ensures at run-galvanostatic.ensures.answer)
     (rw ending-refusal.ensures at c.if-refusal-made.false) in
-    record { number = ending-refusal.ensures ∙ p.0; rows = kept.1.0; lowest = kept.1.1; written = p.1 }
+    record { number = ending-refusal.ensures ∙ p.0; rows = rw cell.ensures at run-galvanostatic.ensures.rows; lowest = rw cell.ensures at run-galvanostatic.ensures.lowest; written = p.1 }

@@ -16,5 +16,5 @@ returns c =
       c.read_f64-2.ensures,
       c.read_f64.ensures,
       c.config_at-config.ensures,
-      c.params_at.ensures,
+      c.params_at-params.ensures,
     )

@@ -19,6 +19,6 @@ unfolding cell_built
 returns-in_default c =
     let sheet-at2 = c.sheet_at-in_default in
     let sheet_at_lem = c.sheet_at in
-    let match = c.in_default in
+    let match = c.in_default.in_default-own in
     let config-at = c.config_at-config in
     rw (ne_eqb _ _ match.rest.0.1, ne_eqb _ _ match.rest.1, ← config-at.ensures, ← sheet_at_lem.ensures, ← sheet-at2.ensures) c.new.ensures

@@ -14,9 +14,9 @@ returns-then-refusal-eq0 c =
     let if1 = c.if-refusal-eq0 in
     let new = c.new-new in
     let config-at = c.config_at in
-    let params_at_lem = c.params_at in
+    let params = c.params_at in
     let args = c.args in
-    let e : new.result ≡ dfn_made args.image.now = rw (← params_at_lem.ensures, ← config-at.ensures) new.ensures in
+    let e : new.result ≡ dfn_made args.image.now = rw (← params.ensures, ← config-at.ensures) new.ensures in
     let r = accepted (λ (t : DfnBuildAnswer). t.refusal) (λ (t : DfnBuildAnswer). put_cell args.answer.now t.cell) _ _ _ e _ if1.true put-cell.ensures in
     record { number = r.0; written = r.1 }
 
@@ -25,8 +25,8 @@ unfolding dfn_made
 returns-else-refusal-eq0 c =
     let new = c.new-new in
     let config-at = c.config_at in
-    let params_at_lem = c.params_at in
+    let params = c.params_at in
     let args = c.args in
-    let e : new.result ≡ dfn_made args.image.now = rw (← params_at_lem.ensures, ← config-at.ensures) new.ensures in
+    let e : new.result ≡ dfn_made args.image.now = rw (← params.ensures, ← config-at.ensures) new.ensures in
     let r = refused (λ (t : DfnBuildAnswer). t.refusal) (λ (t : DfnBuildAnswer). put_cell args.answer.now t.cell) _ _ _ e c.if-refusal-eq0.false in
     record { number = r.0; written = r.1 }

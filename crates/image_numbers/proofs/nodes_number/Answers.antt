@@ -7,9 +7,8 @@ use Rattle.image_numbers.proofs.nodes_number.Goals as goal
 pub returns-in-Value : goal.returns-in-Value
 unfolding nodes_outcome
 returns-in-Value c =
-    let n = c.n-1 in
     let n-total = c.n_total-n in
-    rw c.nearest_u64_to_f64.ensures (ap (λ t. count_outcome (counted t)) (sym n.given.1) ∙ ap count_outcome n-total.ensures)
+    rw c.nearest_u64_to_f64.ensures (ap (λ t. count_outcome (counted t)) (sym c.in-Value.is) ∙ ap count_outcome n-total.ensures)
 
 pub returns-in-Refused : goal.returns-in-Refused
 unfolding nodes_outcome

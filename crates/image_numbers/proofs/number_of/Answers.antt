@@ -19,9 +19,9 @@ returns-then-call-le10 c =
 pub returns-then-call-le12 : goal.returns-then-call-le12
 unfolding number_outcome
 returns-then-call-le12 c =
-    let Cell-at = c.cell_at in
+    let cell = c.cell_at in
     let args = c.args in
-    rw (lt-leb args.call 5 (omega arith), lt-leb args.call 10 (omega arith), le-leb args.call 12 (omega arith), ← Cell-at.ensures) c.cell_number.ensures
+    rw (lt-leb args.call 5 (omega arith), lt-leb args.call 10 (omega arith), le-leb args.call 12 (omega arith), ← cell.ensures) c.cell_number.ensures
 
 pub returns-then-call-le16 : goal.returns-then-call-le16
 unfolding number_outcome

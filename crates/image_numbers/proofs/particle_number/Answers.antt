@@ -26,5 +26,5 @@ returns-in-9 c =
 pub returns-in_default : goal.returns-in_default
 unfolding particle_number
 returns-in_default c =
-    let match = c.in_default in
+    let match = c.in_default.in_default-own in
     rw (ne_eqb _ _ match.rest.0.0.0.1, ne_eqb _ _ match.rest.0.0.1, ne_eqb _ _ match.rest.0.1, ne_eqb _ _ match.rest.1) c.ocp_surface.ensures

@@ -10,7 +10,7 @@ use Rattle.replay_run.proofs.turn.Goals as goal
 pub returns-then-not-line : goal.returns-then-not-line
 unfolding turned line_turned
 returns-then-not-line c =
-    let line_at_lem = c.line_at in
+    let line_at_lem = c.line_at-line in
     let args = c.args in
     let line : line_at_lem.result ≡ line_at args.text.now args.s.rows = line_at_lem.ensures in
     rw (← line, not-true line_at_lem.result.well_formed c.if-not-line.true) c.refused_line.ensures
@@ -21,7 +21,7 @@ returns-then-t-ne0 c =
     let if2 = c.if-t-ne0 in
     let step = c.step-t in
     let if1 = c.if-not-line in
-    let line_at_lem = c.line_at in
+    let line_at_lem = c.line_at-line in
     let args = c.args in
     let line : line_at_lem.result ≡ line_at args.text.now args.s.rows = line_at_lem.ensures in
     let made : step.result ≡ stepped args.s.solver line_at_lem.result.current_a line_at_lem.result.dt args.temp_k = step.ensures in
@@ -33,7 +33,7 @@ returns c =
     let if2 = c.if-t-ne0 in
     let step = c.step-t in
     let if1 = c.if-not-line in
-    let line_at_lem = c.line_at in
+    let line_at_lem = c.line_at-line in
     let args = c.args in
     let line : line_at_lem.result ≡ line_at args.text.now args.s.rows = line_at_lem.ensures in
     let made : step.result ≡ stepped args.s.solver line_at_lem.result.current_a line_at_lem.result.dt args.temp_k = step.ensures in
