@@ -21,7 +21,7 @@ from source_text import TOP, USE, bare, crates, imports, parts, without_comments
 def edits_of(path):
     """What the crate's must-fail edits write into a file: an edit that lost a name would be refused for that, and show nothing."""
     crate = TOP / "crates" / path.relative_to(TOP / "crates").parts[0]
-    for edit in sorted(crate.glob("*/*.edit")):
+    for edit in sorted((crate / "must-fail").glob("*.edit")):
         text = edit.read_text(encoding="utf-8")
         if f"file: {path.relative_to(crate)}" in text.splitlines():
             yield re.sub(r"(?m)^(?:file|old|new): ?", "", text)
