@@ -2,7 +2,7 @@
 set -euo pipefail
 harness=$(cd "$(dirname "${BASH_SOURCE[0]}")" && pwd)
 root=$(dirname "$harness")
-archive=$root/target/staticlib/libboundary.a
+archive=$root/crates/boundary_c/out/libboundary.a
 
 fail() {
     echo "$script: $1" >&2
@@ -17,11 +17,11 @@ need() {
 }
 
 need_archive() {
-    [ -f "$archive" ] || fail "no archive ${archive#"$root"/}; 'rt staticlib boundary' makes it"
+    [ -f "$archive" ] || fail "no archive ${archive#"$root"/}; harness/archive makes it"
 }
 
 # All that is built goes to a temporary folder, which is removed at the end, so that nothing half-made stays behind and
-# rt ci, which removes target/, may run beside.
+# rt ci, which removes the out/ folders, may run beside.
 make_build_folder() {
     build=$(mktemp -d "${TMPDIR:-/tmp}/persimmonjib.XXXXXX")
     trap 'rm -rf "$build"' EXIT

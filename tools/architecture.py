@@ -47,7 +47,7 @@ def read_crates():
         name, colon, rest = line.split("#")[0].partition(":")
         if not colon:
             continue
-        name = name.strip()
+        name = name.split()[0]
         if group is None:
             fail(f"crates.txt: {name} stands in no group (a comment line with one of: {', '.join(GROUPS)})")
         group.append(name)

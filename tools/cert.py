@@ -141,7 +141,7 @@ def monomial(m, c):
     if abs(c) != 1 or not factors:
         factors.insert(0, f"nat {abs(c)}")
     text = " *F ".join(factors)
-    return f"negF ({text})" if c < 0 else text
+    return f"neg_f ({text})" if c < 0 else text
 
 
 def render(weights, scale):

@@ -4,8 +4,8 @@
     tools/check_times.py NAME [ROWS]
 
 The prover saves a module as soon as it has checked it; the times between two files are theirs. For each function prints its seconds and those of
-its parts: Lts is the walk through its code (calls, exits), Tie what the walk leaves to be shown, Proof the proof file. The first function of a crate
-also has the time that its libraries take to load.
+its parts: Lts is the walk through its code (calls, exits), Tie what the walk leaves to be shown, Proof, Answers and Invariants how that is shown. The first function
+of a crate also has the time that its libraries take to load.
 """
 import collections
 import re
@@ -16,17 +16,17 @@ from pathlib import Path
 
 from prover import TOP, check_command
 
-PARTS = {"Lts", "Tie", "Proof", "Code", "Mir", "Reads", "Kinds", "Met", "Named", "Symbol", "Key", "Layout", "Statement"}
+PARTS = {"Lts", "Tie", "Proof", "Answers", "Invariants", "Goals", "Code", "Mir", "Reads", "Kinds", "Met", "Named", "Symbol", "Key", "Layout", "Statement", "TheLink"}
 
 
 def module(crate, path):
     """The function or file that a saved module belongs to, and which part of it."""
-    found = re.search(rf"Rattle·{crate}(?:·(specs|proofs))?\.(.*?)(\.decls)?\.oantt$", str(path))
+    found = re.search(rf"Rattle-{crate}[-.](specs|proofs)\.(.*?)(\.decls)?\.oantt$", path.name)
     if not found:
         return "the crate as a whole", ""
     words = found[2].split(".")
     end = next((i for i, word in enumerate(words) if word in PARTS), len(words))
-    return f"{found[1] or 'facade'} {'.'.join(words[1:end])}", ".".join(words[end:])
+    return f"{found[1]} {'.'.join(words[:end])}", ".".join(words[end:])
 
 
 def main():

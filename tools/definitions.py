@@ -47,7 +47,7 @@ class Source:
             if alias in self.modules:
                 yield self.modules[alias], bare(name)
         for word in words(text):
-            for part in {word, *(p for p in word.split("_") if p)}:
+            for part in {word, *parts(word)}:
                 yield from (d for d in self.own.get(part, []) if line is None or d.kind == "struct" or d.line <= line)
                 yield from self.names.get(part, [])
 
@@ -61,7 +61,7 @@ class Struct:
 
 
 def structs(source):
-    for m in re.finditer(r"^((?://[^\n]*\n)*)(?:pub )?(?:struct|enum) (\w+) \{.*?^\}", source.text, re.M | re.S):
+    for m in re.finditer(r"^((?://[^\n]*\n)*(?:#\[[^\n]*\]\n)*)(?:pub )?(?:struct|enum) (\w+) \{.*?^\}", source.text, re.M | re.S):
         first = source.text.count("\n", 0, m.start()) + 1
         line = first + m.group(1).count("\n")
         yield Struct(source, m.group(2), first, line, without_comments(m.group()[len(m.group(1)):], "//"))
@@ -78,7 +78,7 @@ class Library:
 
     def find(self, module, name):
         """The declaration that a module's path and a name mean, or None for the kit's."""
-        m = re.fullmatch(r"Rattle·(\w+?)(?:·specs)?\.specs\.(.+)", module)
+        m = re.fullmatch(r"Rattle\.(\w+)\.specs\.(.+)", module)
         rust = re.fullmatch(r"(\w+)(?:::\w+)+", module)
         if rust or (m and m.group(2).startswith("declared.")):
             folder = TOP / "crates" / (rust or m).group(1) / "src"
@@ -101,11 +101,17 @@ class Library:
         return None
 
 
+def is_own(module):
+    """Whether a module is of a crate here, and not of the kit."""
+    found = re.match(r"Rattle\.(\w+)\.", module)
+    return found is not None and (TOP / "crates" / found.group(1)).is_dir()
+
+
 def is_law(d):
     if d.kind != "plain":
         return False
     result = words(re.split(r"[→:]", re.sub(r"\([^()]*\)", " ", d.type))[-1])
-    return "-" in d.name or not result or result[0] not in DATA
+    return not result or result[0] not in DATA
 
 
 def contracts(path):
@@ -153,7 +159,7 @@ class Reached:
             d = self.library.find(*meaning) if isinstance(meaning, tuple) else meaning
             if d is not None:
                 self.add(d, reason)
-            elif "::" not in meaning[0] and not meaning[0].startswith("Rattle·"):
+            elif "::" not in meaning[0] and not is_own(meaning[0]):
                 self.kit.setdefault(meaning[0], set()).add(meaning[1])
 
     def close(self):
@@ -203,7 +209,7 @@ def in_order(paths, names):
         if path.suffix == ".antt":
             text = path.read_text(encoding="utf-8")
             for i in imports(text):
-                m = re.fullmatch(rf"Rattle·{of_crate(path)}·specs\.specs\.(.+)", i.path)
+                m = re.fullmatch(rf"Rattle\.{of_crate(path)}\.specs\.(.+)", i.path)
                 near = path.parent / (m.group(1).replace(".", "/") + ".antt") if m else None
                 if near in paths:
                     put(near)

@@ -22,7 +22,7 @@ FINITE = {"count_f64", "no_particle", "no_state"}
 
 
 def libraries():
-    return [line.split(":")[0] for line in (TOP / "crates.txt").read_text().splitlines() if ":" in line and not line.startswith("#")]
+    return [line.split(":")[0].split()[0] for line in (TOP / "crates.txt").read_text().splitlines() if ":" in line and not line.startswith("#")]
 
 
 def functions(crate):

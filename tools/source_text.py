@@ -6,14 +6,14 @@ from pathlib import Path
 TOP = Path(__file__).resolve().parent.parent
 # A name is a run of anything else; what stands between « and » is one name.
 WORD = re.compile(r"«[^»]*»|[^\s(){}.;,@\"«»⌜⌝]+")
-USE = re.compile(r"^(?P<marks>(?:unfoldable |pub |ghost )*)use (?P<path>[^\s{};]+?)(?:\.\{(?P<items>[^}]*)\}| as (?P<alias>[^\s;]+))?;?[ \t]*$", re.M)
+USE = re.compile(r"^(?P<marks>(?:unfoldable |pub |ghost )*)use (?P<path>[^\s{};]+?)(?:(?P<joint>\.|::)\{(?P<items>[^}]*)\}| as (?P<alias>[^\s;]+))?;?[ \t]*$", re.M)
 MARKS = r"(?:(?:unfoldable|abbrev|pub|axiom)\s+)*"
 HEAD = re.compile(r"^(?P<indent> *)(?P<marks>" + MARKS + r")(?:(?P<kind>record|data|ruleset)\s+)?(?P<name>«[^»]*»|[^\s(){}.;,@\"«»]+)(?P<rest>\s.*|)$")
 
 
 def crates():
     lines = (TOP / "crates.txt").read_text(encoding="utf-8").splitlines()
-    return [line.split(":")[0].strip() for line in lines if ":" in line.split("#")[0]]
+    return [line.split(":")[0].split()[0] for line in lines if ":" in line.split("#")[0]]
 
 
 def bare(name):
@@ -33,8 +33,8 @@ def words(text):
 
 
 def parts(name):
-    """What an operator is written with: _⊕_ is ⊕. An escaped name has no parts, and neither has one of .rt."""
-    return [name[1:-1]] if name.startswith("«") else [p for p in name.split("_") if p] or [name]
+    """What an operator is written with: ◌⊕◌ is ⊕. A name that is no operator has one part, itself."""
+    return [name[1:-1]] if name.startswith("«") else [p for p in name.split("◌") if p] or [name]
 
 
 class Import:
@@ -51,7 +51,8 @@ def imports(text):
             for item in (i.strip() for i in m["items"].split(",")):
                 source, _, alias = item.partition(" as ")
                 if source:
-                    yield Import(line, marks, path, source.strip(), (alias or source.split(".")[-1]).strip())
+                    module = f"{path}::{source.strip()}" if m["joint"] == "::" else path
+                    yield Import(line, marks, module, source.strip(), (alias or re.split(r"::|\.", source)[-1]).strip())
         elif m["alias"]:
             yield Import(line, marks, path, None, m["alias"])
         elif not path.endswith("*"):

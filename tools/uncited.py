@@ -3,7 +3,7 @@
 
     tools/uncited.py [CRATE ..]
 
-It starts from every word of the .rt files, of proofs/FUNCTION/Proof.antt, of the must-fail edits and of the documents (a file that a document names whole counts with
+It starts from every word of the .rt files, of the files in proofs/FUNCTION, of the must-fail edits and of the documents (a file that a document names whole counts with
 all that it makes public), and follows the declarations of specs and of the other files of proofs, types and bodies. What is left may go, or a document should say
 what it is for: a worked instance or a computed test is cited there and nowhere else. Words that are spelled alike count as the same, so more may be dead than is listed.
 """
@@ -16,6 +16,20 @@ from definitions import Library
 from source_text import TOP, crates, without_comments, words
 
 
+def is_of_function(path):
+    """Whether a file says how a function is proved: it stands in a folder of proofs, and lemmas beside the folders."""
+    inside = path.relative_to(TOP / "crates").parts
+    return path.suffix == ".antt" and inside[1] == "proofs" and len(inside) > 3
+
+
+def in_attributes(path, text):
+    """What the tactics of a function are handed by their paths, `using(crate::proofs::Runs::a_lemma)`."""
+    for listed in re.findall(r"\b(?:using|unfolding)\(([^()]*)\)", text):
+        for name in (n.strip().split("::") for n in listed.split(",")):
+            crate = path.relative_to(TOP / "crates").parts[0] if name[0] == "crate" else name[0]
+            yield ".".join(["Rattle", crate, *name[1:-1]]), name[-1]
+
+
 def roots(names):
     """Texts from which everything is to be reached: the file that gives the words their meaning, and the text."""
     for crate in names:
@@ -23,13 +37,13 @@ def roots(names):
         for path in sorted(folder.rglob("*")):
             if path.suffix == ".rt":
                 yield path, without_comments(path.read_text(encoding="utf-8"), "//")
-            elif path.name == "Proof.antt":
+            elif is_of_function(path):
                 yield path, without_comments(path.read_text(encoding="utf-8"), "--")
 
 
 def find(library, module, name):
     """As the library's, and in proofs too."""
-    m = re.fullmatch(r"Rattle·(\w+?)(?:·proofs)?\.proofs\.(.+)", module)
+    m = re.fullmatch(r"Rattle\.(\w+)\.proofs\.(.+)", module)
     if not m:
         return library.find(module, name)
     path = TOP / "crates" / m.group(1) / "proofs" / (m.group(2).replace(".", "/") + ".antt")
@@ -46,12 +60,12 @@ def main():
     for crate in names:
         for folder in ("specs", "proofs"):
             for path in sorted((TOP / "crates" / crate / folder).rglob("*.antt")):
-                if path.name not in ("Proof.antt", "Lib.antt"):
+                if path.name != "Lib.antt" and not is_of_function(path):
                     everything += library.source(path).declared
     reached, queue = set(), []
 
     def follow(path, text, line=None):
-        for meaning in library.source(path).meanings(text, line):
+        for meaning in [*library.source(path).meanings(text, line), *in_attributes(path, text)]:
             d = find(library, *meaning) if isinstance(meaning, tuple) else meaning
             if d is not None and d not in reached:
                 reached.add(d)

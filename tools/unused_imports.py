@@ -7,8 +7,8 @@
 
 A name counts as used where it, or a part of it if it is an operator, stands anywhere else in the file outside comments: in a signature, a body, a pattern, an
 `unfolding` line, a list handed to a tactic; and in what a must-fail edit writes there. A bound variable so spelled counts too. Never listed: what `pub use` passes
-on; `_>>=_` and `_>>_` beside a `do` or `←`; a module that another `use` line begins with; a line that a must-fail edit replaces. Fields and methods are found by their
-record's type and need no import.
+on; `◌>>=◌` and `◌>>◌` beside a `do` or `←`; a module that another `use` line begins with; a line that a must-fail edit replaces. Fields and methods are found by their
+record's type and need no import. Of a crate that proves `rt tidy` drops those of .antt files by what the prover needs.
 """
 import re
 import sys
@@ -21,7 +21,7 @@ from source_text import TOP, USE, bare, crates, imports, parts, without_comments
 def edits_of(path):
     """What the crate's must-fail edits write into a file: an edit that lost a name would be refused for that, and show nothing."""
     crate = TOP / "crates" / path.relative_to(TOP / "crates").parts[0]
-    for edit in sorted((crate / "must-fail").rglob("*.edit")):
+    for edit in sorted((crate / "must-fail").glob("*.edit")):
         text = edit.read_text(encoding="utf-8")
         if f"file: {path.relative_to(crate)}" in text.splitlines():
             yield re.sub(r"(?m)^(?:file|old|new): ?", "", text)
@@ -38,7 +38,7 @@ def unused(path):
     used = set()
     for word in words(rest):
         used.add(word)
-        used.update(p for p in re.split(r"_", word) if p)
+        used.update(parts(word))
     heads = {re.split(r"[.:]", i.path)[0] for i in brought}
     acts = "do" in used or "←" in used
     lines = raw.splitlines()
@@ -46,7 +46,7 @@ def unused(path):
         if "pub" in i.marks or "*" in i.path or lines[i.line - 1] in edits.splitlines():
             continue
         name = bare(i.name)
-        if acts and name in ("_>>=_", "_>>_"):
+        if acts and name in ("◌>>=◌", "◌>>◌"):
             continue
         pieces = [name] if "::" in i.path else parts(i.name)
         if (i.item is None and name in heads) or name in used or any(p in used for p in pieces):
@@ -55,18 +55,19 @@ def unused(path):
 
 
 def take_out(path, found):
-    """The file's text without the names found."""
+    """The file's text without the names found; `rt fmt` lays out what is left."""
     gone = {(i.line, i.name) for i in found}
-    out = []
-    for number, line in enumerate(path.read_text(encoding="utf-8").splitlines(keepends=True), 1):
-        brought = list(imports(line))
+    text = path.read_text(encoding="utf-8")
+
+    def one(m):
+        number, brought = text.count("\n", 0, m.start()) + 1, list(imports(m.group()))
         left = [i for i in brought if (number, i.name) not in gone]
         if len(left) == len(brought):
-            out.append(line)
-        elif left:
-            items = ", ".join(i.item if i.name == i.item.split(".")[-1] else f"{i.item} as {i.name}" for i in left)
-            out.append(re.sub(r"\{[^}]*\}", lambda _: "{" + items + "}", line))
-    return "".join(out)
+            return m.group()
+        items = ", ".join(i.item if i.name == i.item.split(".")[-1] else f"{i.item} as {i.name}" for i in left)
+        return re.sub(r"\{[^}]*\}", lambda _: "{" + items + "}", m.group()) if left else "\0"
+
+    return USE.sub(one, text).replace("\0\n", "")
 
 
 def main():

@@ -1,4 +1,4 @@
-/* The stepper for lithium cells, as C (C99) and C++ (C++11) call it: libboundary.a, made by `rt staticlib boundary`.
+/* The stepper for lithium cells, as C (C99) and C++ (C++11) call it: libboundary.a, made by harness/archive.
  *
  * docs/REFERENCE.md has the formulas and an input for each refusal; docs/DIFFERENCES.md where the model is wrong.
  *

@@ -1,5 +1,5 @@
 #!/usr/bin/env python3
-"""Holds the program cycle to its arguments, its columns and its endings. `rt check cycle` makes the program.
+"""Holds the program cycle to its arguments, its columns and its endings. `rt ci` makes the program, and so does `rt run` in crates/cycle.
 
     python3 harness/rows/test_cycle.py
 """
@@ -11,7 +11,7 @@ import unittest
 from pathlib import Path
 
 TOP = Path(__file__).resolve().parent.parent.parent
-PROGRAM = TOP / "target" / "bin" / "cycle"
+PROGRAM = TOP / "crates" / "cycle" / "out" / "cycle"
 ROWS = (TOP / "crates" / "discharge" / "stdout").read_text().splitlines()[:-2]
 CELL = (TOP / "crates" / "discharge" / "data" / "cell.txt").read_text()
 LIMITS = "temperature=298.15 K v_min=3 V v_max=4.2 V"
@@ -157,5 +157,5 @@ class CycleTest(unittest.TestCase):
 
 if __name__ == "__main__":
     if not PROGRAM.exists():
-        sys.exit(f"test_cycle.py: no program {PROGRAM.relative_to(TOP)}; 'rt check cycle' makes it")
+        sys.exit(f"test_cycle.py: no program {PROGRAM.relative_to(TOP)}; 'rt run' in crates/cycle makes it")
     unittest.main()

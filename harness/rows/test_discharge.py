@@ -1,5 +1,5 @@
 #!/usr/bin/env python3
-"""Holds the program discharge to its names and its cell files, with t_ref and without. `rt check discharge` makes the program.
+"""Holds the program discharge to its names and its cell files, with t_ref and without. `rt ci` makes the program, and so does `rt run` in crates/discharge.
 
     python3 harness/rows/test_discharge.py
 """
@@ -10,7 +10,7 @@ import unittest
 from pathlib import Path
 
 TOP = Path(__file__).resolve().parent.parent.parent
-PROGRAM = TOP / "target" / "bin" / "discharge"
+PROGRAM = TOP / "crates" / "discharge" / "out" / "discharge"
 CELL = (TOP / "crates" / "discharge" / "data" / "cell.txt").read_text()
 ROWS = (TOP / "crates" / "discharge" / "stdout").read_text().splitlines()[:-2]
 SHEETS = [line.split()[0] for line in CELL.splitlines() if line.startswith(("anode.", "cathode."))]
@@ -91,5 +91,5 @@ class DischargeTest(unittest.TestCase):
 
 if __name__ == "__main__":
     if not PROGRAM.exists():
-        sys.exit(f"test_discharge.py: no program {PROGRAM.relative_to(TOP)}; 'rt check discharge' makes it")
+        sys.exit(f"test_discharge.py: no program {PROGRAM.relative_to(TOP)}; 'rt run' in crates/discharge makes it")
     unittest.main()

@@ -1,5 +1,5 @@
 #!/usr/bin/env python3
-"""Holds the program replay to its arguments and endings, on the drive cycle and on loads that are wrong. `rt check replay` makes the program.
+"""Holds the program replay to its arguments and endings, on the drive cycle and on loads that are wrong. `rt ci` makes the program, and so does `rt run` in crates/replay.
 
     python3 harness/rows/test_replay.py
 """
@@ -10,7 +10,7 @@ import unittest
 from pathlib import Path
 
 TOP = Path(__file__).resolve().parent.parent.parent
-PROGRAM = TOP / "target" / "bin" / "replay"
+PROGRAM = TOP / "crates" / "replay" / "out" / "replay"
 DRIVE = (TOP / "crates" / "replay" / "data" / "drive.txt").read_bytes()
 CELL = (TOP / "crates" / "discharge" / "data" / "cell.txt").read_text()
 ROWS = (TOP / "crates" / "replay" / "stdout").read_text().splitlines(keepends=True)[:-2]
@@ -110,5 +110,5 @@ class ReplayTest(unittest.TestCase):
 
 if __name__ == "__main__":
     if not PROGRAM.exists():
-        sys.exit(f"test_replay.py: no program {PROGRAM.relative_to(TOP)}; 'rt check replay' makes it")
+        sys.exit(f"test_replay.py: no program {PROGRAM.relative_to(TOP)}; 'rt run' in crates/replay makes it")
     unittest.main()

@@ -1,5 +1,5 @@
 // The stepper for C: each call takes images and numbers, writes its answer's image and returns 0 or the number of a refusal. The layouts stand in
-// harness/c/persimmonjib.h.
+// harness/c/persimmonjib.h. The crate boundary_c exports each call under the same name.
 #![tactic(auto)]
 
 ghost use Rattle.std.specs.Prelude.{◌≡◌, length};
@@ -35,8 +35,7 @@ fn lengths_fit(image: usize, m: usize, answer: usize, n: usize) -> bool
 }
 
 // A number from an image: numbers 1 to 19.
-#[unsafe(no_mangle)]
-pub extern "C" fn pj_number(call: u64, image: &[u8], x: f64, y: f64, answer: &mut [u8]) -> u64
+pub fn pj_number(call: u64, image: &[u8], x: f64, y: f64, answer: &mut [u8]) -> u64
     ensures number { result ≡ (number_call call image.now x y (length answer.old)).refusal }
     ensures written { answer.new ≡ put_row answer.old 0 (number_call call image.now x y (length answer.old)).values }
 {
@@ -57,8 +56,7 @@ pub extern "C" fn pj_number(call: u64, image: &[u8], x: f64, y: f64, answer: &mu
 }
 
 // A ready or a new record: numbers 1 to 12.
-#[unsafe(no_mangle)]
-pub extern "C" fn pj_build(call: u64, image: &[u8], answer: &mut [u8]) -> u64
+pub fn pj_build(call: u64, image: &[u8], answer: &mut [u8]) -> u64
     ensures number { result ≡ build_return call image.now (length answer.old) }
     ensures written { answer.new ≡ build_after call image.now answer.old }
 {
@@ -81,14 +79,7 @@ pub extern "C" fn pj_build(call: u64, image: &[u8], answer: &mut [u8]) -> u64
 }
 
 // A step of a particle.
-#[unsafe(no_mangle)]
-pub extern "C" fn pj_particle_step(
-    particle: &[u8],
-    j_n: f64,
-    dt: f64,
-    temp_k: f64,
-    answer: &mut [u8],
-) -> u64
+pub fn pj_particle_step(particle: &[u8], j_n: f64, dt: f64, temp_k: f64, answer: &mut [u8]) -> u64
     ensures number { result ≡ particle_return particle.now j_n dt temp_k (length answer.old) }
     ensures written { answer.new ≡ particle_after particle.now j_n dt temp_k answer.old }
 {
@@ -99,14 +90,7 @@ pub extern "C" fn pj_particle_step(
 }
 
 // A step of a single-particle cell.
-#[unsafe(no_mangle)]
-pub extern "C" fn pj_cell_step(
-    cell: &[u8],
-    current_a: f64,
-    dt: f64,
-    temp_k: f64,
-    answer: &mut [u8],
-) -> u64
+pub fn pj_cell_step(cell: &[u8], current_a: f64, dt: f64, temp_k: f64, answer: &mut [u8]) -> u64
     ensures number { result ≡ cell_return cell.now current_a dt temp_k (length answer.old) }
     ensures written { answer.new ≡ cell_after cell.now current_a dt temp_k answer.old }
 {
@@ -117,8 +101,7 @@ pub extern "C" fn pj_cell_step(
 }
 
 // A step of an electrolyte.
-#[unsafe(no_mangle)]
-pub extern "C" fn pj_electrolyte_step(
+pub fn pj_electrolyte_step(
     electrolyte: &[u8],
     j_n_neg: f64,
     j_n_pos: f64,
@@ -141,8 +124,7 @@ pub extern "C" fn pj_electrolyte_step(
 }
 
 // A step of a Doyle-Fuller-Newman cell.
-#[unsafe(no_mangle)]
-pub extern "C" fn pj_dfn_step(cell: &[u8], current_a: f64, dt_s: f64, answer: &mut [u8]) -> u64
+pub fn pj_dfn_step(cell: &[u8], current_a: f64, dt_s: f64, answer: &mut [u8]) -> u64
     ensures number { result ≡ dfn_return cell.now current_a dt_s (length answer.old) }
     ensures written { answer.new ≡ dfn_after cell.now current_a dt_s answer.old }
 {
@@ -153,8 +135,7 @@ pub extern "C" fn pj_dfn_step(cell: &[u8], current_a: f64, dt_s: f64, answer: &m
 }
 
 // A run of a single-particle cell. The answer is written unless the run is refused before its first row.
-#[unsafe(no_mangle)]
-pub extern "C" fn pj_simulate_discharge(
+pub fn pj_simulate_discharge(
     cell: &[u8],
     current_a: f64,
     dt: f64,
@@ -178,14 +159,7 @@ pub extern "C" fn pj_simulate_discharge(
 }
 
 // A recorded load replayed on a single-particle cell; its answer as in a run. A text that is too long is 12, whatever the lengths.
-#[unsafe(no_mangle)]
-pub extern "C" fn pj_replay(
-    cell: &[u8],
-    text: &[u8],
-    temp_k: f64,
-    rows: &mut [f64],
-    answer: &mut [u8],
-) -> u64
+pub fn pj_replay(cell: &[u8], text: &[u8], temp_k: f64, rows: &mut [f64], answer: &mut [u8]) -> u64
     ensures number { result ≡ replay_return cell.now text.now temp_k (length rows.old) (length answer.old) }
     ensures rows { rows.new ≡ replay_rows cell.now text.now temp_k rows.old (length answer.old) }
     ensures written { answer.new ≡ replay_after cell.now text.now temp_k (length rows.old) answer.old }
@@ -207,8 +181,7 @@ fn cycle_lengths_fit(cell: usize, phases: usize, answer: usize) -> bool
 }
 
 // A cycle of phases on a single-particle cell; its answer as in a run.
-#[unsafe(no_mangle)]
-pub extern "C" fn pj_cycle(
+pub fn pj_cycle(
     cell: &[u8],
     phases: &[u8],
     count: usize,
@@ -232,8 +205,7 @@ pub extern "C" fn pj_cycle(
 }
 
 // A run of a Doyle-Fuller-Newman cell; its answer as in a run of a single-particle cell.
-#[unsafe(no_mangle)]
-pub extern "C" fn pj_run_galvanostatic(
+pub fn pj_run_galvanostatic(
     cell: &[u8],
     current_a: f64,
     dt_s: f64,
@@ -254,8 +226,7 @@ pub extern "C" fn pj_run_galvanostatic(
 }
 
 // The first of `count` rows under a voltage, found by the lowest of each group; its answer is 1 and the row, or 2 and 0 for none.
-#[unsafe(no_mangle)]
-pub extern "C" fn pj_first_below(
+pub fn pj_first_below(
     which: u64,
     rows: &[f64],
     lowest: &[f64],
@@ -286,8 +257,7 @@ pub extern "C" fn pj_first_below(
 }
 
 // The solution of n equations.
-#[unsafe(no_mangle)]
-pub extern "C" fn pj_solve_dense(a: &[f64], b: &[f64], n: usize, answer: &mut [u8]) -> u64
+pub fn pj_solve_dense(a: &[f64], b: &[f64], n: usize, answer: &mut [u8]) -> u64
     ensures number { result ≡ dense_return a.now b.now n (length answer.old) }
     ensures written { answer.new ≡ dense_after a.now b.now n answer.old }
 {
