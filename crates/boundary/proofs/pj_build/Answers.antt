@@ -47,7 +47,6 @@ returns-then-call-le6 c =
     let if1 = c.if-not-is_listed in
     let is-listed = c.is_listed in
     let args = c.args in
-    let r = (refl, put-ready.ensures) in
     record { number = rw (
       ← is-listed.ensures,
       if1.false,
@@ -56,7 +55,7 @@ returns-then-call-le6 c =
       ← lengths-fit.ensures,
       if2.false,
       le-leb args.call 6 (omega arith),
-    ) r.0; written = rw (
+    ) refl; written = rw (
       ← is-listed.ensures,
       if1.false,
       ← build-length.ensures,
@@ -64,7 +63,7 @@ returns-then-call-le6 c =
       ← lengths-fit.ensures,
       if2.false,
       le-leb args.call 6 (omega arith),
-    ) r.1 }
+    ) put-ready.ensures }
 
 pub returns : goal.returns
 unfolding after_lengths build_return build_after
