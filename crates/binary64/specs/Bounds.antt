@@ -10,7 +10,7 @@ use Rattle.std.specs.Float.Ieee.Scale.{finite}
 use Rattle.fraction.specs.Integer.{pos-≤, ≤-pos}
 use Rattle.fraction.specs.Fraction.{Fraction, whole, nat, pow2, neg_f, ◌*F◌, ◌≈F◌, ◌within◌}
 use Rattle.fraction.specs.Field.{nn-nat_f, ≈F-sym, ≤F-of-≈F, ≤F-trans}
-use Rattle.fraction.specs.Certificate.{quote, le_by, up as gap, hi, lo, eqn, ◌⊞◌, ◌⊠◌, ◌·◌}
+use Rattle.fraction.specs.Certificate.{quote, le_by, up as gap, eqn, ◌⊞◌, ◌⊠◌, ◌·◌}
 use Rattle.fraction.specs.Inverse.{mul_cancel}
 use Rattle.fraction.specs.Order.{pow2_pos, pow2_add}
 use Rattle.fraction.specs.Size.{Size}

@@ -1,11 +1,9 @@
 -- `arrays::all_finite` meets its contract: i places are tested after i turns. Assumes nothing.
-use Prim.Native.Nat.{◌≤◌, ◌-◌}
 use mathlib.Core.Path.{◌≡◌, refl}
 use native.Mathlib.Omega.{arith}
 use native.Mathlib.Numerals.{add-one}
 use borrow.Author.Rules.{rules}
 use Rattle.iterate.specs.Iterate.{all_below}
-use Rattle.arrays.specs.Places.{all_finite}
 use Rattle.arrays.proofs.all_finite.Goals as goal
 
 pub loop-i-init : goal.loop-i-init

@@ -1,10 +1,6 @@
 -- `arrays::all_finite` meets its contract: i places are tested after i turns. Assumes nothing.
 use Prim.Native.Nat.{◌≤◌, ◌-◌}
-use mathlib.Core.Path.{◌≡◌, refl}
-use native.Mathlib.Omega.{arith}
-use native.Mathlib.Numerals.{add-one}
-use borrow.Author.Rules.{rules}
-use Rattle.iterate.specs.Iterate.{all_below}
+use mathlib.Core.Path.{◌≡◌}
 use Rattle.arrays.specs.Places.{all_finite}
 use Rattle.arrays.proofs.all_finite.Given as goal
 

@@ -1,9 +1,7 @@
 -- `arrays::fill` meets its contract: i places are filled after i turns. Assumes nothing.
-use Prim.Native.Nat.{◌≤◌, ◌-◌}
 use mathlib.Core.Path.{◌≡◌, refl}
 use native.Mathlib.Omega.{arith}
 use native.Mathlib.Numerals.{add-one}
-use lib.ListN.{length}
 use borrow.Author.Rules.{rules}
 use Rattle.iterate.specs.Iterate.{first_by}
 use Rattle.arrays.proofs.fill.Goals as goal

@@ -1,10 +1,7 @@
 -- `arrays::fill` meets its contract: i places are filled after i turns. Assumes nothing.
 use Prim.Native.Nat.{◌≤◌, ◌-◌}
-use mathlib.Core.Path.{◌≡◌, refl}
-use native.Mathlib.Omega.{arith}
-use native.Mathlib.Numerals.{add-one}
+use mathlib.Core.Path.{◌≡◌}
 use lib.ListN.{length}
-use borrow.Author.Rules.{rules}
 use Rattle.iterate.specs.Iterate.{first_by}
 use Rattle.arrays.proofs.fill.Given as goal
 

@@ -1,17 +1,9 @@
 -- `arrays::places_fit` meets its contract: after the used places, n or all, i places are tested before the turn i. Assumes nothing.
 use Prim.Native.Nat.{◌≤◌, ◌-◌}
-use mathlib.Core.Path.{◌≡◌, refl, ◌∙◌}
-use mathlib.Core.Logic.{⊎_elim}
-use native.Mathlib.Nat.{le_refl}
-use native.Mathlib.Omega.{arith}
-use native.Mathlib.Numerals.{add-one}
+use mathlib.Core.Path.{◌≡◌}
 use lib.ListN.{length}
-use borrow.Author.Tests.{le-ltb}
-use borrow.Author.Rules.{rules}
 use Rattle.refusal.specs.Ranges.{in_range}
-use Rattle.iterate.specs.Iterate.{all_below}
 use Rattle.arrays.specs.Places.{places_fit}
-use Rattle.arrays.specs.Laws.{used_alone}
 use Rattle.arrays.proofs.places_fit.Given as goal
 
 abbrev pub invariant-loop-i : goal.invariant-loop-i

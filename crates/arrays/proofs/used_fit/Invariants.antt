@@ -1,11 +1,7 @@
 -- `arrays::used_fit` meets its contract: i places are tested after i turns. Assumes nothing.
 use Prim.Native.Nat.{◌≤◌, ◌-◌}
-use mathlib.Core.Path.{◌≡◌, refl}
-use native.Mathlib.Omega.{arith}
-use native.Mathlib.Numerals.{add-one}
-use borrow.Author.Rules.{rules}
+use mathlib.Core.Path.{◌≡◌}
 use Rattle.refusal.specs.Ranges.{in_range}
-use Rattle.iterate.specs.Iterate.{all_below}
 use Rattle.arrays.specs.Places.{all_pass}
 use Rattle.arrays.proofs.used_fit.Given as goal
 

@@ -1,5 +1,4 @@
 -- `codec::read_f64` meets its contract. Assumes nothing.
-use borrow.Author.Rules.{rules}
 use Rattle.codec.specs.Words.{float_at}
 use Rattle.codec.proofs.read_f64.Goals as goal
 

@@ -4,7 +4,6 @@ use native.Mathlib.Omega.{arith}
 use lib.ListN.{length}
 use borrow.Author.Tests.{le-leb, lt-leb}
 use Rattle.codec.specs.Words.{word_at}
-use borrow.Author.Rules.{rules}
 use Rattle.codec.proofs.read_word.Goals as goal
 
 pub returns-then-s-k : goal.returns-then-s-k

@@ -1,6 +1,5 @@
 -- `codec::word_from` meets its contract. Assumes nothing.
 use Rattle.codec.specs.Words.{bytes_at}
-use borrow.Author.Rules.{rules}
 use Rattle.codec.proofs.word_from.Goals as goal
 
 pub returns : goal.returns

@@ -1,6 +1,5 @@
 -- `codec::write_bytes` meets its contract. Assumes nothing.
 use native.Mathlib.Omega.{arith}
-use borrow.Author.Rules.{rules}
 use lib.ListN.{length-set}
 use Rattle.codec.specs.Words.{put_bytes}
 use Rattle.codec.proofs.write_bytes.Goals as goal

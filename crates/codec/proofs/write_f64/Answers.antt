@@ -1,5 +1,4 @@
 -- `codec::write_f64` meets its contract. Assumes nothing.
-use borrow.Author.Rules.{rules}
 use Rattle.codec.specs.Words.{put_float}
 use Rattle.codec.proofs.write_f64.Goals as goal
 

@@ -1,5 +1,4 @@
 -- `curves::ocp_graphite` meets its contract. Assumes nothing.
-use borrow.Author.Rules.{rules}
 use Rattle.curves.specs.Curves.{graphite_curve}
 use Rattle.curves.proofs.ocp_graphite.Goals as goal
 

@@ -1,5 +1,4 @@
 -- `curves::ocp_lfp` meets its contract. Assumes nothing.
-use borrow.Author.Rules.{rules}
 use Rattle.curves.specs.Curves.{lfp_curve}
 use Rattle.curves.proofs.ocp_lfp.Goals as goal
 

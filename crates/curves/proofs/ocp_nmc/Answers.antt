@@ -1,5 +1,4 @@
 -- `curves::ocp_nmc` meets its contract. Assumes nothing.
-use borrow.Author.Rules.{rules}
 use Rattle.curves.specs.Curves.{nmc_curve}
 use Rattle.curves.proofs.ocp_nmc.Goals as goal
 

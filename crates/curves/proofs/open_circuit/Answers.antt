@@ -1,5 +1,4 @@
 -- `curves::open_circuit` meets its contract: each arm has the chemistry that leads to it. Assumes nothing.
-use borrow.Author.Rules.{rules}
 use borrow.Author.Tests.{ne_eqb}
 use Rattle.curves.specs.Curves.{chemistry_curve}
 use Rattle.curves.proofs.open_circuit.Goals as goal

@@ -1,5 +1,4 @@
 -- `curves::open_circuit_slope` meets its contract. Assumes nothing.
-use borrow.Author.Rules.{rules}
 use Rattle.curves.specs.Curves.{chemistry_slope}
 use Rattle.curves.proofs.open_circuit_slope.Goals as goal
 

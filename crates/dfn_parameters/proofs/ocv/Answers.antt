@@ -1,5 +1,4 @@
 -- `dfn_parameters::ocv` meets its contract: i coefficients are taken after i turns. Assumes nothing.
-use Prim.Native.Nat.{◌≤◌, ◌-◌}
 use mathlib.Core.Path.{◌≡◌, refl}
 use native.Mathlib.Omega.{arith}
 use native.Mathlib.Numerals.{add-one}

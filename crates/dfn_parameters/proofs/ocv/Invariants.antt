@@ -1,10 +1,7 @@
 -- `dfn_parameters::ocv` meets its contract: i coefficients are taken after i turns. Assumes nothing.
 use Prim.Native.Nat.{◌≤◌, ◌-◌}
-use mathlib.Core.Path.{◌≡◌, refl}
-use native.Mathlib.Omega.{arith}
-use native.Mathlib.Numerals.{add-one}
+use mathlib.Core.Path.{◌≡◌}
 use Rattle.dfn_parameters.specs.Sides.{horner}
-use borrow.Author.Rules.{rules}
 use Rattle.dfn_parameters.proofs.ocv.Given as goal
 
 abbrev pub invariant-loop-i : goal.invariant-loop-i

@@ -1,5 +1,4 @@
 -- `elementary::arrhenius` meets its contract. Assumes nothing.
-use borrow.Author.Rules.{rules}
 use Rattle.elementary.proofs.arrhenius.Goals as goal
 
 pub returns : goal.returns

@@ -8,7 +8,6 @@ use Rattle.elementary.specs.Ln.{ln_of}
 use Rattle.min_max.specs.MinMax.{abs_of}
 use Rattle.elementary.specs.Asinh.{asinh_at, asinh_log, asinh_taylor, is_small, asinh_of}
 use Rattle.elementary.specs.AsinhForms.{asinh_taylor_lem, asinh_log_lem}
-use borrow.Author.Rules.{rules}
 use Rattle.elementary.proofs.asinh.Goals as goal
 
 -- what the test of a = |x| says of x

@@ -6,7 +6,6 @@ use lib.Ieee.{of_bits}
 use Rattle.square_root.proofs.Patterns.{no_nan_bits}
 use Rattle.elementary.specs.Exp.{squarings}
 use Rattle.elementary.proofs.ExpLaws.{exp_zero, exp_high, exp_low, exp_mid, powered_is}
-use borrow.Author.Rules.{rules}
 use Rattle.elementary.proofs.exp.Goals as goal
 
 pub returns-then-t : goal.returns-then-t

@@ -1,8 +1,6 @@
 -- `exp_series` meets its contract. Assumes nothing.
-use mathlib.Core.Path.{◌≡◌, refl, sym, ◌∙◌}
+use mathlib.Core.Path.{sym, ◌∙◌}
 use native.Mathlib.Omega.{arith}
-use borrow.Author.Rules.{rules}
-use Rattle.elementary.specs.Exp.{one, series}
 use Rattle.elementary.proofs.ExpLaws.{series_end, series_step}
 use Rattle.elementary.proofs.exp_series.Goals as goal
 

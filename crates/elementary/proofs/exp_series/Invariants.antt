@@ -1,9 +1,6 @@
 -- `exp_series` meets its contract. Assumes nothing.
-use mathlib.Core.Path.{◌≡◌, refl, sym, ◌∙◌}
-use native.Mathlib.Omega.{arith}
-use borrow.Author.Rules.{rules}
+use mathlib.Core.Path.{◌≡◌}
 use Rattle.elementary.specs.Exp.{one, series}
-use Rattle.elementary.proofs.ExpLaws.{series_end, series_step}
 use Rattle.elementary.proofs.exp_series.Given as goal
 
 abbrev pub invariant-loop-k : goal.invariant-loop-k

@@ -1,9 +1,6 @@
 -- `exp_squarings` meets its contract. Assumes nothing.
-use mathlib.Core.Path.{◌≡◌, refl, sym, ◌∙◌}
-use native.Mathlib.Omega.{arith}
-use borrow.Author.Rules.{rules}
+use mathlib.Core.Path.{◌≡◌}
 use Rattle.elementary.specs.Exp.{squarings}
-use Rattle.elementary.proofs.ExpLaws.{squarings_end, squarings_step}
 use Rattle.elementary.proofs.exp_squarings.Given as goal
 
 abbrev pub invariant-loop-n : goal.invariant-loop-n

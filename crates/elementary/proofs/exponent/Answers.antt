@@ -4,7 +4,6 @@ use native.Mathlib.Omega.{arith}
 use lib.Dec.{le→leb}
 use lib.Ieee.{in_float}
 use Rattle.elementary.proofs.LnLaws.{exponent_up, exponent_down}
-use borrow.Author.Rules.{rules}
 use Rattle.elementary.proofs.exponent.Goals as goal
 
 pub int_to_float-result : goal.int_to_float-result

@@ -1,10 +1,7 @@
 -- `last_terms` meets its contract. Assumes nothing.
-use mathlib.Core.Path.{◌≡◌, refl, sym, ap₂, ◌∙◌}
+use mathlib.Core.Path.{refl, sym, ap₂, ◌∙◌}
 use native.Mathlib.Omega.{arith}
 use lib.Ieee.{Float}
-use borrow.Author.Rules.{rules}
-use Rattle.elementary.specs.Exp.{series}
-use Rattle.elementary.specs.LastTerms.{start_low, start_high}
 use Rattle.elementary.proofs.ExpLaws.{series_end, series_step}
 use Rattle.elementary.proofs.last_terms.Goals as goal
 

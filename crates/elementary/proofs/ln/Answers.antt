@@ -16,7 +16,6 @@ use Rattle.elementary.specs.Ln.{two, ln_parts, ln_split, ln_of}
 use Rattle.min_max.proofs.SignLaws.{is_nan_lem}
 use Rattle.elementary.proofs.LnLaws.{split_small, split_large}
 use Rattle.elementary.proofs.LnSplits.{ln_split_lem, nan_ln, infinity_ln, zero_ln, negative_ln}
-use borrow.Author.Rules.{rules}
 use Rattle.elementary.proofs.ln.Goals as goal
 
 zeros : (f64 0xfff0_0000_0000_0000 ≡ ln_of «0·0») × (f64 0xfff0_0000_0000_0000 ≡ ln_of (f64 (2 ^ 63)))

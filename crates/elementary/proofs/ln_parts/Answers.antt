@@ -1,13 +1,11 @@
 -- `ln_parts` meets its contract. Assumes nothing.
-use mathlib.Core.Path.{◌≡◌, refl, sym, ap, ◌∙◌}
-use Prim.Native.Nat.{◌≤◌}
+use mathlib.Core.Path.{refl, sym, ap, ◌∙◌}
 use native.Mathlib.Omega.{arith}
-use borrow.Author.Rules.{rules}
 use lib.Ieee.{Float}
 use Rattle.binary64.specs.Operators.{◌⊕◌, ◌⊖◌, ◌⊗◌, ◌⊘◌}
 use Rattle.square_root.proofs.Patterns.{no_nan_bits}
 use Rattle.elementary.specs.Exp.{one}
-use Rattle.elementary.specs.Ln.{two, ln2, terms, twenty_three}
+use Rattle.elementary.specs.Ln.{two, ln2}
 use Rattle.elementary.proofs.LnLaws.{terms_end, terms_step, parts_is}
 use Rattle.elementary.proofs.ln_parts.Goals as goal
 

@@ -1,14 +1,9 @@
 -- `ln_parts` meets its contract. Assumes nothing.
-use mathlib.Core.Path.{◌≡◌, refl, sym, ap, ◌∙◌}
+use mathlib.Core.Path.{◌≡◌}
 use Prim.Native.Nat.{◌≤◌}
-use native.Mathlib.Omega.{arith}
-use borrow.Author.Rules.{rules}
-use lib.Ieee.{Float}
-use Rattle.binary64.specs.Operators.{◌⊕◌, ◌⊖◌, ◌⊗◌, ◌⊘◌}
-use Rattle.square_root.proofs.Patterns.{no_nan_bits}
+use Rattle.binary64.specs.Operators.{◌⊘◌}
 use Rattle.elementary.specs.Exp.{one}
-use Rattle.elementary.specs.Ln.{two, ln2, terms, twenty_three}
-use Rattle.elementary.proofs.LnLaws.{terms_end, terms_step, parts_is}
+use Rattle.elementary.specs.Ln.{terms, twenty_three}
 use Rattle.elementary.proofs.ln_parts.Given as goal
 
 abbrev pub invariant-loop-j : goal.invariant-loop-j

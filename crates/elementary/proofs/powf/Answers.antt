@@ -4,7 +4,6 @@ use lib.Ieee.{Float}
 use Rattle.binary64.specs.Operators.{◌⊗◌}
 use Rattle.elementary.specs.Exp.{exp_of}
 use Rattle.elementary.specs.Power.{powf_of}
-use borrow.Author.Rules.{rules}
 use Rattle.elementary.proofs.powf.Goals as goal
 
 pub returns : goal.returns

@@ -1,5 +1,4 @@
 -- `series_from_last` meets its contract. Assumes nothing.
-use borrow.Author.Rules.{rules}
 use Rattle.elementary.proofs.series_from_last.Goals as goal
 
 pub returns-then-b : goal.returns-then-b

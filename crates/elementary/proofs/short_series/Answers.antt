@@ -1,6 +1,5 @@
 -- `short_series` meets its contract. Assumes nothing.
 use lib.Dec.{lit≤}
-use borrow.Author.Rules.{rules}
 use Rattle.elementary.proofs.LastTermsLaws.{last_terms_meet}
 use Rattle.elementary.proofs.short_series.Goals as goal
 

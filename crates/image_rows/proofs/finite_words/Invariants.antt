@@ -1,12 +1,7 @@
 -- `image_rows::finite_words` meets its contract: i words are tested after i turns. Assumes nothing.
-use Prim.Native.Nat.{◌≤◌, ◌-◌, ◌+◌}
-use mathlib.Core.Path.{◌≡◌, refl, ◌∙◌}
-use native.Mathlib.Omega.{arith}
-use native.Mathlib.Numerals.{add-one}
-use Rattle.iterate.specs.Iterate.{all_below}
+use Prim.Native.Nat.{◌≤◌, ◌-◌}
+use mathlib.Core.Path.{◌≡◌}
 use Rattle.image_rows.specs.Rows.{finite_words}
-use Rattle.image_rows.proofs.RowLaws.{word_is}
-use borrow.Author.Rules.{rules}
 use Rattle.image_rows.proofs.finite_words.Given as goal
 
 abbrev pub invariant-loop-i : goal.invariant-loop-i

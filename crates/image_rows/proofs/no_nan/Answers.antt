@@ -1,10 +1,8 @@
 -- `image_rows::no_nan` meets its contract: i places are tested after i turns. Assumes nothing.
-use Prim.Native.Nat.{◌≤◌, ◌-◌}
 use mathlib.Core.Path.{◌≡◌, refl}
 use native.Mathlib.Omega.{arith}
 use native.Mathlib.Numerals.{add-one}
-use lib.ListN.{length, get_or}
-use lib.Ieee.{nan, eq}
+use lib.ListN.{length}
 use Rattle.iterate.specs.Iterate.{all_below}
 use Rattle.image_rows.specs.Rows.{no_nan_of}
 use borrow.Author.Rules.{rules}

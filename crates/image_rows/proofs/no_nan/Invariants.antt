@@ -1,13 +1,9 @@
 -- `image_rows::no_nan` meets its contract: i places are tested after i turns. Assumes nothing.
 use Prim.Native.Nat.{◌≤◌, ◌-◌}
-use mathlib.Core.Path.{◌≡◌, refl}
-use native.Mathlib.Omega.{arith}
-use native.Mathlib.Numerals.{add-one}
+use mathlib.Core.Path.{◌≡◌}
 use lib.ListN.{length, get_or}
 use lib.Ieee.{nan, eq}
 use Rattle.iterate.specs.Iterate.{all_below}
-use Rattle.image_rows.specs.Rows.{no_nan_of}
-use borrow.Author.Rules.{rules}
 use Rattle.image_rows.proofs.no_nan.Given as goal
 
 abbrev pub invariant-loop-i : goal.invariant-loop-i

@@ -1,6 +1,5 @@
 -- `image_rows::put_ending` meets its contract. Assumes nothing.
 use Rattle.image_rows.specs.Written.{put_ending}
-use borrow.Author.Rules.{rules}
 use Rattle.image_rows.proofs.put_ending.Goals as goal
 
 pub returns : goal.returns

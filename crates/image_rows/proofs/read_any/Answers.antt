@@ -1,12 +1,10 @@
 -- `image_rows::read_any` meets its contract: k places are read after k turns. Assumes nothing.
-use Prim.Native.Nat.{◌≤◌, ◌+◌, ◌-◌}
 use mathlib.Core.Path.{◌≡◌, refl}
 use native.Mathlib.Omega.{arith}
 use native.Mathlib.Numerals.{add-one}
 use borrow.Author.Rules.{rules}
 use lib.ListN.{length}
 use Rattle.iterate.specs.Iterate.{first_by}
-use Rattle.codec.specs.Words.{float_at}
 use Rattle.image_rows.proofs.read_any.Goals as goal
 
 pub loop-i-init : goal.loop-i-init

@@ -1,9 +1,6 @@
 -- `image_rows::read_any` meets its contract: k places are read after k turns. Assumes nothing.
 use Prim.Native.Nat.{◌≤◌, ◌+◌, ◌-◌}
-use mathlib.Core.Path.{◌≡◌, refl}
-use native.Mathlib.Omega.{arith}
-use native.Mathlib.Numerals.{add-one}
-use borrow.Author.Rules.{rules}
+use mathlib.Core.Path.{◌≡◌}
 use lib.ListN.{length}
 use Rattle.iterate.specs.Iterate.{first_by}
 use Rattle.codec.specs.Words.{float_at}

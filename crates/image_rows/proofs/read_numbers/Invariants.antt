@@ -1,17 +1,9 @@
 -- `image_rows::read_numbers` meets its contract: k places are read after k turns. Assumes nothing.
 use Prim.Native.Nat.{◌≤◌, ◌-◌, ◌+◌}
-use mathlib.Core.Path.{◌≡◌, refl, sym, ◌∙◌, subst}
-use native.Mathlib.Omega.{arith}
-use native.Mathlib.Numerals.{add-one}
+use mathlib.Core.Path.{◌≡◌}
 use lib.ListN.{length}
-use mathlib.Core.Bool.{not}
-use lib.Dec.{T}
-use lib.Ieee.{binary64, nan_bits}
-use Rattle.iterate.specs.Iterate.{first_by, all_at}
-use Rattle.codec.specs.Words.{word_at, float_at}
-use Rattle.image_rows.specs.Rows.{finite_pattern, finite_words}
-use Rattle.image_rows.proofs.RowLaws.{word_is, no_nan_pattern}
-use borrow.Author.Rules.{rules}
+use Rattle.iterate.specs.Iterate.{first_by}
+use Rattle.codec.specs.Words.{float_at}
 use Rattle.image_rows.proofs.read_numbers.Given as goal
 
 abbrev pub invariant-loop-i : goal.invariant-loop-i

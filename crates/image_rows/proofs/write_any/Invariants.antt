@@ -1,9 +1,6 @@
 -- `image_rows::write_any` meets its contract: k places are written after k turns. Assumes nothing.
 use Prim.Native.Nat.{◌≤◌, ◌-◌}
-use mathlib.Core.Path.{◌≡◌, refl}
-use native.Mathlib.Omega.{arith}
-use native.Mathlib.Numerals.{add-one}
-use borrow.Author.Rules.{rules}
+use mathlib.Core.Path.{◌≡◌}
 use lib.ListN.{length}
 use Rattle.codec.specs.Words.{put_places}
 use Rattle.image_rows.proofs.write_any.Given as goal

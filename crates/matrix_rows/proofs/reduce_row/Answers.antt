@@ -1,8 +1,7 @@
 -- `matrix_rows::reduce_row` meets its contract: before turn k, the row is reduced up to column k and the matrix is as long as it was. Assumes nothing.
-use Prim.Native.Nat.{◌≤◌, ◌-◌}
 use mathlib.Core.Path.{◌≡◌, refl}
 use native.Mathlib.Omega.{arith}
-use lib.ListN.{length, length-set}
+use lib.ListN.{length-set}
 use borrow.Author.Rules.{rules}
 use Rattle.matrix_rows.specs.Loops.{range_none, range_next}
 use Rattle.matrix_rows.specs.Rows.{row_reduced}

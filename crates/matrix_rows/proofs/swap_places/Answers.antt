@@ -1,6 +1,5 @@
 -- `matrix_rows::swap_places` meets its contract. Assumes nothing.
 use mathlib.Core.Path.{refl}
-use native.Mathlib.Omega.{arith}
 use Rattle.matrix_rows.specs.Rows.{swapped}
 use Rattle.matrix_rows.proofs.swap_places.Goals as goal
 

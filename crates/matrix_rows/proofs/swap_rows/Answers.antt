@@ -1,8 +1,7 @@
 -- `matrix_rows::swap_rows` meets its contract: before turn k, k places of both rows are swapped and the matrix is as long as it was. Assumes nothing.
-use Prim.Native.Nat.{◌≤◌, ◌-◌}
 use mathlib.Core.Path.{◌≡◌, refl}
 use native.Mathlib.Omega.{arith}
-use lib.ListN.{length, length-set}
+use lib.ListN.{length-set}
 use borrow.Author.Rules.{rules}
 use Rattle.matrix_rows.specs.Loops.{range_none, range_next}
 use Rattle.matrix_rows.specs.Rows.{swapped, rows_swapped}

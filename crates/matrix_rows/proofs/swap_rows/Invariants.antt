@@ -1,11 +1,8 @@
 -- `matrix_rows::swap_rows` meets its contract: before turn k, k places of both rows are swapped and the matrix is as long as it was. Assumes nothing.
 use Prim.Native.Nat.{◌≤◌, ◌-◌}
-use mathlib.Core.Path.{◌≡◌, refl}
-use native.Mathlib.Omega.{arith}
-use lib.ListN.{length, length-set}
-use borrow.Author.Rules.{rules}
-use Rattle.matrix_rows.specs.Loops.{range_none, range_next}
-use Rattle.matrix_rows.specs.Rows.{swapped, rows_swapped}
+use mathlib.Core.Path.{◌≡◌}
+use lib.ListN.{length}
+use Rattle.matrix_rows.specs.Rows.{rows_swapped}
 use Rattle.matrix_rows.proofs.swap_rows.Given as goal
 
 abbrev pub invariant-loop-k : goal.invariant-loop-k

@@ -1,5 +1,5 @@
 -- `abs` meets its contract. Assumes nothing.
-use Rattle.std.proofs.Common.{sym, ◌∙◌, rules}
+use Rattle.std.proofs.Common.{sym, ◌∙◌}
 use Rattle.min_max.proofs.SignLaws.{abs_negative, abs_positive}
 use Rattle.min_max.proofs.abs.Goals as goal
 

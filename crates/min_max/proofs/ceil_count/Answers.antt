@@ -1,5 +1,5 @@
 -- `ceil_count` meets its contract. Assumes nothing.
-use Rattle.std.proofs.Common.{T, sym, subst, arith, rules}
+use Rattle.std.proofs.Common.{T, sym, subst, arith}
 use Rattle.min_max.proofs.CountLaws.{Counted, CountedBy, ceil_zero, ceil_top, in_range_lem, counted}
 use Rattle.min_max.proofs.ceil_count.Goals as goal
 
@@ -18,8 +18,11 @@ truncating_f64_to_u64-whole-requires c =
 
 pub overflow_add-result : goal.overflow_add-result
 overflow_add-result c =
-    omega (arith, ((subst (Counted c.args.q c.truncating_f64_to_u64-whole.result) (sym c.nearest_u64_to_f64.ensures)
-    (subst (CountedBy c.args.q) (sym c.truncating_f64_to_u64-whole.ensures) (counted c.args.q (subst T (sym c.well_formed.0.1) tt) c.if-not-q.false c.if-q.false))).next c.if-nearest_u64_to_f64-q.true).0)
+    omega (
+      arith,
+      ((subst (Counted c.args.q c.truncating_f64_to_u64-whole.result) (sym c.nearest_u64_to_f64.ensures)
+          (subst (CountedBy c.args.q) (sym c.truncating_f64_to_u64-whole.ensures) (counted c.args.q (subst T (sym c.well_formed.0.1) tt) c.if-not-q.false c.if-q.false))).next c.if-nearest_u64_to_f64-q.true).0,
+    )
 
 pub returns-then-nearest_u64_to_f64-q : goal.returns-then-nearest_u64_to_f64-q
 returns-then-nearest_u64_to_f64-q c =

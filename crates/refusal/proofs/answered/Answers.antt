@@ -1,5 +1,4 @@
 -- `refusal::answered` meets its contract: each way out has what the tests found. Assumes nothing.
-use borrow.Author.Rules.{rules}
 use borrow.Author.Tests.{eq-eqb, ne_eqb}
 use Rattle.refusal.specs.Answers.{outcome}
 use Rattle.refusal.proofs.answered.Goals as goal

@@ -1,5 +1,4 @@
 -- `refusal::clock_fits` meets its contract by what `is_finite` ensures. Assumes nothing.
-use borrow.Author.Rules.{rules}
 use Rattle.refusal.proofs.clock_fits.Goals as goal
 
 pub returns : goal.returns

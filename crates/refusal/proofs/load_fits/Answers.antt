@@ -1,5 +1,4 @@
 -- `refusal::load_fits` meets its contract. Assumes nothing.
-use borrow.Author.Rules.{rules}
 use Rattle.refusal.proofs.load_fits.Goals as goal
 
 pub returns : goal.returns

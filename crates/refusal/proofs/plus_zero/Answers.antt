@@ -1,5 +1,4 @@
 -- `refusal::plus_zero` meets its contract by what `words::to_bits` ensures. Assumes nothing.
-use borrow.Author.Rules.{rules}
 use Rattle.refusal.specs.Ranges.{plus_zero}
 use Rattle.refusal.proofs.plus_zero.Goals as goal
 

@@ -1,5 +1,4 @@
 -- `refusal::temperature_fits` meets its contract. Assumes nothing.
-use borrow.Author.Rules.{rules}
 use Rattle.refusal.proofs.temperature_fits.Goals as goal
 
 pub returns : goal.returns

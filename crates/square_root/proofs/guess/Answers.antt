@@ -2,7 +2,6 @@
 use Prim.Native.Nat.{◌+◌, ◌-◌, ◌*◌, ◌/◌}
 use native.Mathlib.Omega.{arith}
 use Rattle.square_root.proofs.Patterns.{no_nan_bits, not_nan}
-use borrow.Author.Rules.{rules}
 use Rattle.square_root.proofs.guess.Goals as goal
 
 pub float_from_bits-t : goal.float_from_bits-t

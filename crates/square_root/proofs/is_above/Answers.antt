@@ -2,7 +2,6 @@
 use Prim.Native.Nat.{◌+◌, ◌*◌}
 use native.Mathlib.Omega.{arith}
 use Rattle.square_root.proofs.Squares.{words_lt}
-use borrow.Author.Rules.{rules}
 use Rattle.square_root.proofs.is_above.Goals as goal
 
 pub returns : goal.returns

@@ -4,7 +4,6 @@ use Prim.Native.Nat.{◌+◌, ◌-◌, ◌*◌, ◌/◌, ◌^◌}
 use native.Mathlib.Omega.{arith}
 use lib.Dec.{leb, ltb}
 use Rattle.square_root.proofs.Squares.{words_le, words_lt_more}
-use borrow.Author.Rules.{rules}
 use Rattle.square_root.proofs.is_nearest.Goals as goal
 
 pub returns : goal.returns

@@ -1,7 +1,6 @@
 -- `nearest_root` meets its contract. Assumes nothing.
 use mathlib.Core.Path.{sym, ◌∙◌}
 use native.Mathlib.Omega.{arith}
-use borrow.Author.Rules.{rules}
 use Rattle.square_root.proofs.Squares.{nearest_test}
 use Rattle.square_root.proofs.Units.{doubled_ge, doubled_lt}
 use Rattle.square_root.proofs.nearest_root.Goals as goal

@@ -1,10 +1,10 @@
 -- `parts_of` meets its contract. Assumes nothing.
 use mathlib.Core.Path.{refl}
-use Prim.Native.Nat.{◌-◌, ◌*◌, ◌/◌, ◌%◌, ◌^◌, ◌≤◌, ◌<◌}
+use Prim.Native.Nat.{◌/◌, ◌%◌, ◌^◌, ◌<◌}
 use native.Mathlib.Omega.{arith}
 use Rattle.square_root.specs.Parts.{units_of}
 use Rattle.square_root.proofs.Patterns.{positive_units}
-use Rattle.square_root.proofs.Normalised.{Scaled, scaled_step, scaled_low, scaled_high, scaled_moved, normal_of}
+use Rattle.square_root.proofs.Normalised.{scaled_step, scaled_low, scaled_high, scaled_moved, normal_of}
 use Rattle.square_root.proofs.parts_of.Goals as goal
 use Rattle.square_root.proofs.parts_of.Goals.{then-e-gt0, else-e-gt0}
 
@@ -22,8 +22,8 @@ loop-c-init c =
     let N = units_of (b / 2 ^ 52) (b % 2 ^ 52) in
     let p : 0 < b = omega (arith, c.if-b-eq0.false) in
     elim c.if-e-gt0.branch [
-      then-e-gt0 w ↦ scaled_moved N _ _ _ _ w.c-is w.w-is (scaled_high (b / 2 ^ 52) (b % 2 ^ 52) w.if-e-gt0.true (omega (arith, c.if-b-ge9218868437227405312.false)) (omega arith))
-    | else-e-gt0 w ↦ scaled_moved N _ _ _ _ w.c-is w.w-is (scaled_low (b / 2 ^ 52) (b % 2 ^ 52) (omega arith) (omega arith) (omega arith))
+      | then-e-gt0 w ↦ scaled_moved N _ _ _ _ w.c-is w.w-is (scaled_high (b / 2 ^ 52) (b % 2 ^ 52) w.if-e-gt0.true (omega (arith, c.if-b-ge9218868437227405312.false)) (omega arith))
+      | else-e-gt0 w ↦ scaled_moved N _ _ _ _ w.c-is w.w-is (scaled_low (b / 2 ^ 52) (b % 2 ^ 52) (omega arith) (omega arith) (omega arith))
     ]
 
 pub overflow_sub-w : goal.overflow_sub-w
@@ -41,7 +41,7 @@ loop-c-preserved c =
 pub returns : goal.returns
 returns c =
     record {
-  number = λ p l. normal_of _ _ _ c.loop-c.invariant c.loop-c-test.false;
-  at_zero = λ e. absurd (c.if-b-eq0.false e);
-  beyond = λ l. absurd (omega (arith, c.if-b-ge9218868437227405312.false));
-}
+      number = λ p l. normal_of _ _ _ c.loop-c.invariant c.loop-c-test.false;
+      at_zero = λ e. absurd (c.if-b-eq0.false e);
+      beyond = λ l. absurd (omega (arith, c.if-b-ge9218868437227405312.false));
+    }

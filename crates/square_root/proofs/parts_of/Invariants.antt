@@ -1,10 +1,7 @@
 -- `parts_of` meets its contract. Assumes nothing.
-use mathlib.Core.Path.{refl}
-use Prim.Native.Nat.{◌-◌, ◌*◌, ◌/◌, ◌%◌, ◌^◌, ◌≤◌, ◌<◌}
-use native.Mathlib.Omega.{arith}
+use Prim.Native.Nat.{◌/◌, ◌%◌, ◌^◌}
 use Rattle.square_root.specs.Parts.{units_of}
-use Rattle.square_root.proofs.Patterns.{positive_units}
-use Rattle.square_root.proofs.Normalised.{Scaled, scaled_step, scaled_low, scaled_high, scaled_moved, normal_of}
+use Rattle.square_root.proofs.Normalised.{Scaled}
 use Rattle.square_root.proofs.parts_of.Given as goal
 
 abbrev pub invariant-loop-c : goal.invariant-loop-c

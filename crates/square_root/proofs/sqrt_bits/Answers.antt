@@ -2,9 +2,8 @@
 use mathlib.Core.Path.{sym}
 use Prim.Native.Nat.{◌/◌, ◌%◌, ◌^◌}
 use native.Mathlib.Omega.{arith}
-use borrow.Author.Rules.{rules}
 use lib.Ieee.{binary64, of_bits}
-use Rattle.square_root.specs.Parts.{units_of, Normal}
+use Rattle.square_root.specs.Parts.{units_of}
 use Rattle.square_root.proofs.Patterns.{positive_value, positive_units}
 use Rattle.square_root.proofs.Units.{last_bit, root_bits}
 use Rattle.square_root.proofs.sqrt_bits.Goals as goal

@@ -1,7 +1,6 @@
 -- `squared` meets its contract. Assumes nothing.
 use native.Mathlib.Omega.{arith}
 use Rattle.square_root.proofs.Squares.{halves, squared_is}
-use borrow.Author.Rules.{rules}
 use Rattle.square_root.proofs.squared.Goals as goal
 
 pub overflow_mul-mid : goal.overflow_mul-mid

@@ -6,7 +6,6 @@ use native.Mathlib.Nat.{lt_irrefl, lt_of_lt_of_le}
 use lib.Dec.{T, ltb→lt, not_T, lt→ltb}
 use lib.Ieee.{Float, nan, inf, fin, binary64, is_nan, of_bits, nan_bits, div}
 use lib.Ieee.Bits.{nan_bits_is, nan_bits_above}
-use borrow.Author.Rules.{rules}
 use Rattle.words.proofs.from_bits.Goals as goal
 
 only_nan : (x : Float) → T (is_nan x) → nan ≡ x

@@ -4,7 +4,6 @@ use mathlib.Core.Bool.{false, not}
 use lib.Dec.{T}
 use lib.Ieee.{Float, nan, inf, fin, binary64, is_nan, to_bits, ne}
 use lib.Ieee.Compare.{differs_from_itself, nan_differs}
-use borrow.Author.Rules.{rules}
 use Rattle.words.proofs.to_bits.Goals as goal
 
 nan_pattern : 0x7ff8_0000_0000_0000 ≡ to_bits binary64 nan

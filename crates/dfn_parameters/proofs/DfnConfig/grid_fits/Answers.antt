@@ -1,5 +1,4 @@
 -- `dfn_parameters::DfnConfig::grid_fits` meets its contract. Assumes nothing.
-use borrow.Author.Rules.{rules}
 use Rattle.refusal.specs.EqualParts.{◌both◌}
 use Rattle.dfn_parameters.proofs.DfnConfig.grid_fits.Goals as goal
 

@@ -1,5 +1,4 @@
 -- `dfn_parameters::DfnConfig::limits_fit` meets its contract. Assumes nothing.
-use borrow.Author.Rules.{rules}
 use Rattle.refusal.specs.EqualParts.{◌both◌}
 use Rattle.dfn_parameters.proofs.DfnConfig.limits_fit.Goals as goal
 

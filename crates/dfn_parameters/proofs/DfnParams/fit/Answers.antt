@@ -1,6 +1,5 @@
 -- `dfn_parameters::DfnParams::fit` meets its contract. Assumes nothing.
 use Rattle.dfn_parameters.specs.Ranges.{parameters_fit}
-use borrow.Author.Rules.{rules}
 use Rattle.dfn_parameters.proofs.DfnParams.fit.Goals as goal
 
 pub returns : goal.returns

@@ -1,5 +1,4 @@
 -- `dfn_parameters::DfnParams::numbers_fit` meets its contract. Assumes nothing.
-use borrow.Author.Rules.{rules}
 use Rattle.dfn_parameters.proofs.DfnParams.numbers_fit.Goals as goal
 
 pub returns : goal.returns

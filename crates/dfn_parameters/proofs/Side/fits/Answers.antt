@@ -1,5 +1,4 @@
 -- `dfn_parameters::Side::fits` meets its contract. Assumes nothing.
-use borrow.Author.Rules.{rules}
 use Rattle.refusal.specs.EqualParts.{◌both◌}
 use Rattle.dfn_parameters.proofs.Side.fits.Goals as goal
 

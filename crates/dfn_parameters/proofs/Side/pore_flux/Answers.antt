@@ -1,5 +1,4 @@
 -- `dfn_parameters::Side::pore_flux` meets its contract. Assumes nothing.
-use borrow.Author.Rules.{rules}
 use Rattle.dfn_parameters.proofs.Side.pore_flux.Goals as goal
 
 pub returns : goal.returns

@@ -1,7 +1,6 @@
 -- `runs::lowest::group_count` meets its contract. Assumes nothing.
 use native.Mathlib.Omega.{arith}
 use Rattle.runs.specs.Lowest.{group_count}
-use borrow.Author.Rules.{rules}
 use Rattle.runs.proofs.lowest.group_count.Goals as goal
 
 pub returns-then-rows-eq0 : goal.returns-then-rows-eq0

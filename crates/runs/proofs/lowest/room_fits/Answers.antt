@@ -1,6 +1,5 @@
 -- `runs::lowest::room_fits` meets its contract. Assumes nothing.
 use Rattle.runs.specs.Lowest.{room_fits_of}
-use borrow.Author.Rules.{rules}
 use Rattle.runs.proofs.lowest.room_fits.Goals as goal
 
 pub returns : goal.returns

@@ -1,6 +1,5 @@
 -- `runs::lowest::update_lowest` meets its contract: each way out has what the tests found. Assumes nothing.
 use Rattle.runs.specs.LowestLaws.{updated_first, updated_lower, updated_kept}
-use borrow.Author.Rules.{rules}
 use Rattle.runs.proofs.lowest.update_lowest.Goals as goal
 
 pub returns-then-i-eq0 : goal.returns-then-i-eq0
