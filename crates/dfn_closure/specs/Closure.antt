@@ -42,7 +42,7 @@ module _ (d new : DfnSolver) (r : DfnStep) where
   refused zero false n = (refl, refl)
   refused (suc k) b n = rw eqb-suc-zero (refl, refl)
 
-abbrev new_cell : DfnSolver → Float → Float → DfnSolver
+abbrev pub new_cell : DfnSolver → Float → Float → DfnSolver
 new_cell d current dt = cell_with d (moved_by d current dt) (report_of d (moved_by d current dt) current dt)
 
 -- A STEP THAT IS REFUSED leaves the cell as it is, bit for bit, and reports nothing
@@ -151,7 +151,7 @@ clock_closed t dt c i f =
     and_i (finite (t ⊕ dt)) (le z (t ⊕ dt)) f
     (clock_on t dt day day_finite (and_l (finite t) (le z t) c) (and_r (finite t) (le z t) c) (and_l (lt z dt) (le dt day) i) (and_r (lt z dt) (le dt day) i))
 
-fields_closed : (d : DfnSolver) (current dt : Float) → Accepted d current dt → Fields (new_cell d current dt)
+pub fields_closed : (d : DfnSolver) (current dt : Float) → Accepted d current dt → Fields (new_cell d current dt)
 unfolding cell_with moved_by report_of solid_after electrolyte_after
 fields_closed d current dt a =
     let p = d.params in
@@ -175,21 +175,11 @@ fields_closed d current dt a =
     }
 
 -- ---- the theorem
-grid_kept : (d : DfnSolver) (current dt : Float) → cell_refusal d ≡ 0 → T (grid_fits (new_cell d current dt).config)
+pub grid_kept : (d : DfnSolver) (current dt : Float) → cell_refusal d ≡ 0 → T (grid_fits (new_cell d current dt).config)
 unfolding cell_refusal cell_with
 grid_kept d current dt h = passed (grid_fits d.config) 1 (zero-lt-suc 0) (neither_refused _ _ h).0
 
--- A STEP THAT IS ACCEPTED leads to a cell that passes the checks
-pub step_passes : (d : DfnSolver) (current dt : Float) → (stepped d current dt).refusal ≡ 0 → cell_refusal (stepped d current dt).cell ≡ 0
-step_passes d current dt h =
-    let a = accepted_step d current dt h in
-    rw a.leaves (cell_passes (new_cell d current dt) (grid_kept d current dt (step_cell d current dt a.before)) (fields_closed d current dt a))
-
 -- so nothing refuses the same step again before it is made: only 8 can come
-call_valid : (d : DfnSolver) (current dt : Float) → step_refusal d current dt ≡ 0 → first_refusal (refusal_unless (load_fits_of current «1e6») load) (refusal_unless (interval_fits dt) interval) ≡ 0
+pub call_valid : (d : DfnSolver) (current dt : Float) → step_refusal d current dt ≡ 0 → first_refusal (refusal_unless (load_fits_of current «1e6») load) (refusal_unless (interval_fits dt) interval) ≡ 0
 unfolding step_refusal
 call_valid d current dt h = (neither_refused (cell_refusal d) _ h).1
-
-pub next_step : (d : DfnSolver) (current dt : Float) → (stepped d current dt).refusal ≡ 0 → step_refusal (stepped d current dt).cell current dt ≡ 0
-unfolding step_refusal first_refusal
-next_step d current dt h = rw (step_passes d current dt h) (call_valid d current dt (accepted_step d current dt h).before)

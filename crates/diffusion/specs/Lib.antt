@@ -36,17 +36,6 @@ pub mod SubStep
 pub mod Exact
 pub mod Premises
 pub mod Places
-pub mod ExactLaws
-pub mod CentreNode
-pub mod Chain
-pub mod ClampValue
-pub mod Profile
-pub mod OneStep
 pub mod Run
 pub mod RunLaws
-pub mod Ordered
-pub mod Ranking
-pub mod Copies
 pub mod Calls
-pub mod CallLaws
-pub mod Examples

@@ -17,7 +17,8 @@ use Rattle.electrolyte_parameters.specs.Params.{param_rows, params_fit}
 use Rattle.arrays.specs.Places.{all_finite, filled}
 use Rattle.electrolyte_profile.specs.Places.{floor, above_floor, profile_fits}
 use Rattle.electrolyte_profile.specs.Step.{profile_new}
-use Rattle.electrolyte_profile.specs.Again.{profile_again, uniform_fits}
+use Rattle.electrolyte_profile.specs.Again.{uniform_fits}
+use Rattle.electrolyte_profile.proofs.Again.{profile_again}
 use Rattle.electrolyte.specs.declared.ElectrolyteState.{ElectrolyteState}
 use Rattle.electrolyte.specs.declared.ElectrolyteAnswer.{ElectrolyteAnswer}
 use Rattle.electrolyte.specs.State.{total, no_state, with_profile, step_params}

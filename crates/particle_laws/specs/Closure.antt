@@ -31,7 +31,7 @@ use Rattle.electrode.specs.Sheet.{sheet_fits, diffusivity_at}
 use Rattle.electrode.specs.declared.ElectrodeParams.{ElectrodeParams}
 use Rattle.diffusion.specs.SubStep.{SubStepParams, sub_step}
 use Rattle.diffusion.specs.Premises.{zero_fine, zero_val}
-use Rattle.diffusion.specs.Profile as Profile
+use Rattle.diffusion.proofs.Profile as Profile
 use Rattle.profile.specs.Places.{profile_fits, finite_profile}
 use Rattle.particle.specs.declared.ParticleDiffusion.{ParticleDiffusion}
 use Rattle.particle.specs.declared.ParticleAnswer.{ParticleAnswer}

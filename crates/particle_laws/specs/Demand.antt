@@ -15,10 +15,11 @@ use Rattle.electrode.specs.Sheet.{diffusivity_at}
 use Rattle.diffusion.specs.SubStep.{SubStepParams, sub_step}
 use Rattle.diffusion.specs.Exact.{Numbers, exact_step}
 use Rattle.diffusion.specs.Premises.{StepConditions, ParametersInRange}
-use Rattle.diffusion.specs.Profile.{values_at}
+use Rattle.diffusion.proofs.Profile.{values_at}
 use Rattle.diffusion.specs.Run.{sub_step_params, run, exact_run, Each}
 use Rattle.diffusion.specs.Calls.{Stepper, after, accepted, total, exact_after, Lawful}
-use Rattle.diffusion.specs.CallLaws.{calls_near, each_with}
+use Rattle.diffusion.proofs.CallLaws.{calls_near}
+use Rattle.diffusion.proofs.CallLaws.{each_with}
 use Rattle.particle.specs.declared.ParticleDiffusion.{ParticleDiffusion}
 use Rattle.particle.specs.declared.ParticleAnswer.{ParticleAnswer}
 use Rattle.particle.specs.Checks.{particle_refusal}

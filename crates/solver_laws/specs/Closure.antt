@@ -21,7 +21,7 @@ use Rattle.refusal.specs.Ranges.{finite, clock_fits}
 use Rattle.iterate.specs.Iterate.{times}
 use Rattle.diffusion.specs.SubStep.{sub_step}
 use Rattle.diffusion.specs.Premises.{zero_fine, zero_val}
-use Rattle.diffusion.specs.Profile as Profile
+use Rattle.diffusion.proofs.Profile as Profile
 use Rattle.profile.specs.Places.{finite_profile}
 use Rattle.particle.specs.declared.ParticleDiffusion.{ParticleDiffusion}
 use Rattle.particle.specs.Checks.{fields_fit_of, particle_refusal, fields_of}

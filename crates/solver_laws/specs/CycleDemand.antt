@@ -6,7 +6,7 @@ use Rattle.fraction.specs.Fraction.{nat, pow2, ◌-F◌, ◌*F◌, ◌/F◌, ◌
 use Rattle.binary64.specs.Value.{val}
 use Rattle.diffusion.specs.Premises.{FluxBound}
 use Rattle.diffusion.specs.Run.{Both}
-use Rattle.diffusion.specs.CallLaws.{each_with}
+use Rattle.diffusion.proofs.CallLaws.{each_with}
 use Rattle.particle.specs.Particle.{place_of}
 use Rattle.solver.specs.declared.SpmSolver.{SpmSolver}
 use Rattle.solver.specs.Cell.{cell_refusal}

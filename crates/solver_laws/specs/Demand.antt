@@ -13,8 +13,9 @@ use Rattle.diffusion.specs.Exact.{Numbers, numbers}
 use Rattle.diffusion.specs.Premises.{TimeStepBound, FluxBound, StepConditions, ParametersInRange, ProfileInRange}
 use Rattle.diffusion.specs.Run.{Grid, Move, sub_step_params, run, exact_run, Each}
 use Rattle.diffusion.specs.Calls.{Stepper, after, accepted, total, exact_after, Lawful}
-use Rattle.diffusion.specs.CallLaws.{calls_near, each_with, of_accepted}
-use Rattle.diffusion.specs.Copies.{run_times, each_copies}
+use Rattle.diffusion.proofs.CallLaws.{calls_near, of_accepted}
+use Rattle.diffusion.proofs.CallLaws.{each_with}
+use Rattle.diffusion.proofs.Copies.{run_times, each_copies}
 use Rattle.particle.specs.Particle.{spacing, place_of}
 use Rattle.particle_laws.specs.Ranges.{ranged_parameters}
 use Rattle.particle_laws.specs.Checked.{particle_in_range}

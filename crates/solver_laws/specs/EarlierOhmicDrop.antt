@@ -8,7 +8,8 @@ use Rattle.std.specs.Float.Ieee.{neg}
 use Rattle.std.specs.Float.Ieee.Fits.{mul-fits}
 use Rattle.binary64.specs.Operators.{negative}
 use Rattle.particle_laws.specs.Nodes.{number}
-use Rattle.kinetics.specs.EarlierOhmicDrop.{voltage_by_signum, voltage_kept}
+use Rattle.kinetics.specs.EarlierOhmicDrop.{voltage_by_signum}
+use Rattle.kinetics.proofs.EarlierOhmicDrop.{voltage_kept}
 use Rattle.solver_step.specs.declared.plan.Plan.{Plan}
 use Rattle.solver_step.specs.declared.report.SpmState.{SpmState}
 use Rattle.solver_step.specs.declared.report.SurfaceState.{SurfaceState}

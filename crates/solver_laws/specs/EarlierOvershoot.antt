@@ -11,7 +11,7 @@ use Rattle.elementary.specs.Exp.{one}
 use Rattle.min_max.specs.Count.{ceil_of}
 use Rattle.electrode.specs.Sheet.{graphite_anode, lfp_cathode}
 use Rattle.diffusion.specs.Exact.{Numbers, centre}
-use Rattle.diffusion.specs.CentreNode.{centre_passes}
+use Rattle.diffusion.proofs.CentreNode.{centre_passes}
 use Rattle.particle.specs.Particle.{spacing, stable_step}
 use Rattle.particle.specs.Calls.{fresh}
 use Rattle.solver_step.specs.Plans.{quotient_by, sub_steps_of}

@@ -6,7 +6,7 @@ use Rattle.std.proofs.Math.Bool.{true, false}
 use mathlib.Core.List.{List, [], ◌∷◌}
 use Rattle.fraction.specs.Fraction.{Fraction}
 use Rattle.diffusion.specs.Run.{exact_run, Each, Both, AllReady, Stronger}
-use Rattle.diffusion.specs.Ordered.{Ordered, ordered_run}
+use Rattle.diffusion.proofs.Ordered.{Ordered, ordered_run}
 use Rattle.diffusion.specs.Calls.{Stepper, accepted, exact_after}
 
 module _ {S Q : Type 0} (a : Stepper S Q) where

@@ -11,11 +11,12 @@ use Rattle.binary64.specs.Operators.{◌⊘◌, count}
 use Rattle.binary64.specs.Range.{Sized}
 use Rattle.binary64.specs.Value.{val}
 use Rattle.diffusion.specs.Premises.{FluxBound, StepConditions, ParametersInRange}
-use Rattle.diffusion.specs.Profile.{values_at}
+use Rattle.diffusion.proofs.Profile.{values_at}
 use Rattle.diffusion.specs.Run.{sub_step_params, Each, Both, AllReady, Stronger}
 use Rattle.diffusion.specs.RunLaws.{share, bound}
 use Rattle.diffusion.specs.Calls.{accepted, exact_after}
-use Rattle.diffusion.specs.CallLaws.{each_with, both_flip, of_accepted, calls_total}
+use Rattle.diffusion.proofs.CallLaws.{of_accepted, calls_total}
+use Rattle.diffusion.proofs.CallLaws.{each_with, both_flip}
 use Rattle.particle.specs.Particle.{place_of}
 use Rattle.solver.specs.declared.SpmSolver.{SpmSolver}
 use Rattle.solver.specs.declared.SpmStepAnswer.{SpmStepAnswer}
@@ -24,7 +25,7 @@ use Rattle.solver_step.specs.Plans.{sub_steps_of}
 use Rattle.solver.specs.Step.{plan_of}
 use Rattle.solver_laws.specs.Electrodes.{Electrode, particle_at, diffusivity_in, nodes_are, current_fits_lem, cathode_flux, anode_flux}
 use Rattle.solver_laws.specs.Closure.{Leads, leads}
-use Rattle.diffusion.specs.Ordered.{Ordered}
+use Rattle.diffusion.proofs.Ordered.{Ordered}
 use Rattle.solver_laws.specs.Ordered.{ordered_calls, both_with, both_copied}
 use Rattle.solver_laws.specs.Demand.{Call, answer, taken, K, plan_for, move_by, moves_by, grid_at, steps, numbers_at, FluxBoundAt, place, Inv, itself, same_numbers, lawful, taken_is, total_is, conditions_hold, keeps, in_range_lem, near_from}
 

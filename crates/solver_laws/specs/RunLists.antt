@@ -9,7 +9,7 @@ use Rattle.fraction.specs.Fraction.{nat, pow2, ◌-F◌, ◌*F◌, ◌/F◌, ◌
 use Rattle.binary64.specs.Value.{val}
 use Rattle.refusal.specs.Numbers.{first_refusal, refusal_unless, grid, sheet, neither_refused}
 use Rattle.diffusion.specs.Premises.{FluxBound}
-use Rattle.diffusion.specs.Copies.{each_copies}
+use Rattle.diffusion.proofs.Copies.{each_copies}
 use Rattle.diffusion.specs.Run.{Both}
 use Rattle.particle.specs.Particle.{place_of}
 use Rattle.runs.specs.Laws.{run_keeps}

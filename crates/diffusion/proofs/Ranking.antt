@@ -9,8 +9,9 @@ use Rattle.fraction.specs.Order.{≤F-refl}
 use Rattle.binary64.specs.Value.{val}
 use Rattle.diffusion.specs.Premises.{ProfileInRange}
 use Rattle.diffusion.specs.Run.{Grid, Move, run, exact_run, Both, AllReady, Stronger}
-use Rattle.diffusion.specs.Ordered.{ordered_run}
-use Rattle.diffusion.specs.RunLaws.{share, bound, run_near}
+use Rattle.diffusion.proofs.Ordered.{ordered_run}
+use Rattle.diffusion.specs.RunLaws.{share, bound}
+use Rattle.diffusion.proofs.RunLaws.{run_near}
 
 pub both_length : {A : Type 0} {R : A → A → Type 0} {xs ys : List A} → Both R xs ys → length xs ≡ length ys
 both_length Both.none = refl

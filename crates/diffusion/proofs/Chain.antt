@@ -20,7 +20,7 @@ use Rattle.binary64.specs.Rounds.{rounds_resp, mul_rounds}
 use Rattle.binary64.specs.Value.{val, int_finite, int_val}
 use Rattle.diffusion.specs.SubStep.{SubStepParams, two, six, centre_rate, shell_rate, ghost_node}
 use Rattle.diffusion.specs.Exact.{numbers, g, centre, inner, surface}
-use Rattle.diffusion.specs.ExactLaws.{over_nn, centre_weight}
+use Rattle.diffusion.proofs.ExactLaws.{over_nn, centre_weight}
 use Rattle.diffusion.specs.Premises.{Ready, NodeInRange, ready_stable}
 
 fair : {κ : Fraction} {e f : ℕ} → Size κ e f → T (leb e 1000) → T (leb f 900) → Fair κ

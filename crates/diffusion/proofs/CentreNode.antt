@@ -6,7 +6,7 @@ use Rattle.fraction.specs.Certificate.{quote, le_by, up, num, eqn, ◌⊞◌, �
 use Rattle.fraction.specs.Inverse.{mul_inv, mul_cancel, mul-pos}
 use Rattle.diffusion.specs.Exact.{Numbers, g, centre}
 use Rattle.diffusion.specs.Premises.{Stable}
-use Rattle.diffusion.specs.ExactLaws.{g_low, g_high}
+use Rattle.diffusion.proofs.ExactLaws.{g_low, g_high}
 
 module _ (e : Numbers) (c : ℕ → Fraction) where
   pub centre_stays : Stable e → c 0 ≤F c 1 → centre e c from c 0 to c 1

@@ -13,8 +13,8 @@ use Rattle.diffusion.specs.SubStep.{sub_step}
 use Rattle.diffusion.specs.Exact.{numbers, exact_step}
 use Rattle.diffusion.specs.Premises.{ParametersInRange, ProfileInRange}
 use Rattle.diffusion.specs.Run.{Grid, Move, sub_step_params, run, exact_run, Each, Both, AllReady, Stronger}
-use Rattle.diffusion.specs.RunLaws.{run_whole, run_near, run_unused}
-use Rattle.diffusion.specs.Ranking.{ranking, both_length}
+use Rattle.diffusion.proofs.RunLaws.{run_whole, run_near, run_unused}
+use Rattle.diffusion.proofs.Ranking.{ranking, both_length}
 use Rattle.diffusion.specs.Calls.{Stepper, after, accepted, total, exact_after, ConditionsHold, Lawful}
 
 -- ---- lists

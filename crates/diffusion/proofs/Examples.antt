@@ -15,7 +15,7 @@ use Rattle.diffusion.specs.Exact.{Numbers, numbers, g, centre, inner, surface, m
 use Rattle.diffusion.specs.Premises.{StepConditions, ParametersInRange, NodeInRange, ProfileInRange}
 use Rattle.diffusion.specs.Run.{Grid, Move, sub_step_params, run, Each, Both}
 use Rattle.diffusion.specs.Calls.{Stepper, after, accepted, total, exact_after, ConditionsHold, Lawful}
-use Rattle.diffusion.specs.CallLaws.{calls_near, calls_ranking}
+use Rattle.diffusion.proofs.CallLaws.{calls_near, calls_ranking}
 
 -- ---- h = D = 1, t = 1/6 so that g = 1/6, M = 100, from the nodes 0, 60, 0
 abbrev three : Fraction → Numbers

@@ -17,12 +17,12 @@ use Rattle.binary64.specs.Value.{val}
 use Rattle.binary64.specs.Literals.{«0·0»}
 use Rattle.diffusion.specs.SubStep.{SubStepParams, shell_rate, ghost_node, rate, node, sub_step}
 use Rattle.diffusion.specs.Exact.{Numbers, numbers, moved, exact_node, exact_step}
-use Rattle.diffusion.specs.ExactLaws.{moved_inner, moved_surface}
+use Rattle.diffusion.proofs.ExactLaws.{moved_inner, moved_surface}
 use Rattle.diffusion.specs.Premises.{Ready, NodeInRange, ProfileInRange, zero_fine, zero_val}
 use Rattle.diffusion.specs.Places.{by_place, other_place, before_place, from_place}
-use Rattle.diffusion.specs.Profile.{step_length, step_place, exact_place_lem, values_at}
-use Rattle.diffusion.specs.Chain.{centre_near, inner_near, surface_near}
-use Rattle.diffusion.specs.ClampValue.{Clamped, clamp_value}
+use Rattle.diffusion.proofs.Profile.{step_length, step_place, exact_place_lem, values_at}
+use Rattle.diffusion.proofs.Chain.{centre_near, inner_near, surface_near}
+use Rattle.diffusion.proofs.ClampValue.{Clamped, clamp_value}
 
 -- which rate is which
 module _ (v : SubStepParams) (c : ℕ → Float) where

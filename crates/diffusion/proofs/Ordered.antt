@@ -3,9 +3,10 @@ use Rattle.std.specs.Prelude.{ℕ, ◌<◌, ◌≤◌, ◌≡◌, List, length, 
 use Rattle.fraction.specs.Fraction.{Fraction, nat, ◌≤F◌}
 use Rattle.binary64.specs.Value.{val}
 use Rattle.diffusion.specs.Exact.{numbers, exact_step}
-use Rattle.diffusion.specs.ExactLaws.{with_flux, monotone}
+use Rattle.diffusion.proofs.ExactLaws.{monotone}
+use Rattle.diffusion.proofs.ExactLaws.{with_flux}
 use Rattle.diffusion.specs.Premises.{Ready, ready_stable}
-use Rattle.diffusion.specs.Profile.{exact_length, exact_place_lem}
+use Rattle.diffusion.proofs.Profile.{exact_length, exact_place_lem}
 use Rattle.diffusion.specs.Run.{Grid, Move, sub_step_params, exact_run, Each, Both, AllReady, Stronger}
 
 pub record Ordered (b : Grid) (x y : List Fraction) : Type 0 where

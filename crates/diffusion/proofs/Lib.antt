@@ -1,0 +1,12 @@
+pub mod ExactLaws
+pub mod CentreNode
+pub mod Chain
+pub mod ClampValue
+pub mod Profile
+pub mod OneStep
+pub mod Ordered
+pub mod Ranking
+pub mod Copies
+pub mod CallLaws
+pub mod Examples
+pub mod RunLaws
