@@ -12,7 +12,7 @@
 --   Run         `run` and `exact_run`: a list of sub-steps on one grid, each with its own diffusivity, flux and length.  `Each`, `Both`: what holds place by place of one or two lists
 --   Calls       `Stepper`: a state of any kind, its calls, and the sub-steps that an accepted call makes.  `Lawful`: what a particle or an electrode has to show of its own
 --
--- WHAT IS PROVED
+-- WHAT IS PROVED, in proofs/ (`share` and `bound`, which RunLaws speaks of, in specs/RunLaws)
 --   ExactLaws   `contraction`: one exact sub-step brings two profiles no further apart;  `monotone`: it keeps their order, in the profile and in the flux. Both need 6·g ≤ 1 only
 --   CentreNode  `centre_stays`: with 6·D·t ≤ h² the centre stays on its side of where its neighbour stood;  `centre_passes`: with 6·D·t above h² it goes beyond
 --   Chain       centre-, inner- and surface-near: before the clamp each node is within 14·M / 2 ^ 53, by the roundings counted one by one
