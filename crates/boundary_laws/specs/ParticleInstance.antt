@@ -28,7 +28,7 @@ use Rattle.boundary_laws.specs.CallLists.{CCall, image_after, accepted_calls, we
 use Rattle.boundary_laws.specs.StepLists.{particle_steps, particle_simulates}
 use Rattle.boundary_laws.specs.Nodes.{node_of}
 use Rattle.boundary_laws.specs.Demand.{ParticleStepConditions, particle_images_near}
-use Rattle.boundary_laws.specs.Instance.{zeros, zeros_length, calls}
+use Rattle.boundary_laws.specs.Instance.{zeros, zeros_length}
 use Rattle.image_layout.specs.Layout.{particle_bytes, particle_nodes, new_particle_bytes}
 
 -- ---- the image
