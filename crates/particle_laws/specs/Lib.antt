@@ -29,4 +29,3 @@ pub mod Demand
 pub mod Accepted
 pub mod Finite
 pub mod Potential
-pub mod Instance
