@@ -36,7 +36,7 @@ use Rattle.boundary.specs.Calls as B
 use Rattle.boundary.specs.Runs as BR
 use Rattle.image_laws.specs.Accepted.{after_lengths_lem, accepted, no_refusal}
 use Rattle.image_laws.specs.Encodable.{literal}
-use Rattle.image_laws.specs.Rows.{row_read_back}
+use Rattle.image_laws.specs.Rows.{row_written}
 use Rattle.image_laws.specs.CellImages.{particle_in}
 use Rattle.image_laws.specs.Reports.{cell_report_at, dfn_report_at}
 use Rattle.image_laws.specs.CellSteps.{particle_answer_lem, cell_answer, sub_steps_answer, report_answer}
@@ -251,7 +251,7 @@ number_read_back call s x y a = go (B.listed call 19) (B.lengths (length s) (num
         let n = number_answered call s x y in
         let l : length a ≡ 8 = eqb-true (length a) 8 ((and-eq-true_iff (eqb (length s) (number_length call)) (eqb (length a) 8)).0 e).1 in
         let z : (number_outcome call s x y).refusal ≡ 0 = rw (d, e) at h in
-        rw (d, e) (row_read_back 1 a 0 (number_outcome call s x y).values (n.one z) (rw l (le_refl 8)) n.places)
+        rw (d, e) (row_written 1 a 0 (number_outcome call s x y).values (n.one z) (rw l (le_refl 8)) n.places)
     go true false d e h = let z : N.bad_length ≡ 0 = rw (d, e) at h in absurd (omega (arith, z))
     go false v d e h = let z : N.sheet ≡ 0 = rw d at h in absurd (omega (arith, z))
 
@@ -263,4 +263,4 @@ solution_read_back m bits n a h =
     let r = solved m (map f64 bits) n in
     let c = after_lengths_lem (eqb (length a) 256) r.refusal h in
     let k = solved_encodable m (map f64 bits) n (doubles_encodable bits) in
-    rw (c.0, eq-eqb r.refusal 0 c.1) (row_read_back 32 a 0 r.x k.count (rw (eqb-true (length a) 256 c.0) (le_refl 256)) k.places)
+    rw (c.0, eq-eqb r.refusal 0 c.1) (row_written 32 a 0 r.x k.count (rw (eqb-true (length a) 256 c.0) (le_refl 256)) k.places)
