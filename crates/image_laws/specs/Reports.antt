@@ -12,7 +12,7 @@ use Rattle.dfn_images.specs.Images as D
 use Rattle.image_laws.specs.Words.{word_written}
 use Rattle.image_laws.specs.Encodable.{EncodableRow}
 use Rattle.image_laws.specs.Rows.{Writes, same_below, same_float, writes_then, writes_word, writes_places, place_read_back}
-use Rattle.image_layout.specs.Layout.{cell_report, cell_cutoff, cell_sub_steps, dfn_report, dfn_cutoff, dfn_newton, cell_step_bytes, dfn_step_bytes}
+use Rattle.image_layout.specs.Layout.{cell_report, cell_cutoff, cell_sub_steps, dfn_report, dfn_cutoff, dfn_newton, cell_step_bytes}
 
 -- ---- how a report is read
 -- of a single-particle cell
@@ -109,21 +109,6 @@ module _ (s : List ℕ) (r : DfnStep) where
   pub writes_dfn_report : Writes dfn_report (dfn_newton + 1) s (D.put_report s r)
   unfolding D.put_report
   writes_dfn_report = writes_numbers s dfn_report (D.report_numbers r) r.cutoff r.newton_iter
-
-  pub dfn_report_row_read_back : dfn_step_bytes ≤ length s → EncodableRow (D.report_numbers r) → r.newton_iter < 2 ^ 64 → dfn_report_at (D.put_report s r) ≡ r
-  unfolding dfn_report_at D.put_report
-  dfn_report_row_read_back l h m =
-      let x = reported_read_back s dfn_report (D.report_numbers r) r.cutoff r.newton_iter l h in
-      rw (
-        x 0 dfn_report (lit≤ tt) refl,
-        x 1 (dfn_report + 1) (lit≤ tt) refl,
-        x 2 (dfn_report + 2) (lit≤ tt) refl,
-        x 3 (dfn_report + 3) (lit≤ tt) refl,
-        x 4 (dfn_report + 4) (lit≤ tt) refl,
-        x 5 (dfn_report + 5) (lit≤ tt) refl,
-        flag_read_back s dfn_report (D.report_numbers r) r.cutoff r.newton_iter l,
-        count_read_back s dfn_report (D.report_numbers r) r.cutoff r.newton_iter l m,
-      )
 
 -- ---- a run's ending and its count of rows, from word `at` on
 module _ (s : List ℕ) (at ending rows : ℕ) where
