@@ -13,7 +13,7 @@ use Rattle.particle.specs.declared.ParticleDiffusion.{ParticleDiffusion}
 use Rattle.particle.specs.declared.ParticleAnswer.{ParticleAnswer}
 use Rattle.particle.specs.Calls as P
 use Rattle.particle_laws.specs.Demand as PD
-use Rattle.particle_laws.specs.Instance.{start, start_passes, sheet_is, nodes_are, draw, no_flux, no_time, discharge, discharge_taken, discharge_conditions_hold}
+use Rattle.particle_laws.proofs.Instance.{start, start_passes, sheet_is, nodes_are, draw, no_flux, no_time, discharge, discharge_taken, discharge_conditions_hold}
 use Rattle.codec.specs.Words.{word_at, put_word}
 use Rattle.sheet_images.specs.Images.{sheet_at, put_sheet}
 use Rattle.image_builds.specs.Builds.{particle_made, new_return, build_length, built_length}
