@@ -9,8 +9,8 @@ use Rattle.solver.specs.Cell.{cell_refusal}
 use Rattle.solver_laws.specs.Electrodes.{Electrode, nodes_are}
 use Rattle.solver_laws.specs.Demand as SD
 use Rattle.solver_laws.specs.AcceptedLists.{after_append}
-use Rattle.solver_laws.specs.RunLists.{run_is_list}
-use Rattle.solver_laws.specs.ReplayLists.{replay_is_list}
+use Rattle.solver_laws.proofs.RunLists.{run_is_list}
+use Rattle.solver_laws.proofs.ReplayLists.{replay_is_list}
 use Rattle.cell_images.specs.Images.{cell_at}
 use Rattle.image_builds.specs.Builds.{cell_built}
 use Rattle.image_laws.specs.CellRuns.{image_cycle_is_list}
