@@ -4,8 +4,8 @@
 -- Clamped: numbers that a clamp holds.
 -- Tests: the numbers' ranges out of the parameters' tests.
 -- Arrays: the particles and the electrolyte after a step.
--- Closure: `step-passes`, `step-refused`, and `next-step`, what they say of the step after.
--- Build: `build-passes`, `build-refused`.
+-- Closure: `step_refused`, `accepted_step`; in proofs/Closure `step_passes`, and `next_step`, what they say of the step after.
+-- Build: `build_passes`, `build_refused`.
 -- LowRates: `step_kept`, a step whose arguments of H are not below 2 ^ -10 in size is the step with H by the logarithm at every argument.
 pub mod Clamped
 pub mod Tests

@@ -1,4 +1,4 @@
--- The whole numbers as an ordered ring: equations by `zring`, x ≤ y by `zle-by`.
+-- The whole numbers as an ordered ring: equations by `zring`, x ≤ y by `zle_by`.
 use Rattle.std.specs.Prelude.{◌≡◌, refl, List, ℕ, suc, ◌*◌, ◌<◌, ℤ, pos, ◌+ℤ◌, ◌*ℤ◌, neg_ℤ, ◌≤ℤ◌}
 use Rattle.std.proofs.Common.{sym, ◌∙◌, ap, ap₂, subst, zero-lt-suc, arith}
 use Rattle.std.proofs.Math.IntN.{one, +ℤ_assoc, +ℤ_comm, +ℤ_idr, +ℤ_invr, *ℤ_comm, *ℤ-one}

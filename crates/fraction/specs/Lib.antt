@@ -27,7 +27,7 @@
 --     ring (x ∷ y ∷ []) (search quote depth 24) tt
 --   x ≤F y: a certificate, a term shown to be at least 0 that equals (k + 1)·(y − x); here 3·x ≤ y + 2·z of x ≤ y ≤ z, k = 0 (`between`)
 --     le-by (x ∷ y ∷ z ∷ []) 0 (num 3 ⊠ up h ⊞ num 2 ⊠ up k) (search quote depth 24) tt
---   x within b: two certificates, of b − x and of x + b; here ∣−x∣ ≤ b of ∣x∣ ≤ b (`within-neg` of Within; `square-error` has k = 1)
+--   x within b: two certificates, of b − x and of x + b; here ∣−x∣ ≤ b of ∣x∣ ≤ b (`within_neg` of Within; `square_error` has k = 1)
 --     within-by (x ∷ b ∷ []) 0 (lo h) (hi h) (search quote depth 24) tt tt
 --   x ≈F y from equations: y − x is a sum of e·(b − a), one for each h : a ≈F b; here x / y · y = x (`quotient`)
 --     eq-by (x ∷ y ∷ inv y ∷ []) (x · mul-inv p) (search quote depth 24) tt
@@ -39,7 +39,7 @@
 -- tools/cert.py finds certificates: cert.py 'x y z' 'h: le x y' 'k: le y z' 'goal le 3*x y+2*z'
 -- Where a line does not fit, the refusal's last line shows a monomial that is left, `term c (p ∷ q ∷ ..)`: c times the first variable to the p,
 -- the second to the q, and so on. Where `search` finds nothing, a term is missing from the list.
--- A strict x <F y is shown by `lt-from h (λ l. ..)` (Field): were y ≤F x, a known h : z <F w would be undone.
+-- A strict x <F y is shown by `lt_from h (λ l. ..)` (Field): were y ≤F x, a known h : z <F w would be undone.
 pub mod Integer
 pub mod Ring
 pub mod Quote

@@ -9,7 +9,7 @@
 -- A call's refusal is written as the table has it, its rows in the order 1, 10, 2 to 9:
 --     first_refusal (refusal_unless (count_in_range n 3 64) grid)
 --     (first_refusal (refusal_unless (sheet_fits p) sheet) (refusal_unless (temperature_fits t) temperature))
--- and a caller that finds it 0 takes it apart by `neither-refused` and `passed`.
+-- and a caller that finds it 0 takes it apart by `neither_refused` and `passed`.
 pub mod Numbers
 pub mod Ranges
 pub mod RangeLaws

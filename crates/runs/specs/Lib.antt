@@ -3,7 +3,7 @@
 -- Endings: docs/REFERENCE.md's endings, and what the enum says.
 -- Rows: what stands after k turns of a run, and what the slice then holds.
 -- RunAnswers: when the answer of a run is written.
--- Laws: how a turn goes on or ends; a run's loop keeps `Going` and leaves by `ends-refused`, `ends-stopped` or `ends-full`.
+-- Laws: how a turn goes on or ends; a run's loop keeps `Going` and leaves by `ends_refused`, `ends_stopped` or `ends_full`.
 -- RowPlaces: each row stands at its eight places, and the places after the last one are as they were.
 -- Simulation: a run that simulates another gives what the other gives.
 -- Causes: what has ended a run, its rows or the step after them.

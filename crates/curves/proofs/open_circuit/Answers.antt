@@ -5,18 +5,15 @@ use Rattle.curves.proofs.open_circuit.Goals as goal
 
 pub returns-in-1 : goal.returns-in-1
 unfolding chemistry_curve
-returns-in-1 c =
-    rw (c.ocp_graphite.ensures, c.clamp-x.ensures, c.in-1.is)
+returns-in-1 c = rw c.in-1.is cc
 
 pub returns-in-2 : goal.returns-in-2
 unfolding chemistry_curve
-returns-in-2 c =
-    rw (c.ocp_lfp.ensures, c.clamp-x.ensures, c.in-2.is)
+returns-in-2 c = rw c.in-2.is cc
 
 pub returns-in-3 : goal.returns-in-3
 unfolding chemistry_curve
-returns-in-3 c =
-    rw (c.ocp_nmc.ensures, c.clamp-x.ensures, c.in-3.is)
+returns-in-3 c = rw c.in-3.is cc
 
 pub returns-in_default : goal.returns-in_default
 unfolding chemistry_curve

@@ -10,13 +10,11 @@ returns-in-6 c =
 
 pub returns-in-7 : goal.returns-in-7
 unfolding particle_number
-returns-in-7 c =
-    rw c.in-7.is c.theta_surface.ensures
+returns-in-7 c = search rules
 
 pub returns-in-8 : goal.returns-in-8
 unfolding particle_number
-returns-in-8 c =
-    rw c.in-8.is c.theta_avg.ensures
+returns-in-8 c = search rules
 
 pub returns-in-9 : goal.returns-in-9
 unfolding particle_number
