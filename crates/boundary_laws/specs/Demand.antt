@@ -15,6 +15,7 @@ use Rattle.solver.specs.declared.SpmSolver.{SpmSolver}
 use Rattle.solver.specs.Cell.{cell_refusal}
 use Rattle.solver_laws.specs.Electrodes.{Electrode, nodes_are}
 use Rattle.solver_laws.specs.Demand as SD
+<<<<<<< HEAD
 use Rattle.solver_laws.specs.Closure as SC
 use Rattle.solver_laws.specs.Electrodes as L
 use Rattle.particle.specs.Particle.{place_of}
@@ -24,6 +25,10 @@ use Rattle.cell_calls.specs.Steps as CS
 use Rattle.boundary.specs.Calls as B
 use Rattle.image_laws.specs.AnswerLengths.{cell_step_length}
 use Rattle.image_laws.specs.ReadBack.{cell_step_read_back, sub_steps_read_back}
+=======
+use Rattle.solver_laws.specs.Ranking.{Paired, Twins, Ranked}
+use Rattle.solver_laws.proofs.Ranking.{solver_ranking}
+>>>>>>> 5a30c2e2f608be0058c5f82d548c53834a0d3344
 use Rattle.cell_images.specs.Images.{cell_at}
 use Rattle.boundary_laws.specs.CallLists.{CCall, image_after, accepted_calls, well_formed_of, Implements, simulates, reported_is, plain_implements}
 use Rattle.boundary_laws.specs.StepLists.{particle_steps, cell_steps, particle_simulates, reported_sub_steps, cell_after_lem, cell_accepted, sub_steps_value, cell_total}

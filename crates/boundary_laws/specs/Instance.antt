@@ -9,7 +9,14 @@ use Rattle.electrode.specs.Sheet.{graphite_anode, lfp_cathode}
 use Rattle.kinetics.specs.declared.SpmConfig.{SpmConfig}
 use Rattle.solver.specs.Cell as S
 use Rattle.solver_laws.specs.Demand as SD
+<<<<<<< HEAD
 use Rattle.solver_laws.specs.Instance.{config, start, later, start_is, minute, three, four, draw, no_current, too_long}
+=======
+use Rattle.solver_laws.specs.Ranking.{Twins}
+use Rattle.solver_laws.specs.Instance.{config, start, later, start_is, start_passes, later_passes, twins, minute, three, four, draw, no_current, too_long, discharge, stronger, stronger_paired}
+use Rattle.solver_laws.specs.Instance.{discharge_taken, discharge_counted}
+use Rattle.solver_laws.proofs.Instance.{discharge_bounds, stronger_taken, stronger_bounds}
+>>>>>>> 5a30c2e2f608be0058c5f82d548c53834a0d3344
 use Rattle.sheet_images.specs.Images.{config_at, put_config}
 use Rattle.cell_images.specs.Images.{cell_at, put_cell}
 use Rattle.image_builds.specs.Builds.{cell_built, build_length}

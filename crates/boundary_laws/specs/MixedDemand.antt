@@ -6,8 +6,16 @@ use Rattle.discharge_run.specs.Discharge as DR
 use Rattle.solver.specs.declared.SpmSolver.{SpmSolver}
 use Rattle.solver.specs.Cell.{cell_refusal}
 use Rattle.solver_laws.specs.Demand as SD
+<<<<<<< HEAD
 use Rattle.solver_laws.specs.RunLists.{calls_of}
 use Rattle.solver_laws.specs.ReplayCalls as RC
+=======
+use Rattle.solver_laws.specs.AcceptedLists.{after_append}
+use Rattle.solver_laws.specs.RunLists.{calls_of}
+use Rattle.solver_laws.proofs.RunLists.{run_is_list}
+use Rattle.solver_laws.specs.ReplayCalls as RC
+use Rattle.solver_laws.proofs.ReplayLists.{replay_is_list}
+>>>>>>> 5a30c2e2f608be0058c5f82d548c53834a0d3344
 use Rattle.solver_laws.specs.CycleCalls as YC
 use Rattle.cell_images.specs.Images.{cell_at}
 use Rattle.cell_calls.specs.Phases.{phases_at}

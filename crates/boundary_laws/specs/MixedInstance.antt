@@ -8,9 +8,15 @@ use Rattle.runs.specs.Lowest.{room_of}
 use Rattle.solver.specs.declared.SpmSolver.{SpmSolver}
 use Rattle.solver_laws.specs.Demand as SD
 use Rattle.solver_laws.specs.ReplayCalls.{calls_of}
-use Rattle.solver_laws.specs.ReplayLists.{rows_bytes}
+use Rattle.solver_laws.proofs.ReplayLists.{rows_bytes}
 use Rattle.solver_laws.specs.CycleCalls.{made_by}
+<<<<<<< HEAD
 use Rattle.solver_laws.specs.Instance.{minute, three, draw, no_current, too_long, discharge}
+=======
+use Rattle.solver_laws.specs.Instance.{start, start_passes, minute, three, draw, no_current, too_long, discharge}
+use Rattle.solver_laws.specs.Instance.{discharge_counted}
+use Rattle.solver_laws.proofs.Instance.{discharge_bounds}
+>>>>>>> 5a30c2e2f608be0058c5f82d548c53834a0d3344
 use Rattle.discharge_run.specs.declared.RunSettings.{RunSettings}
 use Rattle.discharge_run.specs.Discharge.{discharged}
 use Rattle.cycle_run.specs.Cycle.{cycle_settings}
