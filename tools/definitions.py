@@ -6,8 +6,8 @@
     tools/definitions.py --list     prints each definition with what it was reached from
 
 It starts from the names in the contracts of the library crates' public functions and in the statements of the theorems that docs/CLAIMS.md cites
-(`CRATE/specs/FILE: name`, or `CRATE/proofs/FILE: name` of those that stand there), and follows each definition's own text, down to the records of src and the kit's library.
-Proofs are not followed: whoever believes the checker need not read them.
+(`CRATE/specs/FILE: name`), and follows each definition's own text, down to the records of src and the kit's library. Proofs are not followed: whoever believes
+the checker need not read them.
 """
 import re
 import sys
@@ -78,11 +78,11 @@ class Library:
 
     def find(self, module, name):
         """The declaration that a module's path and a name mean, or None for the kit's."""
-        m = re.fullmatch(r"Rattle\.(\w+)\.(?P<part>specs|proofs)\.(?P<file>.+)", module)
+        m = re.fullmatch(r"Rattle\.(\w+)\.(specs|proofs)\.(.+)", module)
         rust = re.fullmatch(r"(\w+)(?:::\w+)+", module)
-        if rust or (m and m["file"].startswith("declared.")):
+        if rust or (m and m.group(3).startswith("declared.")):
             folder = TOP / "crates" / (rust or m).group(1) / "src"
-            name = name if rust else next(w for w in m["file"].split(".")[1:] if w[0].isupper())
+            name = name if rust else next(w for w in m.group(3).split(".")[1:] if w[0].isupper())
             for path in sorted(folder.rglob("*.rt")):
                 for d in self.source(path).declared:
                     if d.name == name:
@@ -90,7 +90,7 @@ class Library:
             return None
         if not m:
             return None
-        path = TOP / "crates" / m.group(1) / m["part"] / (m["file"].replace(".", "/") + ".antt")
+        path = TOP / "crates" / m.group(1) / m.group(2) / (m.group(3).replace(".", "/") + ".antt")
         if not path.exists():
             return None
         for d in self.source(path).declared:
@@ -123,13 +123,13 @@ def contracts(path):
 
 
 def cited(library, names):
-    """The theorems and definitions that docs/CLAIMS.md names with their file; one named `specs/FILE` is of the crate named last before it."""
+    """The theorems and definitions that docs/CLAIMS.md names with their file, in specs/ or proofs/; one named with no crate is of the crate named last before it."""
     missing = []
     for line in CLAIMS.read_text(encoding="utf-8").splitlines():
         for m in re.finditer(r"(?:(\w+)/)?(?:(?:specs|proofs)/)?\{?([A-Z]\w*): ([^`}]+)", line):
             before = [m.group(1)] if m.group(1) in names else [w for w in re.findall(r"\w+", line[:m.start()]) if w in names][-1:]
-            crate = TOP / "crates" / (before or ["-"])[0]
-            paths = [p for p in (crate / "specs" / f"{m.group(2)}.antt", crate / "proofs" / f"{m.group(2)}.antt") if p.exists()]
+            paths = [TOP / "crates" / (before or ["-"])[0] / part / f"{m.group(2)}.antt" for part in ("specs", "proofs")]
+            paths = [path for path in paths if path.exists()]
             if not paths:
                 continue
             declared = {}
@@ -139,7 +139,7 @@ def cited(library, names):
             for item in m.group(3).split(", "):
                 if item in declared:
                     yield declared[item]
-                elif not any((path.parent / f"{item}.antt").exists() for path in paths) and not any(item in words(d.type) for d in declared.values() if d.kind == "record"):
+                elif not any((path.parent / f"{item}.antt").exists() for path in paths) and not any(re.search(rf"^  pub {re.escape(item)} :", path.read_text(encoding="utf-8"), re.M) for path in paths):
                     missing.append(f"{paths[0].relative_to(TOP)} has no {item}")
     if missing:
         sys.exit("docs/CLAIMS.md: " + "; ".join(missing))
@@ -213,12 +213,12 @@ def in_order(paths, names):
             for i in imports(text):
                 m = re.fullmatch(rf"Rattle\.{of_crate(path)}\.(specs|proofs)\.(.+)", i.path)
                 near = TOP / "crates" / of_crate(path) / m.group(1) / (m.group(2).replace(".", "/") + ".antt") if m else None
-                if near in paths:
+                if near in paths and near != path:
                     put(near)
         out.append(path)
 
     for crate in names:
-        for path in sorted((p for p in paths if of_crate(p) == crate), key=lambda p: (p.suffix == ".antt", "proofs" in p.parts, p)):
+        for path in sorted((p for p in paths if of_crate(p) == crate), key=lambda p: (p.suffix == ".antt", p)):
             put(path)
     return out
 
