@@ -45,8 +45,8 @@ use Rattle.solver_step.specs.Plans.{plan_refusal}
 use Rattle.solver_step.specs.Moves.{finite_on}
 use Rattle.solver_step.specs.Report.{surface_state}
 use Rattle.solver.specs.Step.{input_refusal, current_density, plan_of, advanced, voltage_of, reported, finite_step, stepped}
-use Rattle.solver_laws.specs.Electrodes.{Electrode, particle_at, config_ranges, config_passed, cell_passed, current_fits_lem, temperature_fits_lem, flux_range}
-use Rattle.solver_laws.specs.Closure.{next, electrode_next, accepted_where}
+use Rattle.solver_laws.specs.Electrodes.{Electrode, particle_at, config_ranges, config_passed, cell_passed, current_fits_lem, temperature_fits_lem, fluxes_range}
+use Rattle.solver_laws.specs.Closure.{next, both_pass, accepted_where}
 
 -- ---- the exchange of a particle that passes: from 2 ^ -57 to 2 ^ 23
 -- 0.01 and 0.99
@@ -231,8 +231,8 @@ module _ (s : SpmSolver) (h : (e : Electrode) → particle_refusal (particle_at 
 module _ (s : SpmSolver) (i dt t : Float) (h : input_refusal s i dt t ≡ 0) (g : plan_refusal (plan_of s i dt t) ≡ 0) where
   pub next_electrode : (e : Electrode) → particle_refusal (particle_at e (next s i dt t)) ≡ 0
   unfolding advanced
-  next_electrode Electrode.anode = electrode_next s i dt t h g Electrode.anode
-  next_electrode Electrode.cathode = electrode_next s i dt t h g Electrode.cathode
+  next_electrode Electrode.anode = (both_pass s i dt t h g).0
+  next_electrode Electrode.cathode = (both_pass s i dt t h g).1
 
   pub next_config : T (config_fits (next s i dt t).config)
   unfolding advanced
@@ -247,7 +247,7 @@ module _ (s : SpmSolver) (i dt t : Float) (h : input_refusal s i dt t ≡ 0) (g 
   step_accepted k =
       let p = cell_passed s i dt t h in
       let m = current_fits_lem s i dt t h in
-      let flux = flux_range s p i dt t m in
+      let flux = fluxes_range s p i dt t m in
       accepted_where s i dt t h g
       (all_fine (next s i dt t) next_electrode (plan_of s i dt t) i t
-      (voltage_fine (next s i dt t) next_electrode next_config (plan_of s i dt t) i t (flux Electrode.anode) (flux Electrode.cathode) m (temperature_fits_lem s i dt t h)) (next_clock k))
+      (voltage_fine (next s i dt t) next_electrode next_config (plan_of s i dt t) i t flux.0 flux.1 m (temperature_fits_lem s i dt t h)) (next_clock k))

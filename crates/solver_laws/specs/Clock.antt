@@ -5,7 +5,7 @@ use Rattle.std.proofs.Math.Dec.{eqb-suc-zero}
 use Rattle.std.specs.Float.{binary64, nan, inf, fin}
 use Rattle.std.specs.Float.Ieee.{up, le, lt, add, fits, of_bits}
 use Rattle.std.specs.Float.Ieee.Bits.{is_true}
-use Rattle.std.specs.Float.Ieee.Fits.{and_l, and_r, add-fits}
+use Rattle.std.specs.Float.Ieee.Fits.{and_l, and_r}
 use Rattle.std.specs.Float.Ieee.Scale.{finite}
 use Rattle.binary64.specs.Operators.{◌⊕◌, f64}
 use Rattle.binary64.specs.Order.{between_finite}
@@ -21,9 +21,7 @@ use Rattle.solver_step.specs.Plans.{plan_refusal}
 use Rattle.solver_step.specs.Arguments.{argument_refusal}
 use Rattle.solver.specs.Step.{input_refusal, plan_of, planned, stepped}
 use Rattle.solver_laws.specs.Electrodes.{clock_passed, cell_passed, interval_fits_lem, interval_size}
-use Rattle.solver_laws.specs.Closure.{step_passes, step_clock, step_make}
 use Rattle.solver_laws.specs.Acceptance.{step_accepted}
-use Rattle.solver_laws.specs.Demand.{same_plan}
 
 -- ---- the largest finite number
 -- m below B and m * 2 ^ k below B * 2 ^ p: at most B - 1 times 2 ^ p
@@ -111,11 +109,11 @@ module _ (s : SpmSolver) (i dt t : Float) where
   unfolding stepped first_refusal
   input_refused k h = rw (h, eqb-suc-zero k)
 
-both_zero : (a b : ℕ) → a ≡ 0 → b ≡ 0 → first_refusal a b ≡ 0
+pub both_zero : (a b : ℕ) → a ≡ 0 → b ≡ 0 → first_refusal a b ≡ 0
 unfolding first_refusal
 both_zero a b h k = rw (h, k)
 
-arguments : (s : SpmSolver) (i dt t : Float) → input_refusal s i dt t ≡ 0 → argument_refusal i dt t ≡ 0
+pub arguments : (s : SpmSolver) (i dt t : Float) → input_refusal s i dt t ≡ 0 → argument_refusal i dt t ≡ 0
 unfolding input_refusal
 arguments s i dt t h = (neither_refused (cell_refusal s) (argument_refusal i dt t) h).1
 
@@ -144,17 +142,3 @@ module _ (s : SpmSolver) (i dt t : Float) (f : T (fits binary64 s.time_s)) where
       input : (k : ℕ) → input_refusal s i dt t ≡ k → (stepped s i dt t).refusal ≡ first_refusal (input_refusal s i dt t) (plan_refusal (plan_of s i dt t))
       input zero h = plan (plan_refusal (plan_of s i dt t)) refl h
       input (suc k) h = input_refused s i dt t k h
-
--- ---- the same step once more: the same arguments and the same plan
-again_input : (s r : SpmSolver) (i dt t : Float) → input_refusal s i dt t ≡ 0 → cell_refusal r ≡ 0 → input_refusal r i dt t ≡ 0
-unfolding input_refusal
-again_input s r i dt t h k = both_zero (cell_refusal r) (argument_refusal i dt t) k (arguments s i dt t h)
-
--- A STEP THAT IS ACCEPTED is accepted again by the cell that it leaves: a run that has made a row is not refused
-pub step_again : (s : SpmSolver) (i dt t : Float) → T (fits binary64 s.time_s) → (stepped s i dt t).refusal ≡ 0 → (stepped (stepped s i dt t).solver i dt t).refusal ≡ 0
-step_again s i dt t f h =
-    let r = (stepped s i dt t).solver in
-    let n = neither_refused (input_refusal s i dt t) (plan_refusal (plan_of s i dt t)) (sym (step_number s i dt t f) ∙ h) in
-    let g : T (fits binary64 r.time_s) = rw (step_clock s i dt t h) (add-fits binary64 s.time_s dt) in
-    let p = same_plan s r (record { current = i; dt = dt; temp = t }) (step_make s i dt t) in
-    step_number r i dt t g ∙ both_zero (input_refusal r i dt t) (plan_refusal (plan_of r i dt t)) (again_input s r i dt t n.0 (step_passes s i dt t h)) (ap plan_refusal p ∙ n.1)

@@ -1,6 +1,6 @@
 -- What a step of the cell leads to: an accepted one to a cell that passes the checks again, a refused one to the cell as it was. Assumes nothing.
 use Prim.Native.Nat.{ℕ, zero, suc, ◌≤◌}
-use Rattle.std.specs.Prelude.{◌≡◌, Bool, cond, ◌&&◌, List, [], ◌∷◌, eqb, Float, get_or}
+use Rattle.std.specs.Prelude.{◌^◌, ◌≡◌, Bool, cond, ◌&&◌, List, [], ◌∷◌, eqb, Float, get_or}
 use Rattle.std.proofs.Math.Path.{refl}
 use Rattle.std.proofs.Common.{sym, subst, arith}
 use Rattle.std.proofs.Math.Bool.{true, false}
@@ -38,7 +38,8 @@ use Rattle.solver.specs.Cell.{grid_fits, cell_refusal}
 use Rattle.solver_step.specs.Plans.{plan_refusal, sub_steps_of}
 use Rattle.solver_step.specs.Moves.{profile_after, finite_on}
 use Rattle.solver.specs.Step.{input_refusal, plan_of, advanced, reported, finite_step, refused_step, finished, planned, stepped}
-use Rattle.solver_laws.specs.Electrodes.{Electrode, particle_at, diffusivity_in, flux_in, config_passed, clock_passed, electrode_passes, grid_passed, count_most, cell_passed, interval_size, sub_step_ranged}
+use Rattle.binary64.specs.Range.{Sized}
+use Rattle.solver_laws.specs.Electrodes.{Electrode, particle_at, diffusivity_in, flux_in, config_passed, clock_passed, electrode_passes, grid_passed, count_most, cell_passed, interval_size, current_fits_lem, fluxes_range, sub_step_ranged_by}
 
 -- ---- sub-steps lead from a particle that passes to one that does
 sub_step_passes : (p : ParticleDiffusion) (c : List Float) (d j dt : Float) → Ranged (sub_step_params_of p d j dt) → particle_refusal (with_profile p c) ≡ 0 → particle_refusal (with_profile p (sub_step (sub_step_params_of p d j dt) c)) ≡ 0
@@ -75,13 +76,27 @@ module _ (s : SpmSolver) (i dt t : Float) where
   abbrev pub particle_next : Electrode → ParticleDiffusion
   particle_next e = with_profile (particle_at e s) (profile_after (particle_at e s) (diffusivity_in e plan) (flux_in e plan) dt (sub_steps_of plan))
 
-  pub electrode_next : input_refusal s i dt t ≡ 0 → plan_refusal plan ≡ 0 → (e : Electrode) → particle_refusal (particle_next e) ≡ 0
+  -- an electrode that takes a flux which is in its range passes
+  pub moved_passes : input_refusal s i dt t ≡ 0 → plan_refusal plan ≡ 0 → (e : Electrode) (j : Float) → Sized j (2 ^ 100) 1
+      → particle_refusal (with_profile (particle_at e s) (profile_after (particle_at e s) (diffusivity_in e plan) j dt (sub_steps_of plan))) ≡ 0
   unfolding profile_after times
-  electrode_next h g e = go (sub_steps_of plan) (count_most plan g)
+  moved_passes h g e j m = go (sub_steps_of plan) (count_most plan g)
     where
-      go : (k : ℕ) → k ≤ 4096 → particle_refusal (with_profile (particle_at e s) (times k (sub_step (sub_step_params_of (particle_at e s) (diffusivity_in e plan) (flux_in e plan) (dt ⊘ count k))) (particle_at e s).c_s)) ≡ 0
+      go : (k : ℕ) → k ≤ 4096 → particle_refusal (with_profile (particle_at e s) (times k (sub_step (sub_step_params_of (particle_at e s) (diffusivity_in e plan) j (dt ⊘ count k))) (particle_at e s).c_s)) ≡ 0
       go zero l = electrode_passes s (cell_passed s i dt t h) e
-      go (suc k) l = times_passes (particle_at e s) (diffusivity_in e plan) (flux_in e plan) (dt ⊘ count (suc k)) (sub_step_ranged s i dt t h e k l) (electrode_passes s (cell_passed s i dt t h) e) (suc k)
+      go (suc k) l = times_passes (particle_at e s) (diffusivity_in e plan) j (dt ⊘ count (suc k)) (sub_step_ranged_by s i dt t h e j m k l) (electrode_passes s (cell_passed s i dt t h) e) (suc k)
+
+  -- so both do after the step
+  abbrev pub anode_after : ParticleDiffusion
+  anode_after = with_profile s.anode (profile_after s.anode plan.d_neg plan.j_neg dt (sub_steps_of plan))
+
+  abbrev pub cathode_after : ParticleDiffusion
+  cathode_after = with_profile s.cathode (profile_after s.cathode plan.d_pos plan.j_pos dt (sub_steps_of plan))
+
+  pub both_pass : input_refusal s i dt t ≡ 0 → plan_refusal plan ≡ 0 → (particle_refusal anode_after ≡ 0) × (particle_refusal cathode_after ≡ 0)
+  both_pass h g =
+      let f = fluxes_range s (cell_passed s i dt t h) i dt t (current_fits_lem s i dt t h) in
+      (moved_passes h g Electrode.anode plan.j_neg f.0, moved_passes h g Electrode.cathode plan.j_pos f.1)
 
   -- the clock
   clock_next : input_refusal s i dt t ≡ 0 → T (finite (s.time_s ⊕ dt)) → T (clock_fits (s.time_s ⊕ dt))
@@ -102,9 +117,9 @@ module _ (s : SpmSolver) (i dt t : Float) where
   next_passes h g f =
       let k = cell_passed s i dt t h in
       let c = config_fits s.config in
-      let a = fields_fit_of (particle_next Electrode.anode) in
-      let b = fields_fit_of (particle_next Electrode.cathode) in
-      let m = and_i (c && a && b) (clock_fits (s.time_s ⊕ dt)) (and_i (c && a) b (and_i c a (config_passed s k) (fields_of (particle_next Electrode.anode) (electrode_next h g Electrode.anode))) (fields_of (particle_next Electrode.cathode) (electrode_next h g Electrode.cathode))) (clock_next h (clock_finite f)) in
+      let a = fields_fit_of anode_after in
+      let b = fields_fit_of cathode_after in
+      let m = and_i (c && a && b) (clock_fits (s.time_s ⊕ dt)) (and_i (c && a) b (and_i c a (config_passed s k) (fields_of anode_after (both_pass h g).0)) (fields_of cathode_after (both_pass h g).1)) (clock_next h (clock_finite f)) in
       rw (is_true (grid_fits s) (grid_passed s k), is_true (c && a && b && clock_fits (s.time_s ⊕ dt)) m)
 
   -- what a step answers: a number and the cell as it was, or 0, the sub-steps of its plan and the cell advanced

@@ -34,7 +34,7 @@ use Rattle.solver.specs.Step.{input_refusal, plan_of, advanced, voltage_of, repo
 use Rattle.solver_laws.specs.Electrodes.{Electrode, particle_at, diffusivity_in, count_below, quotient_most, interval_size}
 use Rattle.solver_laws.specs.DtUse.{longest_at, used_by, DtUse, used_by_lem, used_longest, used_greatest, stable_range, longest_above}
 use Rattle.solver_laws.specs.SubStepLength.{limits, quotient_positive, quotient_high}
-use Rattle.solver_laws.specs.Stability.{factor_fits}
+use Rattle.solver_laws.specs.Stability.{used_factor}
 
 abbrev pub earlier_plan : SpmSolver → Float → Float → Float → Plan
 earlier_plan s i dt t =
@@ -74,7 +74,7 @@ module _ (s : SpmSolver) (i dt t : Float) (h : input_refusal s i dt t ≡ 0) (g 
   earlier = used_by «0·45» s i dt t
 
   used_is : DtUse sub_step_factor s i dt t
-  used_is = used_by_lem s i dt t h sub_step_factor factor_fits.range
+  used_is = used_by_lem s i dt t h sub_step_factor used_factor.range
 
   earlier_is : DtUse «0·45» s i dt t
   earlier_is = used_by_lem s i dt t h «0·45» earlier_range
@@ -84,8 +84,8 @@ module _ (s : SpmSolver) (i dt t : Float) (h : input_refusal s i dt t ≡ 0) (g 
       let x = stable_step (particle_at e s).params (particle_at e s).n_nodes (diffusivity_in e (plan_of s i dt t)) in
       let w = stable_range s i dt t h e in
       le_val (longest_at sub_step_factor s i dt t e) (longest_at «0·45» s i dt t e)
-      (positive-finite _ (longest_above s i dt t h sub_step_factor factor_fits.range e)) (positive-finite _ (longest_above s i dt t h «0·45» earlier_range e))
-      (rounds_le (mul_rounds x sub_step_factor w.0.fine factor_fits.range.0.fine) (mul_rounds x «0·45» w.0.fine earlier_range.0.fine)
+      (positive-finite _ (longest_above s i dt t h sub_step_factor used_factor.range e)) (positive-finite _ (longest_above s i dt t h «0·45» earlier_range e))
+      (rounds_le (mul_rounds x sub_step_factor w.0.fine used_factor.range.0.fine) (mul_rounds x «0·45» w.0.fine earlier_range.0.fine)
       (le_by (val x ∷ val sub_step_factor ∷ val «0·45» ∷ []) 0 (le_of_lt (size_pos (within_scaled w 86 92 tt tt).size) ⊠ up smaller) (search quote depth 24) tt))
 
   used_grows : val used ≤F val earlier

@@ -14,9 +14,7 @@ use Rattle.binary64.specs.Range.{Within, Most, Sized, sized, most_wider, neg_mos
 use Rattle.binary64.specs.RangeTests.{literal, tested_sized}
 use Rattle.binary64.specs.RangeOps.{mul_between, div_between, div_most, div_count}
 use Rattle.binary64.specs.Bounds.{within_scaled}
-use Rattle.binary64.specs.Order.{neg_le}
-use Rattle.binary64.specs.OrderLaws.{div_le}
-use Rattle.binary64.specs.Value.{val, val_is, ratio_nn, le_val, lt_val}
+use Rattle.binary64.specs.Value.{val, val_is, ratio_nn, lt_val}
 use Rattle.binary64.specs.Literals.{«0·0», «1·0», «3·0», «4096·0», «86400·0», «1e6»}
 use Rattle.min_max.specs.Count.{ceil_of}
 use Rattle.min_max.proofs.CountLaws.{ceil_least}
@@ -98,7 +96,7 @@ module _ (s : SpmSolver) (h : cell_refusal s ≡ 0) where
       let n = s.config.n_nodes in
       eqb→eq _ _ (and_r (leb 3 n && leb n 64 && eqb s.anode.n_nodes n) (eqb s.cathode.n_nodes n) grid_passed)
 
-  sheet_at_lem : (e : Electrode) → T (sheet_fits (particle_at e s).params)
+  pub sheet_at_lem : (e : Electrode) → T (sheet_fits (particle_at e s).params)
   sheet_at_lem e = sheet_passed (particle_at e s) (electrode_passes e)
 
 -- ---- the config's numbers
@@ -146,30 +144,10 @@ module _ (s : SpmSolver) (h : cell_refusal s ≡ 0) where
   unfolding current_density
   density_range i m = sized (div_most m area_range (2 ^ 40) 1 tt tt tt)
 
-  pub flux_range : (i dt t : Float) → Sized i (2 ^ 20) 1 → (e : Electrode) → Sized (flux_in e (plan_of s i dt t)) (2 ^ 100) 1
+  -- the two fluxes of a plan
+  pub fluxes_range : (i dt t : Float) → Sized i (2 ^ 20) 1 → Sized (plan_of s i dt t).j_neg (2 ^ 100) 1 × Sized (plan_of s i dt t).j_pos (2 ^ 100) 1
   unfolding plan_of
-  flux_range i dt t m Electrode.anode = sized (div_most (neg_most (density_range i m)) (surface_range s.anode.params s.config (sheet_at_lem s h Electrode.anode) (config_passed s h)) (2 ^ 100) 1 tt tt tt)
-  flux_range i dt t m Electrode.cathode = sized (div_most (density_range i m) (surface_range s.cathode.params s.config (sheet_at_lem s h Electrode.cathode) (config_passed s h)) (2 ^ 100) 1 tt tt tt)
-
-  -- a greater current: a greater flux into the cathode, a lesser one into the anode
-  module _ (i i' dt dt' t t' : Float) (m : Sized i (2 ^ 20) 1) (m' : Sized i' (2 ^ 20) 1) (l : T (le i i')) where
-    density_le : T (le (current_density s i) (current_density s i'))
-    unfolding current_density
-    density_le = div_le i i' s.anode.params.area m.fine m'.fine l area_above
-
-    pub cathode_flux : val (flux_in Electrode.cathode (plan_of s i dt t)) ≤F val (flux_in Electrode.cathode (plan_of s i' dt' t'))
-    unfolding plan_of
-    cathode_flux =
-        le_val (flux_in Electrode.cathode (plan_of s i dt t)) (flux_in Electrode.cathode (plan_of s i' dt' t')) (flux_range i dt t m Electrode.cathode).fine (flux_range i' dt' t' m' Electrode.cathode).fine
-        (div_le (current_density s i) (current_density s i') (surface_current s.cathode.params s.config.faraday) (density_range i m).fine (density_range i' m').fine density_le
-        (surface_above s.cathode.params s.config (sheet_at_lem s h Electrode.cathode) (config_passed s h)))
-
-    pub anode_flux : val (flux_in Electrode.anode (plan_of s i' dt' t')) ≤F val (flux_in Electrode.anode (plan_of s i dt t))
-    unfolding plan_of
-    anode_flux =
-        le_val (flux_in Electrode.anode (plan_of s i' dt' t')) (flux_in Electrode.anode (plan_of s i dt t)) (flux_range i' dt' t' m' Electrode.anode).fine (flux_range i dt t m Electrode.anode).fine
-        (div_le (neg (current_density s i')) (neg (current_density s i)) (surface_current s.anode.params s.config.faraday) (neg_most (density_range i' m')).fine (neg_most (density_range i m)).fine
-        (neg_le (current_density s i) (current_density s i') density_le) (surface_above s.anode.params s.config (sheet_at_lem s h Electrode.anode) (config_passed s h)))
+  fluxes_range i dt t m = (sized (div_most (neg_most (density_range i m)) (surface_range s.anode.params s.config (sheet_at_lem s h Electrode.anode) (config_passed s h)) (2 ^ 100) 1 tt tt tt), sized (div_most (density_range i m) (surface_range s.cathode.params s.config (sheet_at_lem s h Electrode.cathode) (config_passed s h)) (2 ^ 100) 1 tt tt tt))
 
 -- ---- what a step that nothing refuses before it is made works with
 pub current_range : (i : Float) → T (load_fits_of i «1e6») → Sized i (2 ^ 20) 1
@@ -247,6 +225,6 @@ module _ (s : SpmSolver) (i dt t : Float) (h : input_refusal s i dt t ≡ 0) whe
   diffusivity_in_lem Electrode.anode = diffusivity_range s.anode.params t (sheet_at_lem s cell_passed Electrode.anode) temperature_fits_lem
   diffusivity_in_lem Electrode.cathode = diffusivity_range s.cathode.params t (sheet_at_lem s cell_passed Electrode.cathode) temperature_fits_lem
 
-  -- EACH SUB-STEP AT EACH ELECTRODE is in its ranges
-  pub sub_step_ranged : (e : Electrode) (k : ℕ) → suc k ≤ 4096 → Ranged (sub_step_params_of (particle_at e s) (diffusivity_in e (plan_of s i dt t)) (flux_in e (plan_of s i dt t)) (dt ⊘ count (suc k)))
-  sub_step_ranged e k l = let m = part_range k l in particle_ranged (particle_at e s) (electrode_passes s cell_passed e) (diffusivity_in_lem e) (flux_range s cell_passed i dt t current_fits_lem e) (sized m) (most_above m)
+  -- each sub-step at each electrode is in its ranges, with a flux that is in its own
+  pub sub_step_ranged_by : (e : Electrode) (j : Float) → Sized j (2 ^ 100) 1 → (k : ℕ) → suc k ≤ 4096 → Ranged (sub_step_params_of (particle_at e s) (diffusivity_in e (plan_of s i dt t)) j (dt ⊘ count (suc k)))
+  sub_step_ranged_by e j n k l = let m = part_range k l in particle_ranged (particle_at e s) (electrode_passes s cell_passed e) (diffusivity_in_lem e) n (sized m) (most_above m)

@@ -69,17 +69,9 @@ pub mod AcceptedLists
 pub mod ListedDemand
 pub mod RunLists
 pub mod ReplayCalls
-pub mod ReplayTurns
-pub mod ReplayLists
 pub mod ReplayDemand
 pub mod CycleCalls
-pub mod CycleTurns
 pub mod CycleLists
-pub mod CyclePhases
 pub mod CycleDemand
-pub mod RunEnds
-pub mod CycleEnds
 pub mod Instance
 pub mod EarlierOvershoot
-pub mod ReplayInstance
-pub mod CycleInstance

@@ -21,7 +21,7 @@ use Rattle.solver.specs.declared.SpmSolver.{SpmSolver}
 use Rattle.solver.specs.declared.SpmStepAnswer.{SpmStepAnswer}
 use Rattle.solver_step.specs.Plans.{plan_refusal}
 use Rattle.solver.specs.Step.{input_refusal, current_density, plan_of, advanced, voltage_of, reported, stepped}
-use Rattle.solver_laws.specs.Electrodes.{Electrode, electrode_passes, config_passed, config_ranges, area_above, density_range, cell_passed, current_fits_lem, temperature_fits_lem, flux_range}
+use Rattle.solver_laws.specs.Electrodes.{electrode_passes, config_passed, config_ranges, area_above, density_range, cell_passed, current_fits_lem, temperature_fits_lem, fluxes_range}
 use Rattle.solver_laws.specs.Closure.{next, Leads, leads}
 use Rattle.solver_laws.specs.Acceptance.{electrode_voltage, ohmic_drop, voltage_is, electrodes_sized, drop_sized, next_electrode, next_config}
 
@@ -88,10 +88,10 @@ module _ (s : SpmSolver) (i dt t : Float) where
       let h = m.0 in
       let k = cell_passed s i dt t h in
       let c = current_fits_lem s i dt t h in
-      let flux = flux_range s k i dt t c in
+      let flux = fluxes_range s k i dt t c in
       record {
         voltage = m.2 ∙ voltage_is (next s i dt t) (plan_of s i dt t) i t;
-        electrodes = (electrodes_sized (next s i dt t) (next_electrode s i dt t h m.1) (next_config s i dt t h m.1) (plan_of s i dt t) t (flux Electrode.anode) (flux Electrode.cathode) (temperature_fits_lem s i dt t h)).fine;
+        electrodes = (electrodes_sized (next s i dt t) (next_electrode s i dt t h m.1) (next_config s i dt t h m.1) (plan_of s i dt t) t flux.0 flux.1 (temperature_fits_lem s i dt t h)).fine;
         drop = (drop_sized s (electrode_passes s k) (config_passed s k) i c).fine;
         density = (density_range s k i c).fine;
         resistance = (config_ranges s.config (config_passed s k)).resistance.fine;

@@ -37,6 +37,11 @@ pub record FactorFits (f : Float) : Type 0 where
   pub range : Within f 1 1 1 4
   most : share f ≤F nat 1
 
+-- the same, for what the laws below cite
+pub used_factor : FactorFits sub_step_factor
+unfolding of_bits val whole u ◌*F◌ ◌+F◌
+used_factor = record { range = literal _ 1 1 1 4 tt tt tt tt tt; most = lit≤F tt }
+
 pub factor_fits : FactorFits sub_step_factor
 unfolding of_bits val whole u ◌*F◌ ◌+F◌
 factor_fits = record { range = literal _ 1 1 1 4 tt tt tt tt tt; most = lit≤F tt }
@@ -134,8 +139,8 @@ module _ (s : SpmSolver) (i dt t : Float) (h : input_refusal s i dt t ≡ 0) (g 
   by_used : (e : Electrode) → nat 6 *F val (diffusivity_in e plan) *F val (dt ⊘ count (ceil_of (dt ⊘ used))) ≤F share sub_step_factor *F (val (spacing_at e) *F val (spacing_at e))
   unfolding stable_step
   by_used e =
-      let d = used_by_lem s i dt t h sub_step_factor factor_fits.range in
-      part_stable sub_step_factor factor_fits (spacing_at e) (diffusivity_in e plan) (spaced s i dt t h e) (diffusivity_in_lem s i dt t h e)
+      let d = used_by_lem s i dt t h sub_step_factor used_factor.range in
+      part_stable sub_step_factor used_factor (spacing_at e) (diffusivity_in e plan) (spaced s i dt t h e) (diffusivity_in_lem s i dt t h e)
       dt used (interval_size s i dt t h).0.fine d.above d.short few (used_longest d e)
 
   -- ---- EACH SUB-STEP AT EACH ELECTRODE, h its spacing, D its diffusivity
@@ -155,4 +160,4 @@ module _ (s : SpmSolver) (i dt t : Float) (h : input_refusal s i dt t ≡ 0) (g 
 
     -- 6·D·t ≤ h²
     pub sub_step_stable : six_dt ≤F square
-    sub_step_stable = le_by (six_dt ∷ val (spacing_at e) ∷ val sub_step_factor ∷ u ∷ []) 0 (up by_share ⊞ up factor_fits.most ⊠ sq (val (spacing_at e))) (search quote depth 24) tt
+    sub_step_stable = le_by (six_dt ∷ val (spacing_at e) ∷ val sub_step_factor ∷ u ∷ []) 0 (up by_share ⊞ up used_factor.most ⊠ sq (val (spacing_at e))) (search quote depth 24) tt

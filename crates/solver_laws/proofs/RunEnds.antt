@@ -14,7 +14,7 @@ use Rattle.discharge_run.specs.declared.RunSettings.{RunSettings}
 use Rattle.discharge_run.specs.declared.RunState.{RunState}
 use Rattle.discharge_run.specs.Discharge.{over_of, last_row_of, time_over, over_after, started, followed, turned, finished_run, all_turns, run_refusal, refused_run, discharged}
 use Rattle.solver_laws.specs.Closure.{step_refused, step_clock}
-use Rattle.solver_laws.specs.Clock.{step_again}
+use Rattle.solver_laws.proofs.Clock.{step_again}
 use Rattle.solver_laws.specs.Demand.{answer}
 use Rattle.solver_laws.specs.RunLists.{call_of}
 

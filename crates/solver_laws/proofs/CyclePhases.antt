@@ -18,7 +18,7 @@ use Rattle.cycle_run.specs.Phases.{phase_over, phases_from, repeated, written_ou
 use Rattle.cycle_run.specs.Cycle.{progress_after, none_left_of, cycled}
 use Rattle.solver_laws.specs.AcceptedLists.{each_append}
 use Rattle.solver_laws.specs.CycleCalls.{call_of, OfPhase, Made, made_next, made_by, calls_of, phases_left}
-use Rattle.solver_laws.specs.CycleLists.{cycle_done_only}
+use Rattle.solver_laws.proofs.CycleLists.{cycle_done_only}
 
 module _ (l : List Phase) (g : CycleSettings) (s : SpmSolver) where
   -- ---- what each phase and each call is

@@ -24,10 +24,12 @@ use Rattle.cycle_run.specs.Cycle.{cycle_settings, counts_refusal, cycle_refusal,
 use Rattle.solver_laws.specs.Electrodes.{Electrode, particle_at, nodes_are, grid_passed, current_range}
 use Rattle.solver_laws.specs.Demand.{cell_after, K, exact_place}
 use Rattle.solver_laws.specs.CycleCalls.{calls_of, made_by, cycle_step}
-use Rattle.solver_laws.specs.CycleLists.{cycle_refused, cycle_refused_step}
-use Rattle.solver_laws.specs.CycleEnds.{cycle_refused_first}
-use Rattle.solver_laws.specs.CycleDemand.{PhaseFluxBounds, cycle_near}
-use Rattle.solver_laws.specs.Instance.{start, start_passes, start_made, room, room_fits, three, four, one_split, draw_accepted, draw_bound, currents_fit, small}
+use Rattle.solver_laws.proofs.CycleLists.{cycle_refused, cycle_refused_step}
+use Rattle.solver_laws.proofs.CycleEnds.{cycle_refused_first}
+use Rattle.solver_laws.specs.CycleDemand.{PhaseFluxBounds}
+use Rattle.solver_laws.proofs.CycleDemand.{cycle_near}
+use Rattle.solver_laws.specs.Instance.{start, start_passes, start_made, room, room_fits, three, four, one_split, draw_accepted, currents_fit, small}
+use Rattle.solver_laws.proofs.Instance.{draw_bound}
 
 -- two phases; the other six places are not looked at
 abbrev pub phases : List Phase

@@ -19,9 +19,11 @@ use Rattle.replay_run.specs.Replay.{replay_refusal, replayed}
 use Rattle.solver_laws.specs.Electrodes.{Electrode, particle_at, nodes_are, grid_passed, current_range}
 use Rattle.solver_laws.specs.Demand.{Call, cell_after, K, numbers_at, exact_place}
 use Rattle.solver_laws.specs.ReplayCalls.{call_at, calls_of, cutoff_after, line_refusal, ended_after}
-use Rattle.solver_laws.specs.ReplayLists.{replay_line, replay_ends, replay_refused}
-use Rattle.solver_laws.specs.ReplayDemand.{LineFluxBounds, replay_near}
-use Rattle.solver_laws.specs.Instance.{start, start_passes, start_made, room, room_fits, minute, three, draw, minute_split, draw_accepted, draw_bound, currents_fit, small, clocks}
+use Rattle.solver_laws.proofs.ReplayLists.{replay_line, replay_ends, replay_refused}
+use Rattle.solver_laws.specs.ReplayDemand.{LineFluxBounds}
+use Rattle.solver_laws.proofs.ReplayDemand.{replay_near}
+use Rattle.solver_laws.specs.Instance.{start, start_passes, start_made, room, room_fits, minute, three, draw, minute_split, draw_accepted, currents_fit, small, clocks}
+use Rattle.solver_laws.proofs.Instance.{draw_bound}
 
 -- ---- the text
 abbrev zeros : ℕ → List ℕ

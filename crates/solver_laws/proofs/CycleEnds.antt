@@ -36,8 +36,9 @@ use Rattle.solver_laws.specs.Demand.{Call, answer, cell_after, plan_for, Inv, it
 use Rattle.solver_laws.specs.Clock.{step_number}
 use Rattle.solver_laws.specs.AcceptedLists.{AllAccepted}
 use Rattle.solver_laws.specs.CycleCalls.{call_of, OfPhase, made_by, calls_of, phases_left, cycle_step}
-use Rattle.solver_laws.specs.CycleLists.{cycled_listed, cycle_taken, cycle_rowed, cycle_passes, cycle_refused, cycle_refused_step}
-use Rattle.solver_laws.specs.CyclePhases.{IsPhase, cycle_phases}
+use Rattle.solver_laws.specs.CycleLists.{cycle_passes}
+use Rattle.solver_laws.proofs.CycleLists.{cycled_listed, cycle_taken, cycle_rowed, cycle_refused, cycle_refused_step}
+use Rattle.solver_laws.proofs.CyclePhases.{IsPhase, cycle_phases}
 
 -- ---- the current that a tested phase applies is one that a step takes
 current_sized : (i : Float) → T (current_fits i) → Sized i (num «1e6») (den «1e6»)

@@ -21,7 +21,8 @@ use Rattle.replay_run.specs.Replay.{started, turned, over_of, last_row_of, finis
 use Rattle.solver_laws.specs.Demand.{cell_after, taken}
 use Rattle.solver_laws.specs.AcceptedLists.{all_taken, Listed, listed_none}
 use Rattle.solver_laws.specs.ReplayCalls.{calls_of, line_step, line_refusal, cutoff_after, first_ending, ended_after, TakenLine}
-use Rattle.solver_laws.specs.ReplayTurns.{after_standing, counts, row_by, line_taken, ended_is, refused_number}
+use Rattle.solver_laws.proofs.ReplayTurns.{row_by, line_taken, ended_is, refused_number}
+use Rattle.solver_laws.proofs.ReplayTurns.{after_standing, counts}
 
 module _ (text : List ℕ) (temp : Float) (s : SpmSolver) where
   pub replayed_listed : (places : ℕ) → Listed s (replayed text temp s places).solver (calls_of text temp (replayed text temp s places).rows)

@@ -1,0 +1,20 @@
+-- The theorems that rest on definitions which an edit of must-fail/ changes, and what follows from them: by the modules of specs/.
+pub mod Electrodes
+pub mod Closure
+pub mod Demand
+pub mod Clock
+pub mod Ranking
+pub mod ListedDemand
+pub mod RunLists
+pub mod ReplayTurns
+pub mod ReplayLists
+pub mod ReplayDemand
+pub mod CycleTurns
+pub mod CycleLists
+pub mod CyclePhases
+pub mod CycleDemand
+pub mod RunEnds
+pub mod CycleEnds
+pub mod Instance
+pub mod ReplayInstance
+pub mod CycleInstance
