@@ -14,8 +14,7 @@ use Rattle.particle_laws.specs.Demand as PD
 use Rattle.solver.specs.Cell.{cell_refusal}
 use Rattle.solver_laws.specs.Electrodes.{Electrode, nodes_are}
 use Rattle.solver_laws.specs.Demand as SD
-use Rattle.solver_laws.specs.Ranking.{Paired, Twins, Ranked}
-use Rattle.solver_laws.proofs.Ranking.{solver_ranking}
+use Rattle.solver_laws.specs.Ranking.{Paired, Twins, Ranked, solver_ranking}
 use Rattle.cell_images.specs.Images.{cell_at}
 use Rattle.boundary_laws.specs.CallLists.{CCall, image_after, accepted_calls, well_formed_of}
 use Rattle.boundary_laws.specs.StepLists.{particle_steps, cell_steps, particle_simulates, reported_sub_steps, cell_simulates}

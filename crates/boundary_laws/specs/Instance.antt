@@ -14,9 +14,7 @@ use Rattle.solver.specs.Cell as S
 use Rattle.solver_laws.specs.Electrodes.{Electrode}
 use Rattle.solver_laws.specs.Demand as SD
 use Rattle.solver_laws.specs.Ranking.{Twins}
-use Rattle.solver_laws.specs.Instance.{config, start, later, start_is, start_passes, later_passes, twins, minute, three, four, draw, no_current, too_long, discharge, stronger, stronger_paired}
-use Rattle.solver_laws.specs.Instance.{discharge_taken, discharge_counted}
-use Rattle.solver_laws.proofs.Instance.{discharge_bounds, stronger_taken, stronger_bounds}
+use Rattle.solver_laws.specs.Instance.{config, start, later, start_is, start_passes, later_passes, twins, minute, three, four, draw, no_current, too_long, discharge, stronger, discharge_taken, discharge_counted, discharge_bounds, stronger_taken, stronger_bounds, stronger_paired}
 use Rattle.sheet_images.specs.Images.{config_at, put_config}
 use Rattle.cell_images.specs.Images.{cell_at, put_cell}
 use Rattle.image_builds.specs.Builds.{cell_built, build_length}

@@ -9,10 +9,9 @@ use Rattle.solver.specs.Cell.{cell_refusal}
 use Rattle.solver_laws.specs.Electrodes.{Electrode, nodes_are}
 use Rattle.solver_laws.specs.Demand as SD
 use Rattle.solver_laws.specs.AcceptedLists.{after_append}
-use Rattle.solver_laws.specs.RunLists.{calls_of}
-use Rattle.solver_laws.proofs.RunLists.{run_is_list}
+use Rattle.solver_laws.specs.RunLists.{calls_of, run_is_list}
 use Rattle.solver_laws.specs.ReplayCalls as RC
-use Rattle.solver_laws.proofs.ReplayLists.{replay_is_list}
+use Rattle.solver_laws.specs.ReplayLists.{replay_is_list}
 use Rattle.solver_laws.specs.CycleCalls as YC
 use Rattle.cell_images.specs.Images.{cell_at}
 use Rattle.cell_calls.specs.Phases.{phases_at}

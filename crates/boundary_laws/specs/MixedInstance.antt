@@ -10,11 +10,9 @@ use Rattle.solver.specs.declared.SpmSolver.{SpmSolver}
 use Rattle.solver_laws.specs.Electrodes.{Electrode}
 use Rattle.solver_laws.specs.Demand as SD
 use Rattle.solver_laws.specs.ReplayCalls.{calls_of}
-use Rattle.solver_laws.proofs.ReplayLists.{rows_bytes}
+use Rattle.solver_laws.specs.ReplayLists.{rows_bytes}
 use Rattle.solver_laws.specs.CycleCalls.{made_by}
-use Rattle.solver_laws.specs.Instance.{start, start_passes, minute, three, draw, no_current, too_long, discharge}
-use Rattle.solver_laws.specs.Instance.{discharge_counted}
-use Rattle.solver_laws.proofs.Instance.{discharge_bounds}
+use Rattle.solver_laws.specs.Instance.{start, start_passes, minute, three, draw, no_current, too_long, discharge, discharge_counted, discharge_bounds}
 use Rattle.discharge_run.specs.declared.RunSettings.{RunSettings}
 use Rattle.discharge_run.specs.Discharge.{discharged}
 use Rattle.cycle_run.specs.Cycle.{cycle_settings}
