@@ -16,7 +16,7 @@
  *
  * RANGES are closed, and no NaN and no infinity lies in one. A whole record is checked by every call.
  *
- * PLATFORM. The archive is for x86-64 (System V calling convention) and holds about 118 kB of code and tables. It leaves memcpy
+ * PLATFORM. The archive is for x86-64 (System V calling convention) and holds about 115 kB of code and tables. It leaves memcpy
  * and memset undefined, which the C library or the firmware has to supply, and needs nothing else: no heap, no file, no clock, no
  * C library beyond these two, no thread. Calls keep no state, so that they may run on several threads at once, each on memory of its own.
  *

@@ -8,9 +8,8 @@ use Rattle.image_builds.specs.Builds.{build_length, built_length, new_return, pa
 use Rattle.image_laws.specs.Accepted.{after_lengths_lem}
 use Rattle.image_laws.specs.CellImages.{particle_in}
 use Rattle.boundary.specs.Calls as B
-use Rattle.image_laws.specs.CellBuilds.{cell_build_return, cell_return_lem}
-use Rattle.image_laws.specs.AnswerLengths.{particle_build_length, cell_build_length, electrolyte_build_length, dfn_build_length}
-use Rattle.image_laws.specs.ReadBack.{particle_build_read_back, cell_build_read_back, electrolyte_build_read_back, dfn_build_read_back}
+use Rattle.image_laws.specs.AnswerLengths.{particle_build_length, electrolyte_build_length, dfn_build_length}
+use Rattle.image_laws.specs.ReadBack.{particle_build_read_back, electrolyte_build_read_back, dfn_build_read_back}
 use Rattle.boundary_laws.specs.CallLists.{Calls, Implements, plain_implements}
 use Rattle.boundary_laws.specs.StepLists.{whole}
 use Rattle.image_layout.specs.Layout.{particle_bytes, electrolyte_bytes, cell_bytes, dfn_bytes, new_particle_bytes, regions_bytes, new_dfn_bytes}
@@ -73,10 +72,10 @@ dfn_builds = record {
 
 -- ---- each build implements its definition
 module _ {C : Type 0} (n : ℕ) (new old : C) where
-  built : n ≡ 0 → replaced n new old ≡ new
+  pub built : n ≡ 0 → replaced n new old ≡ new
   built h = rw (eq-eqb n 0 h)
 
-  unbuilt : (n ≡ 0 → ⊥) → replaced n new old ≡ old
+  pub unbuilt : (n ≡ 0 → ⊥) → replaced n new old ≡ old
   unbuilt h = rw (ne_eqb n 0 h)
 
 particle_build_returned : (s : List ℕ) (q : Build) (a : List ℕ) → particle_builds.returned s q a ≡ B.after_lengths (particle_builds.formed q a) (particle_made q.image).refusal
@@ -94,23 +93,6 @@ particle_builds_implement =
           ∙ sym (built _ _ (particle_in s) (after_lengths_lem _ _ (sym (particle_build_returned s q a) ∙ h)).1);
       accepted_fills = λ s q a h. let l = particle_build_length q.image a h in ap length (whole particle_bytes (particle_builds.left s q a) l) ∙ l;
       refused_keeps = λ p q n. unbuilt _ _ p n;
-    })
-
-cell_build_returned : (s : List ℕ) (q : CellBuild) (a : List ℕ) → cell_builds.returned s q a ≡ B.after_lengths (cell_builds.formed q a) (cell_built q.call q.image).refusal
-cell_build_returned s q a =
-    cell_build_return q.call q.image a q.least q.most ∙ ap (B.after_lengths (cell_builds.formed q a)) (cell_return_lem q.call q.image a q.least q.most)
-
-pub cell_builds_implement : Implements cell_builds
-cell_builds_implement =
-    plain_implements cell_builds
-    (record {
-      returned_is = λ s q a l. cell_build_returned s q a;
-      handed_is = λ s q a. refl;
-      accepted_reads = λ s q a h.
-          ap cell_at (whole cell_bytes (cell_builds.left s q a) (cell_build_length q.call q.image a q.least q.most h)) ∙ cell_build_read_back q.call q.image a q.least q.most h
-          ∙ sym (built _ _ (cell_at s) (after_lengths_lem _ _ (sym (cell_build_returned s q a) ∙ h)).1);
-      accepted_fills = λ s q a h. let l = cell_build_length q.call q.image a q.least q.most h in ap length (whole cell_bytes (cell_builds.left s q a) l) ∙ l;
-      refused_keeps = λ c q n. unbuilt _ _ c n;
     })
 
 electrolyte_build_returned : (s : List ℕ) (q : Build) (a : List ℕ) → electrolyte_builds.returned s q a ≡ B.after_lengths (electrolyte_builds.formed q a) (electrolyte_built q.image).refusal

@@ -1,18 +1,16 @@
 -- A worked instance of theorem 2 of a list that mixes builds, steps, runs, replays and cycles, every premise met: from an image of zeros, a build with an answer a byte short, a build of
 -- graphite_lfp, the steps of `Instance`, and among them a run without room for a row, a replay of a text without a line and a cycle of phases without a kind. Assumes nothing.
-use Rattle.std.specs.Prelude.{ℕ, ◌<◌, ◌-◌, ◌≡◌, refl, List, [], ◌∷◌}
-use Rattle.std.proofs.Common.{ap, ◌∙◌, inl, inr, arith, lit≤}
-use Rattle.fraction.specs.Fraction.{nat, pow2, ◌-F◌, ◌*F◌, ◌/F◌, ◌within◌}
+use Rattle.std.specs.Prelude.{◌-◌, ◌≡◌, refl, List, [], ◌∷◌}
+use Rattle.std.proofs.Common.{inl, inr, arith, lit≤}
 use Rattle.elementary.specs.Exp.{one}
 use Rattle.iterate.specs.Iterate.{all_below}
 use Rattle.runs.specs.Lowest.{room_of}
 use Rattle.solver.specs.declared.SpmSolver.{SpmSolver}
-use Rattle.solver_laws.specs.Electrodes.{Electrode}
 use Rattle.solver_laws.specs.Demand as SD
 use Rattle.solver_laws.specs.ReplayCalls.{calls_of}
 use Rattle.solver_laws.specs.ReplayLists.{rows_bytes}
 use Rattle.solver_laws.specs.CycleCalls.{made_by}
-use Rattle.solver_laws.specs.Instance.{start, start_passes, minute, three, draw, no_current, too_long, discharge, discharge_counted, discharge_bounds}
+use Rattle.solver_laws.specs.Instance.{minute, three, draw, no_current, too_long, discharge}
 use Rattle.discharge_run.specs.declared.RunSettings.{RunSettings}
 use Rattle.discharge_run.specs.Discharge.{discharged}
 use Rattle.cycle_run.specs.Cycle.{cycle_settings}
@@ -20,18 +18,15 @@ use Rattle.codec.specs.Words.{bytes_at, word_at}
 use Rattle.cell_calls.specs.Phases.{kinds_fit}
 use Rattle.cell_calls.specs.Runs.{cycled_from}
 use Rattle.image_laws.specs.CellRuns.{rows_most}
-use Rattle.cell_images.specs.Images.{cell_at}
-use Rattle.image_builds.specs.Builds.{cell_built, build_length}
-use Rattle.boundary_laws.specs.CallLists.{CCall, image_after, well_formed_of}
-use Rattle.boundary_laws.specs.StepLists.{current}
+use Rattle.image_builds.specs.Builds.{cell_built}
+use Rattle.boundary_laws.specs.CallLists.{CCall}
 use Rattle.boundary_laws.specs.BuildLists.{CellBuild}
 use Rattle.boundary_laws.specs.RunLists.{CellRun}
 use Rattle.boundary_laws.specs.ReplayLists.{CellReplay, replay}
 use Rattle.boundary_laws.specs.CycleLists.{CellCycle}
-use Rattle.boundary_laws.specs.MixedLists.{CellCall, cell_calls}
-use Rattle.boundary_laws.specs.Nodes.{node_at, most_at}
-use Rattle.boundary_laws.specs.MixedDemand.{turns_of, lines_of, phases_of, since_build, since_build_in, mixed_images_near}
-use Rattle.boundary_laws.specs.Instance.{zeros, zeros_length, config_image, image, config_length, build_accepted, build_is}
+use Rattle.boundary_laws.specs.MixedLists.{CellCall}
+use Rattle.boundary_laws.specs.MixedDemand.{turns_of, lines_of, phases_of, since_build}
+use Rattle.boundary_laws.specs.Instance.{zeros, config_image, build_accepted}
 use Rattle.image_layout.specs.Layout.{cell_bytes, cell_run_bytes, cell_step_bytes, phases_bytes}
 
 -- ---- the calls
@@ -59,15 +54,10 @@ mixed_calls =
     ∷ record { call = inr (inr (inl no_room)); answer = zeros cell_run_bytes } ∷ step too_long ∷ record { call = inr (inr (inr (inl no_lines))); answer = zeros cell_run_bytes }
     ∷ record { call = inr (inr (inr (inr no_kinds))); answer = zeros cell_run_bytes } ∷ step (draw three one) ∷ step no_current ∷ []
 
-abbrev mixed_formed : List CellCall
+abbrev pub mixed_formed : List CellCall
 mixed_formed =
     inl graphite_lfp ∷ inr (inl no_current) ∷ inr (inl (draw three minute)) ∷ inr (inr (inl no_room)) ∷ inr (inl too_long) ∷ inr (inr (inr (inl no_lines)))
     ∷ inr (inr (inr (inr no_kinds))) ∷ inr (inl (draw three one)) ∷ inr (inl no_current) ∷ []
-
--- ---- the premises
-formed_calls : well_formed_of cell_calls mixed_calls ≡ mixed_formed
-unfolding well_formed_of build_length
-formed_calls = rw config_length
 
 -- a run without room makes no step
 no_rows : (w : RunSettings) (c : SpmSolver) → (discharged w c (room_of 0 0)).rows ≡ 0
@@ -88,16 +78,6 @@ no_phases : (c : SpmSolver) → phases_of c no_kinds ≡ []
 unfolding cycled_from kinds_fit all_below word_at bytes_at made_by
 no_phases c = refl
 
-since_build_lem : (c : SpmSolver) → since_build (record { start = c; steps = [] }) mixed_formed ≡ record { start = (cell_built 8 config_image).solver; steps = discharge }
+pub since_build_lem : (c : SpmSolver) → since_build (record { start = c; steps = [] }) mixed_formed ≡ record { start = (cell_built 8 config_image).solver; steps = discharge }
 unfolding since_build
 since_build_lem c = rw (build_accepted, no_turns, no_calls, no_phases)
-
-pub mixed_since : since_build_in (zeros cell_bytes) mixed_calls ≡ record { start = start; steps = discharge }
-mixed_since = ap (since_build (record { start = cell_at (zeros cell_bytes); steps = [] })) formed_calls ∙ since_build_lem (cell_at (zeros cell_bytes)) ∙ ap (λ (c : SpmSolver). record { start = c; steps = discharge }) build_is
-
--- ---- THEOREM 2 for the words of the last image, K = 66
-pub mixed_image_near : (e : Electrode) (i : ℕ) → i < 11
-    → node_at e (image_after cell_calls (zeros cell_bytes) mixed_calls) i -F SD.exact_place e start discharge i within nat 66 *F most_at e start /F pow2 49
-mixed_image_near e i l =
-    rw (mixed_since, discharge_counted) at
-    (mixed_images_near e (zeros cell_bytes) mixed_calls (zeros_length cell_bytes) (rw mixed_since start_passes) (rw mixed_since (discharge_bounds e)) i (rw mixed_since l))

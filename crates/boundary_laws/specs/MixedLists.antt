@@ -8,11 +8,11 @@ use Rattle.cell_images.specs.Images.{cell_at}
 use Rattle.electrolyte_images.specs.Images.{electrolyte_at}
 use Rattle.dfn_images.specs.Images as I
 use Rattle.boundary_laws.specs.CallLists.{Calls, CCall, Simulates, simulates, or_else, both_implement}
-use Rattle.boundary_laws.specs.StepLists.{ElectrolyteCall, DfnCall, particle_steps, cell_steps, electrolyte_steps, dfn_steps, particle_steps_implement, cell_steps_implement, electrolyte_steps_implement, dfn_steps_implement}
-use Rattle.boundary_laws.specs.BuildLists.{Build, CellBuild, particle_builds, cell_builds, electrolyte_builds, dfn_builds, particle_builds_implement, cell_builds_implement, electrolyte_builds_implement, dfn_builds_implement}
-use Rattle.boundary_laws.specs.RunLists.{CellRun, DfnRun, cell_runs, dfn_runs, cell_runs_implement, dfn_runs_implement}
-use Rattle.boundary_laws.specs.ReplayLists.{CellReplay, cell_replays, cell_replays_implement}
-use Rattle.boundary_laws.specs.CycleLists.{CellCycle, cell_cycles, cell_cycles_implement}
+use Rattle.boundary_laws.specs.StepLists.{ElectrolyteCall, DfnCall, particle_steps, cell_steps, electrolyte_steps, dfn_steps, particle_steps_implement, electrolyte_steps_implement, dfn_steps_implement}
+use Rattle.boundary_laws.specs.BuildLists.{Build, CellBuild, particle_builds, cell_builds, electrolyte_builds, dfn_builds, particle_builds_implement, electrolyte_builds_implement, dfn_builds_implement}
+use Rattle.boundary_laws.specs.RunLists.{CellRun, DfnRun, cell_runs, dfn_runs, dfn_runs_implement}
+use Rattle.boundary_laws.specs.ReplayLists.{CellReplay, cell_replays}
+use Rattle.boundary_laws.specs.CycleLists.{CellCycle, cell_cycles}
 use Rattle.image_layout.specs.Layout.{particle_bytes, electrolyte_bytes, cell_bytes, dfn_bytes}
 
 -- ---- lists of all of them
@@ -42,11 +42,6 @@ dfn_calls = or_else dfn_builds (or_else dfn_steps dfn_runs)
 -- ---- THE RECORD OF THE LAST IMAGE is the record after the same calls
 pub particle_calls_simulate : (qs : List (CCall (Build ⊎ PD.Call))) (s : List ℕ) → length s ≡ particle_bytes → Simulates particle_calls s qs
 particle_calls_simulate = simulates particle_calls (both_implement particle_builds particle_steps particle_builds_implement particle_steps_implement)
-
-pub cell_calls_simulate : (qs : List (CCall CellCall)) (s : List ℕ) → length s ≡ cell_bytes → Simulates cell_calls s qs
-cell_calls_simulate =
-    let rows = both_implement cell_runs (or_else cell_replays cell_cycles) cell_runs_implement (both_implement cell_replays cell_cycles cell_replays_implement cell_cycles_implement) in
-    simulates cell_calls (both_implement cell_builds (or_else cell_steps cell_rows) cell_builds_implement (both_implement cell_steps cell_rows cell_steps_implement rows))
 
 pub electrolyte_calls_simulate : (qs : List (CCall (Build ⊎ ElectrolyteCall))) (s : List ℕ) → length s ≡ electrolyte_bytes → Simulates electrolyte_calls s qs
 electrolyte_calls_simulate = simulates electrolyte_calls (both_implement electrolyte_builds electrolyte_steps electrolyte_builds_implement electrolyte_steps_implement)

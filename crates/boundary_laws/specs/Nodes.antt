@@ -16,7 +16,6 @@ use Rattle.solver_laws.specs.Electrodes as L
 use Rattle.solver_laws.specs.Electrodes.{Electrode, electrode_passes, nodes_are}
 use Rattle.codec.specs.Words.{float_at, places_at}
 use Rattle.sheet_images.specs.Images.{particle_at}
-use Rattle.cell_images.specs.Images.{cell_at}
 use Rattle.image_layout.specs.Layout.{particle_profile, cell_anode_profile, cell_cathode_profile}
 
 -- the word of an electrode's first node
@@ -35,25 +34,16 @@ node_at e s i = val (float_at s (first_node e + i))
 abbrev pub most_at : Electrode → SpmSolver → Fraction
 most_at e c = val (L.particle_at e c).params.c_s_max
 
-row_place : (s : List ℕ) (at i : ℕ) → i < 64 → get_or (places_at 64 s at) i nan ≡ float_at s (at + i)
+pub row_place : (s : List ℕ) (at i : ℕ) → i < 64 → get_or (places_at 64 s at) i nan ≡ float_at s (at + i)
 row_place s at i l = first_below (λ k. float_at s (at + k)) (replicate 64 «0·0») 64 i nan l (le_refl 64)
 
 particle_node : (s : List ℕ) (i : ℕ) → i < 64 → place_of (particle_in s) i ≡ float_at s (particle_profile + i)
 unfolding particle_at
 particle_node s i l = row_place s particle_profile i l
 
-electrode_node : (e : Electrode) (s : List ℕ) (i : ℕ) → i < 64 → place_of (L.particle_at e (cell_at s)) i ≡ float_at s (first_node e + i)
-unfolding cell_at particle_at
-electrode_node Electrode.anode s i l = row_place s cell_anode_profile i l
-electrode_node Electrode.cathode s i l = row_place s cell_cathode_profile i l
-
 -- the nodes of the particle p that the image t holds
 pub particle_nodes_lem : (t : List ℕ) (p : ParticleDiffusion) → particle_in t ≡ p → (i : ℕ) → i < 64 → val (place_of p i) ≡ node_of t i
 particle_nodes_lem t p w i l = ap (λ (r : ParticleDiffusion). val (place_of r i)) (sym w) ∙ ap val (particle_node t i l)
-
--- those of the cell c
-pub cell_nodes : (e : Electrode) (t : List ℕ) (c : SpmSolver) → cell_at t ≡ c → (i : ℕ) → i < 64 → val (place_of (L.particle_at e c) i) ≡ node_at e t i
-cell_nodes e t c w i l = ap (λ (b : SpmSolver). val (place_of (L.particle_at e b) i)) (sym w) ∙ ap val (electrode_node e t i l)
 
 -- a cell that passes the checks has at most 64 nodes
 pub node_below : (c : SpmSolver) → cell_refusal c ≡ 0 → (i : ℕ) → i < c.config.n_nodes → i < 64

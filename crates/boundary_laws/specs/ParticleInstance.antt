@@ -13,7 +13,7 @@ use Rattle.particle.specs.declared.ParticleDiffusion.{ParticleDiffusion}
 use Rattle.particle.specs.declared.ParticleAnswer.{ParticleAnswer}
 use Rattle.particle.specs.Calls as P
 use Rattle.particle_laws.specs.Demand as PD
-use Rattle.particle_laws.specs.Instance.{start, start_passes, sheet_is, nodes_are, draw, no_flux, no_time, discharge, discharge_taken, discharge_conditions_hold}
+use Rattle.particle_laws.proofs.Instance.{start, start_passes, sheet_is, nodes_are, draw, no_flux, no_time, discharge, discharge_taken, discharge_conditions_hold}
 use Rattle.codec.specs.Words.{word_at, put_word}
 use Rattle.sheet_images.specs.Images.{sheet_at, put_sheet}
 use Rattle.image_builds.specs.Builds.{particle_made, new_return, build_length, built_length}
@@ -28,7 +28,7 @@ use Rattle.boundary_laws.specs.CallLists.{CCall, image_after, accepted_calls, we
 use Rattle.boundary_laws.specs.StepLists.{particle_steps, particle_simulates}
 use Rattle.boundary_laws.specs.Nodes.{node_of}
 use Rattle.boundary_laws.specs.Demand.{ParticleStepConditions, particle_images_near}
-use Rattle.boundary_laws.specs.Instance.{zeros, zeros_length, calls}
+use Rattle.boundary_laws.specs.Instance.{zeros, zeros_length}
 use Rattle.image_layout.specs.Layout.{particle_bytes, particle_nodes, new_particle_bytes}
 
 -- ---- the image

@@ -8,7 +8,6 @@ use Rattle.particle.specs.declared.ParticleDiffusion.{ParticleDiffusion}
 use Rattle.particle_laws.specs.Closure as PC
 use Rattle.particle_laws.specs.Demand as PD
 use Rattle.solver.specs.declared.SpmSolver.{SpmSolver}
-use Rattle.solver_laws.specs.Closure as SC
 use Rattle.solver_laws.specs.Demand as SD
 use Rattle.electrolyte.specs.Calls as E
 use Rattle.electrolyte.specs.Again.{step_kept}
@@ -22,9 +21,9 @@ use Rattle.dfn_calls.specs.Steps as PS
 use Rattle.image_laws.specs.CellImages.{particle_in}
 use Rattle.boundary.specs.Calls as B
 use Rattle.image_laws.specs.DfnRuns.{dfn_step_refused}
-use Rattle.image_laws.specs.AnswerLengths.{particle_step_length, cell_step_length, electrolyte_step_length, dfn_step_length}
-use Rattle.image_laws.specs.ReadBack.{particle_step_read_back, cell_step_read_back, sub_steps_read_back, electrolyte_step_read_back, dfn_step_read_back}
-use Rattle.boundary_laws.specs.CallLists.{Calls, CCall, image_after, accepted_calls, reported, well_formed_of, record_after, accepted, total, Implements, simulates, reported_is, image_stays, plain_implements}
+use Rattle.image_laws.specs.AnswerLengths.{particle_step_length, electrolyte_step_length, dfn_step_length}
+use Rattle.image_laws.specs.ReadBack.{particle_step_read_back, electrolyte_step_read_back, dfn_step_read_back}
+use Rattle.boundary_laws.specs.CallLists.{Calls, CCall, image_after, accepted_calls, reported, well_formed_of, record_after, accepted, total, Implements, simulates, image_stays, plain_implements}
 use Rattle.image_layout.specs.Layout.{cell_sub_steps, particle_bytes, electrolyte_bytes, cell_bytes, cell_step_bytes, dfn_bytes, dfn_step_bytes}
 
 -- ---- the calls
@@ -111,21 +110,6 @@ particle_steps_implement =
       refused_keeps = λ p q n. PC.step_refused p q.flux q.dt q.temp n;
     })
 
-cell_returned : (s : List ℕ) (q : SD.Call) (a : List ℕ) → length s ≡ cell_bytes → cell_steps.returned s q a ≡ B.after_lengths (eqb (length a) cell_step_bytes) (SD.answer (cell_at s) q).refusal
-unfolding B.cell_return CS.cell_return
-cell_returned s q a l = rw (eq-eqb (length s) cell_bytes l)
-
-pub cell_steps_implement : Implements cell_steps
-cell_steps_implement =
-    plain_implements cell_steps
-    (record {
-      returned_is = cell_returned;
-      handed_is = λ s q a. refl;
-      accepted_reads = λ s q a h. cell_step_read_back s q.current q.dt q.temp a h;
-      accepted_fills = λ s q a h. length-take-le cell_bytes (cell_steps.left s q a) (rw (cell_step_length s q.current q.dt q.temp a h) (lit≤ tt));
-      refused_keeps = λ c q n. (SC.step_refused c q.current q.dt q.temp n).0;
-    })
-
 electrolyte_returned : (s : List ℕ) (q : ElectrolyteCall) (a : List ℕ) → length s ≡ electrolyte_bytes
     → electrolyte_steps.returned s q a ≡ B.after_lengths (eqb (length a) electrolyte_bytes) (electrolyte_steps.refusal (electrolyte_at s) q)
 unfolding B.electrolyte_return PS.electrolyte_return
@@ -185,20 +169,20 @@ particle_simulates qs s l =
     let w = well_formed_of particle_steps qs in
     record { particle = f.reads ∙ particle_after_lem p w p; size = f.fills; calls = f.calls ∙ particle_accepted p w p }
 
-cell_after_lem : (qs : List SD.Call) (c : SpmSolver) → record_after cell_steps c qs ≡ SD.cell_after c qs
+pub cell_after_lem : (qs : List SD.Call) (c : SpmSolver) → record_after cell_steps c qs ≡ SD.cell_after c qs
 unfolding record_after SD.cell_after
 cell_after_lem [] c = refl
 cell_after_lem (q ∷ qs) c = cell_after_lem qs (SD.answer c q).solver
 
-cell_accepted : (qs : List SD.Call) (c : SpmSolver) → accepted cell_steps c qs ≡ SD.taken c qs
+pub cell_accepted : (qs : List SD.Call) (c : SpmSolver) → accepted cell_steps c qs ≡ SD.taken c qs
 unfolding accepted SD.taken
 cell_accepted [] c = refl
 cell_accepted (q ∷ qs) c = rw (cell_accepted qs (SD.answer c q).solver)
 
-abbrev sub_steps_value : SpmSolver → SD.Call → ℕ
+abbrev pub sub_steps_value : SpmSolver → SD.Call → ℕ
 sub_steps_value c q = (SD.answer c q).sub_steps
 
-cell_total : (qs : List SD.Call) (c : SpmSolver) → total cell_steps sub_steps_value c qs ≡ SD.K c qs
+pub cell_total : (qs : List SD.Call) (c : SpmSolver) → total cell_steps sub_steps_value c qs ≡ SD.K c qs
 unfolding total SD.K
 cell_total [] c = refl
 cell_total (q ∷ qs) c = rw (cell_total qs (SD.answer c q).solver)
@@ -213,21 +197,6 @@ pub record CellSimulates (s : List ℕ) (qs : List (CCall SD.Call)) : Type 0 whe
   pub calls : accepted_calls cell_steps s qs ≡ SD.taken (cell_at s) (well_formed_of cell_steps qs)
   pub count : reported_sub_steps s qs ≡ SD.K (cell_at s) (well_formed_of cell_steps qs)
 
--- THE CELL OF THE LAST IMAGE is the cell after the same steps, and the answers report its sub-steps
-pub cell_simulates : (qs : List (CCall SD.Call)) (s : List ℕ) → length s ≡ cell_bytes → CellSimulates s qs
-cell_simulates qs s l =
-    let f = simulates cell_steps cell_steps_implement qs s l in
-    let w = well_formed_of cell_steps qs in
-    record {
-      cell = f.reads ∙ cell_after_lem w (cell_at s);
-      size = f.fills;
-      calls = f.calls ∙ cell_accepted w (cell_at s);
-      count =
-          reported_is cell_steps cell_steps_implement (λ a. word_at a cell_sub_steps) sub_steps_value (λ s q a h. sub_steps_read_back s q.current q.dt q.temp a h)
-          (λ c q n. (SC.step_refused c q.current q.dt q.temp n).1) qs s l
-          ∙ cell_total w (cell_at s);
-    }
-
 -- ---- on an image of another length every call is refused, and the image stays
 particle_refused : (s : List ℕ) (q : PD.Call) (a : List ℕ) → eqb (length s) particle_bytes ≡ false → particle_steps.handed s q a ≡ false
 unfolding B.particle_return B.after_lengths
@@ -235,10 +204,3 @@ particle_refused s q a n = rw n
 
 pub particle_image_stays : (qs : List (CCall PD.Call)) (s : List ℕ) → eqb (length s) particle_bytes ≡ false → image_after particle_steps s qs ≡ s
 particle_image_stays = image_stays particle_steps particle_refused
-
-cell_refused : (s : List ℕ) (q : SD.Call) (a : List ℕ) → eqb (length s) cell_bytes ≡ false → cell_steps.handed s q a ≡ false
-unfolding B.cell_return B.after_lengths
-cell_refused s q a n = rw n
-
-pub cell_image_stays : (qs : List (CCall SD.Call)) (s : List ℕ) → eqb (length s) cell_bytes ≡ false → image_after cell_steps s qs ≡ s
-cell_image_stays = image_stays cell_steps cell_refused

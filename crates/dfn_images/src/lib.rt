@@ -15,6 +15,8 @@ use image_rows::{fill_33, fill_512, write_places};
 use parameter_images::{config_at, params_at, put_config, put_params};
 
 // The cell in the first 1126 words.
+// Not inlined for the stack of a run from C (docs/DECISIONS.md, 68).
+#[inline(never)]
 pub fn cell_at(s: &[u8]) -> DfnSolver
     ensures { result ≡ cell_at s.now }
 {

@@ -106,6 +106,8 @@ fn at_least_one(n: usize) -> u64
 }
 
 // The first `count` particles after a step, each node from the old ones; the other places as they were.
+// Inlined for the stack of the calls from C (docs/DECISIONS.md, 68).
+#[inline(always)]
 pub fn update_solid(v: ParticleParams, c: &[f64; 512], count: usize) -> SolidUpdate
     requires { (2 ≤ v.n) × ((v.n ≤ 32) × (count ≤ 16)) }
     ensures { result ≡ solid_update v c.now count }

@@ -1,4 +1,5 @@
--- A turn that is not refused writes one row, one that is refused none; a run that is not refused has room for its rows and their groups. Assumes nothing.
+-- A turn that is not refused writes one row; a run that is not refused has room for its rows and their groups. That a refused turn writes none stands in
+-- proofs/Laws. Assumes nothing.
 use Rattle.std.specs.Prelude.{◌+◌, ◌/◌, ◌≤◌, ◌≡◌, refl, Bool, true, false, eqb, Float}
 use Rattle.std.proofs.Common.{arith, lit<}
 use Rattle.std.specs.Float.Ieee.{le}
@@ -23,20 +24,11 @@ unfolding turned
 turned_rows w r h = followed_rows w r _ _ refl h
 
 -- no row ends a run as refused
-row_not_refused : (limit : Float) (s : DfnStep) (a b : Bool) → s.cutoff ≡ a → le limit s.time_s ≡ b → over_after limit s ≡ by_refusal → ⊥
+pub row_not_refused : (limit : Float) (s : DfnStep) (a b : Bool) → s.cutoff ≡ a → le limit s.time_s ≡ b → over_after limit s ≡ by_refusal → ⊥
 unfolding over_after
 row_not_refused limit s true b e f h = omega (arith, rw e at h)
 row_not_refused limit s false true e f h = omega (arith, rw (e, f) at h)
 row_not_refused limit s false false e f h = omega (arith, rw (e, f) at h)
-
-followed_refused : (w : RunSettings) (r : RunState) (t : DfnStepAnswer) (b : Bool) → eqb t.refusal 0 ≡ b → (followed w r t).over ≡ by_refusal → (followed w r t).rows ≡ r.rows
-unfolding followed
-followed_refused w r t true e h = absurd (row_not_refused w.limit t.report _ _ refl refl (rw e at h))
-followed_refused w r t false e h = rw e
-
-pub turned_refused : (w : RunSettings) (r : RunState) → (turned w r).over ≡ by_refusal → (turned w r).rows ≡ r.rows
-unfolding turned
-turned_refused w r h = followed_refused w r _ _ refl h
 
 pub run_groups : (d : DfnSolver) (w : RunSettings) (room : Room) → run_refusal d w room ≡ 0 → group_count (room.rows / 8) ≤ room.lowest
 unfolding run_refusal

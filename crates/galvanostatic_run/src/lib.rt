@@ -102,6 +102,8 @@ fn turn(w: RunSettings, s: RunState) -> RunState
 }
 
 // The run before its first step.
+// This and `finished` are inlined and `run_refusal` is not for the stack of a run from C (docs/DECISIONS.md, 68).
+#[inline(always)]
 fn start(cell: DfnSolver) -> RunState
     ensures { result ≡ started cell }
 {
@@ -115,6 +117,7 @@ fn start(cell: DfnSolver) -> RunState
 }
 
 // What a run that has stopped answers.
+#[inline(always)]
 fn finished(s: RunState) -> DfnRun
     ensures { run_outcome result ≡ finished_run s }
 {
@@ -158,6 +161,7 @@ fn run_rows(
 }
 
 // The number of the table that refuses the whole run: 1, 10, 2, 3, 4.
+#[inline(never)]
 fn run_refusal(cell: DfnSolver, w: RunSettings, rows: usize, lowest: usize) -> u64
     ensures { result ≡ run_refusal cell w (room_of rows lowest) }
 {

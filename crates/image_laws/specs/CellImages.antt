@@ -11,9 +11,9 @@ use Rattle.solver.specs.declared.SpmSolver.{SpmSolver}
 use Rattle.electrode.specs.Numbers.{sheet_numbers, numbers_back}
 use Rattle.sheet_images.specs.Images.{sheet_at, put_sheet, particle_at, put_particle, config_at, put_config}
 use Rattle.cell_images.specs.Images.{cell_at, put_cell}
-use Rattle.image_laws.specs.Words.{word_read_back, float_read_back}
+use Rattle.image_laws.specs.Words.{word_written, float_written}
 use Rattle.image_laws.specs.Encodable.{EncodableRow}
-use Rattle.image_laws.specs.Rows.{Writes, SameWords, same_part, same_below, same_float, writes_then, writes_word, writes_float, writes_places, place_read_back, row_read_back, row_same}
+use Rattle.image_laws.specs.Rows.{Writes, SameWords, same_part, same_below, same_float, writes_then, writes_word, writes_float, writes_places, place_read_back, row_written, row_same}
 use Rattle.image_laws.specs.Layout.{Layout}
 use Rattle.image_layout.specs.Layout.{particle_nodes, particle_profile, cell_anode, cell_cathode, cell_clock, cell_report, cell_bytes, config_bytes}
 
@@ -58,8 +58,8 @@ sheet_read_back s at p h k =
     let t = put_word s at p.electrode_type in
     let l : (at + 1 + 10) * 8 ≤ length t = rw (writes_word s at p.electrode_type).size (omega (arith, h)) in
     let first : word_at (put_row t (at + 1) (sheet_numbers p)) at ≡ p.electrode_type =
-    (writes_places 10 t (at + 1) (sheet_numbers p)).outside at (inl (omega arith)) ∙ word_read_back s at p.electrode_type (omega (arith, h)) k.chemistry in
-    rw (first, row_read_back 10 t (at + 1) (sheet_numbers p) refl l k.numbers) (numbers_back p)
+    (writes_places 10 t (at + 1) (sheet_numbers p)).outside at (inl (omega arith)) ∙ word_written s at p.electrode_type (omega (arith, h)) k.chemistry in
+    rw (first, row_written 10 t (at + 1) (sheet_numbers p) refl l k.numbers) (numbers_back p)
 
 -- ---- a particle: the sheet, the count of nodes, 64 places
 abbrev pub particle_words : ℕ
@@ -97,8 +97,8 @@ particle_read_back s at p h k =
     let wv = writes_places (length p.c_s) u (at + particle_profile) p.c_s in
     let sheet : sheet_at v at ≡ p.params =
     sheet_same u v at (same_below (omega arith) wv) ∙ sheet_same t u at (same_below (le_refl (at + particle_nodes)) wu) ∙ sheet_read_back s at p.params (omega (arith, h)) k.sheet in
-    let nodes : word_at v (at + particle_nodes) ≡ p.n_nodes = wv.outside (at + particle_nodes) (inl (omega arith)) ∙ word_read_back t (at + particle_nodes) p.n_nodes (rw lt (omega (arith, h))) k.nodes in
-    rw (sheet, nodes, row_read_back 64 u (at + particle_profile) p.c_s k.long (rw lu (omega (arith, h))) k.places)
+    let nodes : word_at v (at + particle_nodes) ≡ p.n_nodes = wv.outside (at + particle_nodes) (inl (omega arith)) ∙ word_written t (at + particle_nodes) p.n_nodes (rw lt (omega (arith, h))) k.nodes in
+    rw (sheet, nodes, row_written 64 u (at + particle_profile) p.c_s k.long (rw lu (omega (arith, h))) k.places)
 
 -- ---- a configuration in the first six words
 pub writes_config : (s : List ℕ) (c : SpmConfig) → Writes 0 6 s (put_config s c)
@@ -122,7 +122,7 @@ unfolding config_at put_config
 config_read_back s c h k =
     let t = put_word s 0 c.n_nodes in
     let l : (1 + 5) * 8 ≤ length t = rw (writes_word s 0 c.n_nodes).size h in
-    let first : word_at (put_row t 1 (config_numbers c)) 0 ≡ c.n_nodes = (writes_places 5 t 1 (config_numbers c)).outside 0 (inl (lit≤ tt)) ∙ word_read_back s 0 c.n_nodes (omega (arith, h)) k.nodes in
+    let first : word_at (put_row t 1 (config_numbers c)) 0 ≡ c.n_nodes = (writes_places 5 t 1 (config_numbers c)).outside 0 (inl (lit≤ tt)) ∙ word_written s 0 c.n_nodes (omega (arith, h)) k.nodes in
     let next : (i j : ℕ) → i < 5 → j ≡ 1 + i → float_at (put_row t 1 (config_numbers c)) j ≡ get_or (config_numbers c) i nan = place_read_back t 1 (config_numbers c) l k.numbers in
     rw (first, next 0 1 (lit≤ tt) refl, next 1 2 (lit≤ tt) refl, next 2 3 (lit≤ tt) refl, next 3 4 (lit≤ tt) refl, next 4 5 (lit≤ tt) refl)
 
@@ -175,7 +175,7 @@ module _ (s : List ℕ) (c : SpmSolver) (k : EncodableCell c) where
       particle_same s3 u cell_anode (same_below (lit≤ tt) w4) ∙ particle_same s2 s3 cell_anode (same_below (lit≤ tt) w3) ∙ particle_read_back s1 cell_anode c.anode (rw w1.size (omega (arith, h))) k.anode in
       let cathode : particle_at u cell_cathode ≡ c.cathode =
       particle_same s3 u cell_cathode (same_below (lit≤ tt) w4) ∙ particle_read_back s2 cell_cathode c.cathode (rw (w2.size, w1.size) (omega (arith, h))) k.cathode in
-      rw (config, anode, cathode, float_read_back s3 cell_clock c.time_s (rw (w3.size, w2.size, w1.size) (omega (arith, h))) k.clock)
+      rw (config, anode, cathode, float_written s3 cell_clock c.time_s (rw (w3.size, w2.size, w1.size) (omega (arith, h))) k.clock)
 
 -- ---- both as records that an answer begins with
 abbrev pub particle_in : List ℕ → ParticleDiffusion

@@ -1,24 +1,19 @@
 -- The solution that `pj_solve_dense` gives is read back: 32 numbers of binary64, where the right side is a row of such. Assumes nothing.
-use Rattle.std.specs.Prelude.{ℕ, ◌-◌, ◌+◌, ◌≡◌, List, [], ◌∷◌, map, T, eqb, length, set, replicate, Float}
+use Rattle.std.specs.Prelude.{ℕ, ◌+◌, ◌≡◌, List, [], ◌∷◌, map, T, length, set, Float}
 use Rattle.std.proofs.Common.{◌∙◌, length-set}
-use Rattle.std.proofs.lemmas.List.{length-replicate}
 use Rattle.std.specs.Float.{binary64}
 use Rattle.std.specs.Float.Ieee.{fits}
 use Rattle.std.specs.Float.Ieee.Fits.{sub-fits, div-fits}
 use Rattle.binary64.specs.Operators.{◌⊘◌, f64}
-use Rattle.binary64.specs.Literals.{«0·0»}
 use Rattle.min_max.specs.MinMax.{abs_of}
-use Rattle.refusal.specs.Numbers.{first_refusal}
-use Rattle.iterate.specs.Iterate.{first_length}
-use Rattle.matrix_rows.specs.Loops.{either, Tried, range_keeps, try_keeps}
+use Rattle.matrix_rows.specs.Loops.{either, Tried, range_keeps}
 use Rattle.arrays.specs.Places.{at}
 use Rattle.matrix_rows.specs.Places.{entry}
 use Rattle.matrix_rows.specs.Rows.{swapped}
 use Rattle.matrix_columns.specs.Columns.{System, row_less, row_cleared, column_cleared, pivot_taken, rows_exchanged}
-use Rattle.dense_elimination.specs.Elimination.{tiny, pivot_of, column_with, column_done, eliminated}
-use Rattle.dense.specs.Substitution.{taken_out, column_solved, substituted}
-use Rattle.dense.specs.Solve.{input_refusal, solution_refusal, loaded, reduced, solution, answer, solved}
-use Rattle.image_laws.specs.Encodable.{EncodableRow, []ᵉ, ◌∷ᵉ◌, set_encodable, first_encodable, copies_encodable, literal}
+use Rattle.dense_elimination.specs.Elimination.{tiny, pivot_of, column_with, column_done}
+use Rattle.dense.specs.Substitution.{taken_out, column_solved}
+use Rattle.image_laws.specs.Encodable.{EncodableRow, []ᵉ, ◌∷ᵉ◌, set_encodable, literal}
 
 -- 32 numbers of binary64
 pub record EncodableColumn (x : List Float) : Type 0 where
@@ -29,7 +24,7 @@ set_column : (x : List Float) (i : ℕ) (y : Float) → T (fits binary64 y) → 
 set_column x i y f h = record { count = length-set x i y ∙ h.count; places = set_encodable x i y f h.places }
 
 -- ---- the elimination
-abbrev Side : System → Type 0
+abbrev pub Side : System → Type 0
 Side s = EncodableColumn s.side
 
 exchanged : (n col row : ℕ) (s : System) → Side s → Side (rows_exchanged n col row s)
@@ -44,36 +39,18 @@ taken : (n col row : ℕ) (s : System) → Side s → Side (pivot_taken n col ro
 unfolding pivot_taken column_cleared
 taken n col row s h = range_keeps Side (col + 1) n _ (rows_exchanged n col row s) (λ i y _ _ p. cleared n col i _ y p) (exchanged n col row s h)
 
-column_done_lem : (n col : ℕ) (s : System) → Side s → Side (column_done n col s).value
+pub column_done_lem : (n col : ℕ) (s : System) → Side s → Side (column_done n col s).value
 unfolding column_done column_with
 column_done_lem n col s h =
     let p = pivot_of s.matrix col n in
     either (λ (t : Tried System). Side t.value) (tiny p.val) _ _ h (taken n col p.row s h)
 
 -- ---- the substitution
-column_solved_lem : (a : List Float) (col : ℕ) (x : List Float) → EncodableColumn x → EncodableColumn (column_solved a col x).value
+pub column_solved_lem : (a : List Float) (col : ℕ) (x : List Float) → EncodableColumn x → EncodableColumn (column_solved a col x).value
 unfolding column_solved taken_out
 column_solved_lem a col x h =
     either (λ (t : Tried (List Float)). EncodableColumn t.value) (tiny (abs_of (entry a col col))) _ _ h
     (range_keeps EncodableColumn 0 col _ (set x col (at x col ⊘ entry a col col)) (λ i y _ _ p. set_column y i _ (sub-fits binary64 _ _) p) (set_column x col _ (div-fits binary64 _ _) h))
-
-loaded_side : (a b : List Float) (n : ℕ) → EncodableRow b → Side (loaded a b n)
-unfolding loaded
-loaded_side a b n h = record {
-  count = first_length (at b) (replicate 32 «0·0») n ∙ length-replicate 32 «0·0»;
-  places = first_encodable n (at b) (replicate 32 «0·0») (λ i. h.place i) (copies_encodable 32 «0·0» (literal 0));
-}
-
-solution_encodable : (a b : List Float) (n : ℕ) → EncodableRow b → EncodableColumn (solution a b n).value
-unfolding solution reduced eliminated substituted
-solution_encodable a b n h =
-    try_keeps EncodableColumn n _ _ (λ i y _ p. column_solved_lem _ (n - 1 - i) y p) (try_keeps Side n (column_done n) (loaded a b n) (λ i y _ p. column_done_lem n i y p) (loaded_side a b n h))
-
-pub solved_encodable : (a b : List Float) (n : ℕ) → EncodableRow b → EncodableColumn (solved a b n).x
-unfolding solved answer
-solved_encodable a b n h =
-    either EncodableColumn (eqb (first_refusal (input_refusal a b n) (solution_refusal a b n)) 0) (solution a b n).value (replicate 32 «0·0») (solution_encodable a b n h)
-    (record { count = length-replicate 32 «0·0»; places = copies_encodable 32 «0·0» (literal 0) })
 
 -- a row of doubles from C
 pub doubles_encodable : (bits : List ℕ) → EncodableRow (map f64 bits)

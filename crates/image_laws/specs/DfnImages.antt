@@ -11,9 +11,9 @@ use Rattle.dfn_parameters.specs.declared.DfnConfig.{DfnConfig}
 use Rattle.dfn.specs.declared.DfnSolver.{DfnSolver}
 use Rattle.parameter_images.specs.Images.{params_of, params_at, params_numbers, put_params, config_at, put_config}
 use Rattle.dfn_images.specs.Images.{cell_at, put_cell}
-use Rattle.image_laws.specs.Words.{word_read_back, float_read_back}
+use Rattle.image_laws.specs.Words.{word_written, float_written}
 use Rattle.image_laws.specs.Encodable.{EncodableRow}
-use Rattle.image_laws.specs.Rows.{Writes, SameWords, same_part, same_below, same_float, writes_then, writes_word, writes_float, writes_places, place_read_back, row_read_back, row_same}
+use Rattle.image_laws.specs.Rows.{Writes, SameWords, same_part, same_below, same_float, writes_then, writes_word, writes_float, writes_places, place_read_back, row_written, row_same}
 use Rattle.image_laws.specs.Layout.{Layout}
 use Rattle.image_layout.specs.Layout.{dfn_cathode, dfn_electrolyte, dfn_clock, dfn_voltage, dfn_current, dfn_theta_neg, dfn_theta_pos, dfn_bytes}
 
@@ -101,12 +101,12 @@ module _ (s : List ℕ) (p : DfnParams) (k : EncodableParams p) where
       let l3 : length p3 ≡ length s = q3.size ∙ l2 in
       let l4 : length p4 ≡ length s = q4.size ∙ l3 in
       let numbers : places_at 25 p5 0 ≡ params_numbers p =
-      row_same 25 p1 p5 0 (same_below (lit≤ tt) q25) ∙ row_read_back 25 s 0 (params_numbers p) (numbers_long p) (omega (arith, h)) k.numbers in
-      let neg : word_at p5 25 ≡ p.ocv_neg_count = q35.outside 25 (inl (lit≤ tt)) ∙ word_read_back p1 25 p.ocv_neg_count (rw q1.size (omega (arith, h))) k.neg in
+      row_same 25 p1 p5 0 (same_below (lit≤ tt) q25) ∙ row_written 25 s 0 (params_numbers p) (numbers_long p) (omega (arith, h)) k.numbers in
+      let neg : word_at p5 25 ≡ p.ocv_neg_count = q35.outside 25 (inl (lit≤ tt)) ∙ word_written p1 25 p.ocv_neg_count (rw q1.size (omega (arith, h))) k.neg in
       let neg_row : places_at 16 p5 26 ≡ p.ocv_neg_coeffs =
-      row_same 16 p3 p5 26 (same_below (lit≤ tt) q45) ∙ row_read_back 16 p2 26 p.ocv_neg_coeffs k.neg_long (rw l2 (omega (arith, h))) k.neg_places in
-      let pos : word_at p5 42 ≡ p.ocv_pos_count = q5.outside 42 (inl (lit≤ tt)) ∙ word_read_back p3 42 p.ocv_pos_count (rw l3 (omega (arith, h))) k.pos in
-      let pos_row : places_at 16 p5 43 ≡ p.ocv_pos_coeffs = row_read_back 16 p4 43 p.ocv_pos_coeffs k.pos_long (rw l4 (omega (arith, h))) k.pos_places in
+      row_same 16 p3 p5 26 (same_below (lit≤ tt) q45) ∙ row_written 16 p2 26 p.ocv_neg_coeffs k.neg_long (rw l2 (omega (arith, h))) k.neg_places in
+      let pos : word_at p5 42 ≡ p.ocv_pos_count = q5.outside 42 (inl (lit≤ tt)) ∙ word_written p3 42 p.ocv_pos_count (rw l3 (omega (arith, h))) k.pos in
+      let pos_row : places_at 16 p5 43 ≡ p.ocv_pos_coeffs = row_written 16 p4 43 p.ocv_pos_coeffs k.pos_long (rw l4 (omega (arith, h))) k.pos_places in
       rw (numbers, neg, neg_row, pos, pos_row) (numbers_are p)
 
 -- ---- the grid and the voltage limits
@@ -172,12 +172,12 @@ module _ (s : List ℕ) (c : DfnConfig) where
       let l2 : length g2 ≡ length s = r2.size ∙ r1.size in
       let l3 : length g3 ≡ length s = r3.size ∙ l2 in
       let l4 : length g4 ≡ length s = r4.size ∙ l3 in
-      let neg : word_at g5 59 ≡ c.n_x_neg = r25.outside 59 (inl (lit≤ tt)) ∙ word_read_back s 59 c.n_x_neg (omega (arith, h)) k.neg in
-      let pos : word_at g5 60 ≡ c.n_x_pos = r35.outside 60 (inl (lit≤ tt)) ∙ word_read_back g1 60 c.n_x_pos (rw r1.size (omega (arith, h))) k.pos in
-      let radial : word_at g5 61 ≡ c.n_r = r45.outside 61 (inl (lit≤ tt)) ∙ word_read_back g2 61 c.n_r (rw l2 (omega (arith, h))) k.radial in
+      let neg : word_at g5 59 ≡ c.n_x_neg = r25.outside 59 (inl (lit≤ tt)) ∙ word_written s 59 c.n_x_neg (omega (arith, h)) k.neg in
+      let pos : word_at g5 60 ≡ c.n_x_pos = r35.outside 60 (inl (lit≤ tt)) ∙ word_written g1 60 c.n_x_pos (rw r1.size (omega (arith, h))) k.pos in
+      let radial : word_at g5 61 ≡ c.n_r = r45.outside 61 (inl (lit≤ tt)) ∙ word_written g2 61 c.n_r (rw l2 (omega (arith, h))) k.radial in
       let least : float_at g5 62 ≡ c.v_min =
-      same_float (same_below {a = 0} {b = 63} (lit≤ tt) r5) 62 (lit≤ tt) (lit≤ tt) ∙ float_read_back g3 62 c.v_min (rw l3 (omega (arith, h))) k.least in
-      rw (neg, pos, radial, least, float_read_back g4 63 c.v_max (rw l4 (omega (arith, h))) k.most)
+      same_float (same_below {a = 0} {b = 63} (lit≤ tt) r5) 62 (lit≤ tt) (lit≤ tt) ∙ float_written g3 62 c.v_min (rw l3 (omega (arith, h))) k.least in
+      rw (neg, pos, radial, least, float_written g4 63 c.v_max (rw l4 (omega (arith, h))) k.most)
 
 -- ---- the cell: parameters, grid, three rows, five numbers
 abbrev pub last_numbers : DfnSolver → List Float
@@ -274,10 +274,10 @@ module _ (s : List ℕ) (d : DfnSolver) (k : EncodableDfn d) where
       let params : params_at d6 ≡ d.params = params_same d1 d6 (same_below (lit≤ tt) w26) ∙ params_read_back s d.params k.params (omega (arith, h)) in
       let grid : config_at d6 ≡ d.config = grid_same d2 d6 (same_below (lit≤ tt) w36) ∙ grid_read_back d1 d.config (rw w1.size (omega (arith, h))) k.grid in
       let neg : places_at 512 d6 64 ≡ d.c_s_neg =
-      row_same 512 d3 d6 64 (same_below (lit≤ tt) w46) ∙ row_read_back 512 d2 64 d.c_s_neg k.neg_long (rw l2 (omega (arith, h))) k.neg_places in
+      row_same 512 d3 d6 64 (same_below (lit≤ tt) w46) ∙ row_written 512 d2 64 d.c_s_neg k.neg_long (rw l2 (omega (arith, h))) k.neg_places in
       let pos : places_at 512 d6 dfn_cathode ≡ d.c_s_pos =
-      row_same 512 d4 d6 dfn_cathode (same_below (lit≤ tt) w56) ∙ row_read_back 512 d3 dfn_cathode d.c_s_pos k.pos_long (rw l3 (omega (arith, h))) k.pos_places in
-      let c_e_of : places_at 33 d6 dfn_electrolyte ≡ d.c_e = row_same 33 d5 d6 dfn_electrolyte (same_below (lit≤ tt) w6) ∙ row_read_back 33 d4 dfn_electrolyte d.c_e k.electrolyte_long (rw l4 (omega (arith, h))) k.electrolyte_places in
+      row_same 512 d4 d6 dfn_cathode (same_below (lit≤ tt) w56) ∙ row_written 512 d3 dfn_cathode d.c_s_pos k.pos_long (rw l3 (omega (arith, h))) k.pos_places in
+      let c_e_of : places_at 33 d6 dfn_electrolyte ≡ d.c_e = row_same 33 d5 d6 dfn_electrolyte (same_below (lit≤ tt) w6) ∙ row_written 33 d4 dfn_electrolyte d.c_e k.electrolyte_long (rw l4 (omega (arith, h))) k.electrolyte_places in
       let at : (i j : ℕ) → i < 5 → j ≡ dfn_clock + i → float_at d6 j ≡ get_or (last_numbers d) i nan = place_read_back d5 dfn_clock (last_numbers d) (rw l5 (omega (arith, h))) k.last in
       rw (params, grid, neg, pos, c_e_of, at 0 dfn_clock (lit≤ tt) refl, at 1 dfn_voltage (lit≤ tt) refl, at 2 dfn_current (lit≤ tt) refl, at 3 dfn_theta_neg (lit≤ tt) refl, at 4 dfn_theta_pos (lit≤ tt) refl)
 

@@ -2,7 +2,7 @@
 -- binary64. Assumes nothing.
 use Rattle.std.specs.Prelude.{ℕ, ◌≡◌, List, T, length, Float}
 use Rattle.std.proofs.Math.Path.{refl}
-use Rattle.std.proofs.Common.{ap, ◌∙◌, lit≤, eq-eqb}
+use Rattle.std.proofs.Common.{lit≤, eq-eqb}
 use Rattle.std.specs.Float.{binary64}
 use Rattle.std.specs.Float.Ieee.{fits}
 use Rattle.dfn.specs.declared.DfnStepAnswer.{DfnStepAnswer}
@@ -13,33 +13,28 @@ use Rattle.dfn_images.specs.Images.{cell_at, put_cell, put_report}
 use Rattle.dfn_calls.specs.Steps.{dfn_return, dfn_after}
 use Rattle.image_laws.specs.Accepted.{inputs_pass}
 use Rattle.image_laws.specs.Layout.{Holds, holds}
-use Rattle.image_laws.specs.Reports.{dfn_report_at, writes_dfn_report, dfn_report_row_read_back}
-use Rattle.image_laws.specs.DfnImages.{EncodableDfn, writes_dfn, dfn_layout}
-use Rattle.image_laws.specs.DfnEncodable.{dfn_at-encodable, dfn_step_encodable, dfn_report_encodable}
+use Rattle.image_laws.specs.Reports.{writes_dfn_report}
+use Rattle.image_laws.specs.DfnImages.{EncodableDfn, dfn_layout}
+use Rattle.image_laws.specs.DfnEncodable.{dfn_at-encodable, dfn_step_encodable}
 use Rattle.image_layout.specs.Layout.{dfn_step_bytes}
 
 module _ (s : List ℕ) (i dt : Float) (a : List ℕ) (f : T (fits binary64 i)) (h : dfn_return s i dt ≡ 0) (l : length a ≡ dfn_step_bytes) where
-  abbrev after : DfnStepAnswer
+  abbrev pub after : DfnStepAnswer
   after = D.stepped (cell_at s) i dt
 
-  abbrev new : List ℕ
+  abbrev pub new : List ℕ
   new = put_cell a after.cell
 
   dfn_passes : DC.cell_refusal (cell_at s) ≡ 0
   unfolding dfn_return D.stepped
   dfn_passes = DC.step_cell (cell_at s) i dt (inputs_pass (λ (x : DfnStepAnswer). x.refusal) (DC.step_refusal (cell_at s) i dt) _ _ refl h)
 
-  stepped_dfn : EncodableDfn after.cell
+  pub stepped_dfn : EncodableDfn after.cell
   stepped_dfn = dfn_step_encodable (cell_at s) i dt f (dfn_at-encodable s dfn_passes)
 
-  answer_is : dfn_after s i dt a ≡ put_report new after.report
+  pub answer_is : dfn_after s i dt a ≡ put_report new after.report
   unfolding dfn_after written
   answer_is = rw (eq-eqb (dfn_return s i dt) 0 h)
 
   pub dfn_answer : Holds 1126 cell_at a (dfn_after s i dt a) (D.stepped (cell_at s) i dt).cell
   dfn_answer = rw answer_is (holds dfn_layout a after.cell stepped_dfn (rw l (lit≤ tt)) (put_report new after.report) 1134 (writes_dfn_report new after.report))
-
-  pub dfn_report_answer : dfn_report_at (dfn_after s i dt a) ≡ (D.stepped (cell_at s) i dt).report
-  dfn_report_answer =
-      let r = dfn_report_encodable (cell_at s) i dt f in
-      ap dfn_report_at answer_is ∙ dfn_report_row_read_back new after.report (rw ((writes_dfn a after.cell stepped_dfn).size ∙ l) (lit≤ tt)) r.numbers r.count

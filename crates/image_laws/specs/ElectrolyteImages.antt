@@ -8,9 +8,9 @@ use Rattle.codec.specs.Words.{word_at, put_word, float_at, put_row}
 use Rattle.electrolyte_parameters.specs.declared.ElectrolyteParams.{ElectrolyteParams}
 use Rattle.electrolyte.specs.declared.ElectrolyteState.{ElectrolyteState}
 use Rattle.electrolyte_images.specs.Images.{electrolyte_params_at, electrolyte_params_numbers, put_electrolyte_params, electrolyte_at, region_numbers, put_regions, put_electrolyte}
-use Rattle.image_laws.specs.Words.{word_read_back}
+use Rattle.image_laws.specs.Words.{word_written}
 use Rattle.image_laws.specs.Encodable.{EncodableRow}
-use Rattle.image_laws.specs.Rows.{Writes, SameWords, same_part, same_below, same_float, writes_then, writes_word, writes_places, place_read_back, row_read_back, row_same}
+use Rattle.image_laws.specs.Rows.{Writes, SameWords, same_part, same_below, same_float, writes_then, writes_word, writes_places, place_read_back, row_written, row_same}
 use Rattle.image_laws.specs.Layout.{Layout}
 use Rattle.image_layout.specs.Layout.{electrolyte_regions, electrolyte_nodes_neg, electrolyte_nodes_sep, electrolyte_nodes_pos, electrolyte_profile, electrolyte_params_bytes, electrolyte_bytes}
 
@@ -107,9 +107,9 @@ module _ (s : List ℕ) (e : ElectrolyteState) (k : EncodableElectrolyte e) wher
       let at : (i j : ℕ) → i < 6 → j ≡ electrolyte_regions + i → float_at e6 j ≡ get_or (region_numbers e) i nan =
       λ i j l m. same_float (same_below {a = 0} {b = electrolyte_nodes_neg} (lit≤ tt) v36) j (omega arith) (omega (arith, l, m)) ∙ place_read_back e1 electrolyte_regions (region_numbers e) (rw v1.size (omega (arith, h))) k.regions i j l m in
       let neg : word_at e6 electrolyte_nodes_neg ≡ e.n_neg =
-      v6.outside electrolyte_nodes_neg (inl (lit≤ tt)) ∙ v5.outside electrolyte_nodes_neg (inl (lit≤ tt)) ∙ v4.outside electrolyte_nodes_neg (inl (lit≤ tt)) ∙ word_read_back e2 electrolyte_nodes_neg e.n_neg (rw l2 (omega (arith, h))) k.neg in
-      let sep : word_at e6 electrolyte_nodes_sep ≡ e.n_sep = v6.outside electrolyte_nodes_sep (inl (lit≤ tt)) ∙ v5.outside electrolyte_nodes_sep (inl (lit≤ tt)) ∙ word_read_back e3 electrolyte_nodes_sep e.n_sep (rw l3 (omega (arith, h))) k.sep in
-      let pos : word_at e6 electrolyte_nodes_pos ≡ e.n_pos = v6.outside electrolyte_nodes_pos (inl (lit≤ tt)) ∙ word_read_back e4 electrolyte_nodes_pos e.n_pos (rw l4 (omega (arith, h))) k.pos in
+      v6.outside electrolyte_nodes_neg (inl (lit≤ tt)) ∙ v5.outside electrolyte_nodes_neg (inl (lit≤ tt)) ∙ v4.outside electrolyte_nodes_neg (inl (lit≤ tt)) ∙ word_written e2 electrolyte_nodes_neg e.n_neg (rw l2 (omega (arith, h))) k.neg in
+      let sep : word_at e6 electrolyte_nodes_sep ≡ e.n_sep = v6.outside electrolyte_nodes_sep (inl (lit≤ tt)) ∙ v5.outside electrolyte_nodes_sep (inl (lit≤ tt)) ∙ word_written e3 electrolyte_nodes_sep e.n_sep (rw l3 (omega (arith, h))) k.sep in
+      let pos : word_at e6 electrolyte_nodes_pos ≡ e.n_pos = v6.outside electrolyte_nodes_pos (inl (lit≤ tt)) ∙ word_written e4 electrolyte_nodes_pos e.n_pos (rw l4 (omega (arith, h))) k.pos in
       rw (
         c_e_of,
         at 0 electrolyte_regions (lit≤ tt) refl,
@@ -121,7 +121,7 @@ module _ (s : List ℕ) (e : ElectrolyteState) (k : EncodableElectrolyte e) wher
         neg,
         sep,
         pos,
-        row_read_back 96 e5 electrolyte_profile e.c_e k.long (rw l5 (omega (arith, h))) k.places,
+        row_written 96 e5 electrolyte_profile e.c_e k.long (rw l5 (omega (arith, h))) k.places,
       )
 
 pub electrolyte_same : (s s' : List ℕ) → SameWords 0 electrolyte_words s s' → electrolyte_at s' ≡ electrolyte_at s

@@ -3,7 +3,8 @@
 -- WHERE TO START
 --   ReadBack   for each call that returns 0: the record, the report, the ending, the number or the solution in its answer is the one that the call's definition gives. Steps
 --              (`particle-step-read-back`, `cell-step-read-back`, `electrolyte-step-read-back`, `dfn-step-read-back`, with their reports), runs (`discharge-read-back`,
---              `replay-read-back`, `cycle-read-back`, `galvanostatic-read-back`), builds (`..-build-read-back`, `ready-..-read-back`), `number-read-back`, `solution-read-back`
+--              `replay-read-back`, `cycle-read-back`, `galvanostatic-read-back`), builds (`..-build-read-back`, `ready-..-read-back`), `number-read-back`; in proofs/ReadBack
+--              the report of a DFN step, `dfn_report_read_back`, and `solution_read_back`
 --   Searches   what a search from C writes: `search-read-back`
 --   Layout     the law that they go by: a record that can be encoded is read back from an answer with room for it, and from its first bytes alone
 --
@@ -14,6 +15,7 @@
 --   CellImages, ElectrolyteImages, DfnImages, Reports   each record is read back from its image, where it can be encoded
 --   CellEncodable, DfnEncodable   what the checks let pass of an image can be encoded, and what a step makes of it
 --   CellSteps, ElectrolyteSteps, DfnSteps, CellRuns, DfnRuns, CellBuilds, DfnBuilds, ReadyRecords, Numbers, Dense   what each call answers can be encoded
+--   In proofs/   Reports, DfnSteps: the report of a DFN step is read back (`dfn_report_row_read_back`, `dfn_report_answer`);  Dense: a solution can be encoded (`solved_encodable`)
 --   Turns      a run of k turns writes at most k rows
 --   Accepted   what it means that a call returns 0;  AnswerLengths: an answer keeps its length
 pub mod Accepted

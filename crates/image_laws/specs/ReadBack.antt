@@ -1,7 +1,7 @@
 -- WHAT IS WRITTEN IS READ BACK, for each call from C that returns 0: the record, the report, the number or the solution in its answer is the one that the
 -- call's definition gives. That the call returns 0 is the only premise: then its lengths are right. A number that an answer repeats is given by its 64 bits, as
 -- C gives it (`f64 bits`). Assumes nothing.
-use Rattle.std.specs.Prelude.{ℕ, ◌≤◌, ◌<◌, ◌^◌, ◌+◌, ◌≡◌, refl, Bool, true, false, cond, List, map, T, eqb, length, take, Float}
+use Rattle.std.specs.Prelude.{ℕ, ◌≤◌, ◌<◌, ◌^◌, ◌+◌, ◌≡◌, refl, Bool, true, false, cond, List, T, eqb, length, take, Float}
 use Rattle.std.proofs.Common.{sym, ap, ◌∙◌, arith, le_refl, eq-eqb, ne_eqb, le-leb, eqb-true}
 use Rattle.std.proofs.Math.Bool.{and-eq-true_iff}
 use Rattle.std.proofs.lemmas.Bool.{lt-leb}
@@ -18,9 +18,7 @@ use Rattle.discharge_run.specs.Discharge as DR
 use Rattle.replay_run.specs.Replay as R
 use Rattle.cycle_run.specs.declared.CycleSettings.{CycleSettings}
 use Rattle.galvanostatic_run.specs.Galvanostatic as GR
-use Rattle.dense.specs.Solve.{solved}
 use Rattle.codec.specs.Words.{word_at, places_at, put_row}
-use Rattle.image_rows.specs.Written.{written}
 use Rattle.sheet_images.specs.Images.{sheet_at, particle_at}
 use Rattle.cell_images.specs.Images.{cell_at}
 use Rattle.electrolyte_images.specs.Images.{electrolyte_params_at, electrolyte_at}
@@ -36,19 +34,18 @@ use Rattle.boundary.specs.Calls as B
 use Rattle.boundary.specs.Runs as BR
 use Rattle.image_laws.specs.Accepted.{after_lengths_lem, accepted, no_refusal}
 use Rattle.image_laws.specs.Encodable.{literal}
-use Rattle.image_laws.specs.Rows.{row_read_back}
+use Rattle.image_laws.specs.Rows.{row_written}
 use Rattle.image_laws.specs.CellImages.{particle_in}
-use Rattle.image_laws.specs.Reports.{cell_report_at, dfn_report_at}
+use Rattle.image_laws.specs.Reports.{cell_report_at}
 use Rattle.image_laws.specs.CellSteps.{particle_answer_lem, cell_answer, sub_steps_answer, report_answer}
 use Rattle.image_laws.specs.CellRuns.{RunHeld, discharge_held, replay_held, cycle_held}
 use Rattle.image_laws.specs.CellBuilds.{particle_built, cell_build_return, cell_build_after, cell_built_lem}
 use Rattle.image_laws.specs.ElectrolyteSteps.{electrolyte_answer}
-use Rattle.image_laws.specs.DfnSteps.{dfn_answer, dfn_report_answer}
+use Rattle.image_laws.specs.DfnSteps.{dfn_answer}
 use Rattle.image_laws.specs.DfnRuns.{dfn_run_answer, dfn_run_ending_answer, dfn_run_rows_answer}
 use Rattle.image_laws.specs.DfnBuilds.{electrolyte_built_lem, dfn_built}
 use Rattle.image_laws.specs.ReadyRecords.{sheet_ready, electrolyte_params_ready, params_ready}
 use Rattle.image_laws.specs.Numbers.{number_answered}
-use Rattle.image_laws.specs.Dense.{solved_encodable, doubles_encodable}
 use Rattle.image_layout.specs.Layout.{cell_sub_steps, particle_bytes, electrolyte_bytes, cell_bytes, cell_run_bytes, cell_step_bytes, phases_bytes, dfn_bytes, dfn_run_bytes, dfn_step_bytes, cell_ending, new_particle_bytes, regions_bytes, new_dfn_bytes, sheet_bytes, electrolyte_params_bytes}
 
 -- ---- steps
@@ -93,13 +90,6 @@ unfolding B.dfn_return B.dfn_after
 dfn_step_read_back s bits dt a h =
     let c = accepted s a dfn_bytes dfn_step_bytes (PS.dfn_return s (f64 bits) dt) (PS.dfn_after s (f64 bits) dt a) h in
     ap (λ (b : List ℕ). I.cell_at (take dfn_bytes b)) c.writes ∙ (dfn_answer s (f64 bits) dt a (literal bits) c.refusal c.answer).first
-
-pub dfn_report_read_back : (s : List ℕ) (bits : ℕ) (dt : Float) (a : List ℕ) → B.dfn_return s (f64 bits) dt (length a) ≡ 0
-    → dfn_report_at (B.dfn_after s (f64 bits) dt a) ≡ (D.stepped (I.cell_at s) (f64 bits) dt).report
-unfolding B.dfn_return B.dfn_after
-dfn_report_read_back s bits dt a h =
-    let c = accepted s a dfn_bytes dfn_step_bytes (PS.dfn_return s (f64 bits) dt) (PS.dfn_after s (f64 bits) dt a) h in
-    ap dfn_report_at c.writes ∙ dfn_report_answer s (f64 bits) dt a (literal bits) c.refusal c.answer
 
 -- ---- runs: the cell, the ending and the count of rows, where the run returns 0 or has written a row. Lengths from C are below 2 ^ 64.
 pub record CellRunReadBack (b : List ℕ) (r : DR.RunOutcome) (places : ℕ) : Type 0 where
@@ -251,16 +241,6 @@ number_read_back call s x y a = go (B.listed call 19) (B.lengths (length s) (num
         let n = number_answered call s x y in
         let l : length a ≡ 8 = eqb-true (length a) 8 ((and-eq-true_iff (eqb (length s) (number_length call)) (eqb (length a) 8)).0 e).1 in
         let z : (number_outcome call s x y).refusal ≡ 0 = rw (d, e) at h in
-        rw (d, e) (row_read_back 1 a 0 (number_outcome call s x y).values (n.one z) (rw l (le_refl 8)) n.places)
+        rw (d, e) (row_written 1 a 0 (number_outcome call s x y).values (n.one z) (rw l (le_refl 8)) n.places)
     go true false d e h = let z : N.bad_length ≡ 0 = rw (d, e) at h in absurd (omega (arith, z))
     go false v d e h = let z : N.sheet ≡ 0 = rw d at h in absurd (omega (arith, z))
-
--- ---- the solution of linear equations, whose right side is a row of doubles
-pub solution_read_back : (m : List Float) (bits : List ℕ) (n : ℕ) (a : List ℕ) → B.dense_return m (map f64 bits) n (length a) ≡ 0
-    → places_at 32 (B.dense_after m (map f64 bits) n a) 0 ≡ (solved m (map f64 bits) n).x
-unfolding B.dense_return B.dense_after written
-solution_read_back m bits n a h =
-    let r = solved m (map f64 bits) n in
-    let c = after_lengths_lem (eqb (length a) 256) r.refusal h in
-    let k = solved_encodable m (map f64 bits) n (doubles_encodable bits) in
-    rw (c.0, eq-eqb r.refusal 0 c.1) (row_read_back 32 a 0 r.x k.count (rw (eqb-true (length a) 256 c.0) (le_refl 256)) k.places)

@@ -9,10 +9,10 @@ use Rattle.codec.specs.Words.{word_at, float_at, put_word, put_row}
 use Rattle.image_rows.specs.Written.{put_ending}
 use Rattle.cell_images.specs.Images as C
 use Rattle.dfn_images.specs.Images as D
-use Rattle.image_laws.specs.Words.{word_read_back}
+use Rattle.image_laws.specs.Words.{word_written}
 use Rattle.image_laws.specs.Encodable.{EncodableRow}
 use Rattle.image_laws.specs.Rows.{Writes, same_below, same_float, writes_then, writes_word, writes_places, place_read_back}
-use Rattle.image_layout.specs.Layout.{cell_report, cell_cutoff, cell_sub_steps, dfn_report, dfn_cutoff, dfn_newton, cell_step_bytes, dfn_step_bytes}
+use Rattle.image_layout.specs.Layout.{cell_report, cell_cutoff, cell_sub_steps, dfn_report, dfn_cutoff, dfn_newton, cell_step_bytes}
 
 -- ---- how a report is read
 -- of a single-particle cell
@@ -73,11 +73,11 @@ module _ (s : List ℕ) (at : ℕ) (x : List Float) (b : Bool) (k : ℕ) where
 
     pub flag_read_back : eqb (word_at put_numbers (at + length x)) 1 ≡ b
     flag_read_back =
-        rw ((writes_word r2 (at + length x + 1) k).outside (at + length x) (inl (omega arith)), word_read_back r1 (at + length x) (cond b 1 0) (rw (writes_places (length x) s at x).size (omega (arith, l))) (flag_most b)) (flag_is b)
+        rw ((writes_word r2 (at + length x + 1) k).outside (at + length x) (inl (omega arith)), word_written r1 (at + length x) (cond b 1 0) (rw (writes_places (length x) s at x).size (omega (arith, l))) (flag_most b)) (flag_is b)
 
     pub count_read_back : k < 2 ^ 64 → word_at put_numbers (at + length x + 1) ≡ k
     count_read_back m =
-        word_read_back r2 (at + length x + 1) k (rw ((writes_word r1 (at + length x) (cond b 1 0)).size, (writes_places (length x) s at x).size) (omega (arith, l))) m
+        word_written r2 (at + length x + 1) k (rw ((writes_word r1 (at + length x) (cond b 1 0)).size, (writes_places (length x) s at x).size) (omega (arith, l))) m
 
 -- ---- a single-particle cell's report
 module _ (s : List ℕ) (r : SpmState) (n : ℕ) where
@@ -110,21 +110,6 @@ module _ (s : List ℕ) (r : DfnStep) where
   unfolding D.put_report
   writes_dfn_report = writes_numbers s dfn_report (D.report_numbers r) r.cutoff r.newton_iter
 
-  pub dfn_report_row_read_back : dfn_step_bytes ≤ length s → EncodableRow (D.report_numbers r) → r.newton_iter < 2 ^ 64 → dfn_report_at (D.put_report s r) ≡ r
-  unfolding dfn_report_at D.put_report
-  dfn_report_row_read_back l h m =
-      let x = reported_read_back s dfn_report (D.report_numbers r) r.cutoff r.newton_iter l h in
-      rw (
-        x 0 dfn_report (lit≤ tt) refl,
-        x 1 (dfn_report + 1) (lit≤ tt) refl,
-        x 2 (dfn_report + 2) (lit≤ tt) refl,
-        x 3 (dfn_report + 3) (lit≤ tt) refl,
-        x 4 (dfn_report + 4) (lit≤ tt) refl,
-        x 5 (dfn_report + 5) (lit≤ tt) refl,
-        flag_read_back s dfn_report (D.report_numbers r) r.cutoff r.newton_iter l,
-        count_read_back s dfn_report (D.report_numbers r) r.cutoff r.newton_iter l m,
-      )
-
 -- ---- a run's ending and its count of rows, from word `at` on
 module _ (s : List ℕ) (at ending rows : ℕ) where
   pub writes_ending : Writes at (at + 1 + 1) s (put_ending s at ending rows)
@@ -134,8 +119,8 @@ module _ (s : List ℕ) (at ending rows : ℕ) where
   module _ (l : (at + 2) * 8 ≤ length s) where
     pub ending_read_back : ending < 2 ^ 64 → word_at (put_ending s at ending rows) at ≡ ending
     unfolding put_ending
-    ending_read_back m = (writes_word (put_word s at ending) (at + 1) rows).outside at (inl (omega arith)) ∙ word_read_back s at ending (omega (arith, l)) m
+    ending_read_back m = (writes_word (put_word s at ending) (at + 1) rows).outside at (inl (omega arith)) ∙ word_written s at ending (omega (arith, l)) m
 
     pub rows_read_back : rows < 2 ^ 64 → word_at (put_ending s at ending rows) (at + 1) ≡ rows
     unfolding put_ending
-    rows_read_back m = word_read_back (put_word s at ending) (at + 1) rows (rw (writes_word s at ending).size (omega (arith, l))) m
+    rows_read_back m = word_written (put_word s at ending) (at + 1) rows (rw (writes_word s at ending).size (omega (arith, l))) m

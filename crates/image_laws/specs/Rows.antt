@@ -6,7 +6,7 @@ use Rattle.std.specs.Float.{nan, binary64}
 use Rattle.std.specs.Float.Ieee.{of_bits, to_bits}
 use Rattle.iterate.specs.Iterate.{first_by, first_length, first_below, first_cong}
 use Rattle.codec.specs.Words.{word_at, put_word, float_at, put_float, put_places, places_at, put_row}
-use Rattle.image_laws.specs.Words.{Outside, word_length, word_other, float_read_back}
+use Rattle.image_laws.specs.Words.{Outside, word_length, word_other, float_written}
 use Rattle.image_laws.specs.Encodable.{EncodableRow}
 
 -- ---- from s to s' at most words a to b - 1 change
@@ -59,7 +59,7 @@ places_read_back (suc n) s at c h f i l =
     let t = put_places n s at c in
     let e : length t ≡ length s = (writes_places n s at c).size in
     ⊎_elim
-    (λ (q : i ≡ n). rw q (float_read_back t (at + n) (get_or c n nan) (rw e (omega (arith, h))) (f.place n)))
+    (λ (q : i ≡ n). rw q (float_written t (at + n) (get_or c n nan) (rw e (omega (arith, h))) (f.place n)))
     (λ (q : i < n). same_float (same_below {a = 0} {b = at + n} (le_refl (at + n)) (writes_float t (at + n) (get_or c n nan))) (at + i) (omega arith) (omega (arith, q)) ∙ places_read_back n s at c (omega (arith, h)) f i q)
     (eq-or-lt_of_le (le_of_suc-le-suc l))
 
@@ -67,9 +67,8 @@ places_read_back (suc n) s at c h f i l =
 pub place_read_back : (s : List ℕ) (at : ℕ) (c : List Float) → (at + length c) * 8 ≤ length s → EncodableRow c → (i k : ℕ) → i < length c → k ≡ at + i → float_at (put_row s at c) k ≡ get_or c i nan
 place_read_back s at c h f i k l e = rw e (places_read_back (length c) s at c h f i l)
 
--- THE ROW THAT IS WRITTEN is read
-pub row_read_back : (n : ℕ) (s : List ℕ) (at : ℕ) (c : List Float) → length c ≡ n → (at + n) * 8 ≤ length s → EncodableRow c → places_at n (put_row s at c) at ≡ c
-row_read_back n s at c e h f =
+pub row_written : (n : ℕ) (s : List ℕ) (at : ℕ) (c : List Float) → length c ≡ n → (at + n) * 8 ≤ length s → EncodableRow c → places_at n (put_row s at c) at ≡ c
+row_written n s at c e h f =
     let r : ℕ → Float = λ k. float_at (put_places (length c) s at c) (at + k) in
     let z : List Float = replicate n (of_bits binary64 0) in
     let m : length (first_by n r z) ≡ n = first_length r z n ∙ length-replicate n (of_bits binary64 0) in
@@ -77,6 +76,10 @@ row_read_back n s at c e h f =
     (λ i l.
     let q : i < n = rw m at l in
     first_below r z n i nan q (rw (length-replicate n (of_bits binary64 0)) (le_refl n)) ∙ places_read_back (length c) s at c (rw e h) f i (rw e q))
+
+-- THE ROW THAT IS WRITTEN is read
+pub row_read_back : (n : ℕ) (s : List ℕ) (at : ℕ) (c : List Float) → length c ≡ n → (at + n) * 8 ≤ length s → EncodableRow c → places_at n (put_row s at c) at ≡ c
+row_read_back n s at c e h f = row_written n s at c e h f
 
 -- rows of the same words
 pub row_same : (n : ℕ) (s s' : List ℕ) (at : ℕ) → SameWords at (at + n) s s' → places_at n s' at ≡ places_at n s at

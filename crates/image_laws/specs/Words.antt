@@ -75,16 +75,23 @@ pub word_other : (s : List ℕ) (k n j : ℕ) → Outside k (k + 1) j → word_a
 unfolding word_at
 word_other s k n j h = rw (word_length s k n) (ap (λ w. cond (leb (j * 8 + 8) (length s)) w 0) (other_bytes s k n j h))
 
+-- (what the theorems here and of the next modules rest on, each by itself)
+pub word_written : (s : List ℕ) (k n : ℕ) → k * 8 + 8 ≤ length s → n < 2 ^ 64 → word_at (put_word s k n) k ≡ n
+unfolding word_at put_word
+word_written s k n h m =
+    rw (le-leb (k * 8 + 8) (length s) h, bytes_length 7 s (k * 8) n, le-leb (k * 8 + 8) (length s) h) (number_read_back 7 s (k * 8) n (omega (arith, h)) m)
+
 -- THE WORD THAT IS WRITTEN is read
 pub word_read_back : (s : List ℕ) (k n : ℕ) → k * 8 + 8 ≤ length s → n < 2 ^ 64 → word_at (put_word s k n) k ≡ n
-unfolding word_at put_word
-word_read_back s k n h m =
-    rw (le-leb (k * 8 + 8) (length s) h, bytes_length 7 s (k * 8) n, le-leb (k * 8 + 8) (length s) h) (number_read_back 7 s (k * 8) n (omega (arith, h)) m)
+word_read_back s k n h m = word_written s k n h m
+
+pub float_written : (s : List ℕ) (k : ℕ) (x : Float) → k * 8 + 8 ≤ length s → T (fits binary64 x) → float_at (put_float s k x) k ≡ x
+unfolding float_at put_float
+float_written s k x h f = rw (word_written s k (to_bits binary64 x) h (to_bits-lt binary64 x f)) (of_bits-to_bits binary64 x f)
 
 -- so is a number that binary64 holds, the NaN too
 pub float_read_back : (s : List ℕ) (k : ℕ) (x : Float) → k * 8 + 8 ≤ length s → T (fits binary64 x) → float_at (put_float s k x) k ≡ x
-unfolding float_at put_float
-float_read_back s k x h f = rw (word_read_back s k (to_bits binary64 x) h (to_bits-lt binary64 x f)) (of_bits-to_bits binary64 x f)
+float_read_back s k x h f = float_written s k x h f
 
 -- a word of the first m bytes
 pub word_take : (m : ℕ) (s : List ℕ) (k : ℕ) → k * 8 + 8 ≤ m → m ≤ length s → word_at (take m s) k ≡ word_at s k

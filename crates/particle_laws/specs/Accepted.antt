@@ -1,14 +1,13 @@
 -- Which calls a particle that passes the checks accepts: those whose own numbers are in the table's ranges, whatever came before them. Assumes nothing.
-use Rattle.std.specs.Prelude.{ℕ, ◌≡◌, refl, cond, List, [], ◌∷◌, eqb}
+use Rattle.std.specs.Prelude.{ℕ, ◌≡◌, cond, List, [], ◌∷◌, eqb}
 use Rattle.std.proofs.Common.{◌∙◌}
 use Rattle.refusal.specs.Numbers.{first_refusal, refusal_unless, load, interval, temperature}
 use Rattle.refusal.specs.Ranges.{load_fits_of, interval_fits, temperature_fits}
-use Rattle.diffusion.specs.Calls.{accepted}
 use Rattle.particle.specs.declared.ParticleDiffusion.{ParticleDiffusion}
 use Rattle.particle.specs.Checks.{particle_refusal}
 use Rattle.particle.specs.Calls.{step_refusal}
-use Rattle.particle_laws.specs.Closure.{step_number, step_stays}
-use Rattle.particle_laws.specs.Demand.{Call, answer, steps, taken}
+use Rattle.particle_laws.specs.Closure.{step_number}
+use Rattle.particle_laws.specs.Demand.{Call, answer}
 use Rattle.binary64.specs.Literals.{«1e13»}
 
 -- the number that a call meets by itself: its flux, interval and temperature
@@ -25,11 +24,3 @@ answer_number p q h = step_number p q.flux q.dt q.temp ∙ rw h
 unfoldable pub fitting : List Call → List Call
 fitting [] = []
 fitting (q ∷ qs) = cond (eqb (call_refusal q) 0) (q ∷ fitting qs) (fitting qs)
-
-accepted_are : (p : ParticleDiffusion) (qs : List Call) (s : ParticleDiffusion) → particle_refusal s ≡ 0 → accepted (steps p) s qs ≡ fitting qs
-unfolding accepted fitting
-accepted_are p [] s h = refl
-accepted_are p (q ∷ qs) s h = rw (answer_number s q h, accepted_are p qs (answer s q).particle (step_stays s q.flux q.dt q.temp h))
-
-pub taken_are : (p : ParticleDiffusion) (qs : List Call) → particle_refusal p ≡ 0 → taken p qs ≡ fitting qs
-taken_are p qs h = accepted_are p qs p h

@@ -4,7 +4,6 @@ use Rattle.std.proofs.Math.Path.{refl, sym, ap}
 use Rattle.std.proofs.Common.{◌∙◌, subst, eqb→eq}
 use Rattle.std.proofs.Math.Bool.{true, false, cond}
 use mathlib.Core.List.{List, [], ◌∷◌, map}
-use borrow.Author.Tests.{eqb-true, eqb-false, eq-eqb, ne_eqb}
 use Rattle.std.proofs.Math.Nat.{zero-add}
 use native.Mathlib.Omega.{arith}
 use Rattle.std.proofs.Math.Dec.{eqb, eqb-suc-zero}
@@ -13,10 +12,9 @@ use Rattle.fraction.specs.Fraction.{Fraction, nat, pow2, ◌-F◌, ◌*F◌, ◌
 use Rattle.binary64.specs.Value.{val}
 use Rattle.electrode.specs.Sheet.{diffusivity_at}
 use Rattle.diffusion.specs.SubStep.{SubStepParams, sub_step}
-use Rattle.diffusion.specs.Exact.{Numbers, exact_step}
+use Rattle.diffusion.specs.Exact.{Numbers}
 use Rattle.diffusion.specs.Premises.{StepConditions, ParametersInRange}
-use Rattle.diffusion.proofs.Profile.{values_at}
-use Rattle.diffusion.specs.Run.{sub_step_params, run, exact_run, Each}
+use Rattle.diffusion.specs.Run.{sub_step_params, run, Each}
 use Rattle.diffusion.specs.Calls.{Stepper, after, accepted, total, exact_after, Lawful}
 use Rattle.diffusion.proofs.CallLaws.{calls_near}
 use Rattle.diffusion.proofs.CallLaws.{each_with}
@@ -27,7 +25,7 @@ use Rattle.particle.specs.Particle.{spacing, place_of, sub_step_params_of}
 use Rattle.particle.specs.Calls.{stepped}
 use Rattle.particle_laws.specs.Ranges.{step_ranged, ranged_parameters}
 use Rattle.particle_laws.specs.Checked.{particle_in_range}
-use Rattle.particle_laws.specs.Closure.{Leads, leads, step_stays, step_refused, step_number, step_params_lem, step_nodes}
+use Rattle.particle_laws.specs.Closure.{Leads, leads, step_stays, step_number, step_params_lem, step_nodes}
 
 -- ---- what is folded
 -- a call of `step`: any floats, NaN and infinities too
@@ -89,6 +87,16 @@ call_params s q = sub_step_params_of s (diffusivity_at s.params q.temp) q.flux q
 same_params : (p s : ParticleDiffusion) (q : Call) → Inv p s → call_params s q ≡ call_params p q
 same_params p s q i = rw (i.sheet, i.nodes)
 
+-- where each call's moves are one, its total is the number of the accepted calls
+one_each : {S Q : Type 0} (a : Stepper S Q) → ((q : Q) → length (a.moves q) ≡ 1) → (qs : List Q) (s : S) → total a s qs ≡ length (accepted a s qs)
+unfolding total accepted
+one_each a m [] s = refl
+one_each {S} {Q} a m (q ∷ qs) s = rw (m q, one_each a m qs (a.step s q)) (go (a.ok s q) (accepted a (a.step s q) qs))
+  where
+    go : (b : Bool) (r : List Q) → cond b 1 0 + length r ≡ length (cond b (q ∷ r) r)
+    go true r = omega arith
+    go false r = zero-add (length r)
+
 module _ (p : ParticleDiffusion) where
   stays : (s : ParticleDiffusion) (q : Call) → Inv p s → Inv p (answer s q).particle
   stays s q i = record {
@@ -115,18 +123,9 @@ module _ (p : ParticleDiffusion) where
       let e = sym (step_number s q.flux q.dt q.temp) ∙ eqb→eq (answer s q).refusal 0 t in
       Each.more (subst ParametersInRange (same_params p s q i) (ranged_parameters (step_ranged s q.flux q.dt q.temp e))) Each.none
 
-  lawful : Lawful (steps p) (Inv p)
-  lawful = record { stays = stays; law = law; ranges = ranges }
-
   -- each accepted call is one sub-step
   counted : (qs : List Call) (s : ParticleDiffusion) → total (steps p) s qs ≡ length (accepted (steps p) s qs)
-  unfolding total accepted
-  counted [] s = refl
-  counted (q ∷ qs) s = ap (λ (k : ℕ). cond (eqb (answer s q).refusal 0) 1 0 + k) (counted qs (answer s q).particle) ∙ go (eqb (answer s q).refusal 0) (accepted (steps p) (answer s q).particle qs)
-    where
-      go : (b : Bool) (r : List Call) → cond b 1 0 + length r ≡ length (cond b (q ∷ r) r)
-      go true r = omega arith
-      go false r = zero-add (length r)
+  counted qs s = one_each (steps p) (λ q. refl) qs s
 
 itself : (p : ParticleDiffusion) → particle_refusal p ≡ 0 → Inv p p
 itself p h = record { passes = h; sheet = refl; nodes = refl }
@@ -140,49 +139,7 @@ pub particle_near : (p : ParticleDiffusion) (qs : List Call) → particle_refusa
     → (i : ℕ) → i < p.n_nodes → place p qs i -F exact_place p qs i within nat (K p qs) *F val p.params.c_s_max /F pow2 49
 particle_near p qs h ks i l =
     let keeps = each_with (λ q k k'. Each.more k Each.none) ks ks in
-    rw (counted p qs p) at (calls_near (steps p) (lawful p) p qs (itself p h) (particle_in_range p h) keeps i l)
-
--- ---- how the fold goes on at a call, from a particle s in the middle of the list
-module _ (p s : ParticleDiffusion) (q : Call) (qs : List Call) (x : List Fraction) where
-  -- an accepted one: a new particle, one exact sub-step, K one more
-  pub record Accepted : Type 0 where
-    pub particle : after (steps p) s (q ∷ qs) ≡ after (steps p) (answer s q).particle qs
-    pub exact : exact_after (steps p) s (q ∷ qs) x ≡ exact_after (steps p) (answer s q).particle qs (exact_step (numbers_of_of p q) x)
-    pub calls : accepted (steps p) s (q ∷ qs) ≡ q ∷ accepted (steps p) (answer s q).particle qs
-
-  pub at_accepted : (answer s q).refusal ≡ 0 → Accepted
-  unfolding after exact_after accepted exact_run
-  at_accepted e = let t = eq-eqb (answer s q).refusal 0 e in record { particle = refl; exact = rw t; calls = rw t }
-
-  -- a refused one: nothing changes
-  pub record Refused : Type 0 where
-    pub particle : after (steps p) s (q ∷ qs) ≡ after (steps p) s qs
-    pub exact : exact_after (steps p) s (q ∷ qs) x ≡ exact_after (steps p) s qs x
-    pub calls : accepted (steps p) s (q ∷ qs) ≡ accepted (steps p) s qs
-
-  pub at_refused : ((answer s q).refusal ≡ 0 → ⊥) → Refused
-  unfolding after exact_after accepted
-  at_refused n =
-      let t = ne_eqb (answer s q).refusal 0 n in
-      let e = step_refused s q.flux q.dt q.temp n in
-      record { particle = rw e; exact = rw (t, e); calls = rw (t, e) }
-
--- K = 0: where no call is accepted, as in an empty list, each node is its exact one
-module _ (p : ParticleDiffusion) where
-  abbrev Idle : List Call → ParticleDiffusion → List Fraction → Type 0
-  Idle qs s x = length (accepted (steps p) s qs) ≡ 0 → (after (steps p) s qs ≡ s) × (exact_after (steps p) s qs x ≡ x)
-
-  idle : (qs : List Call) (s : ParticleDiffusion) (x : List Fraction) → Idle qs s x
-  unfolding after exact_after
-  idle [] s x h = (refl, refl)
-  idle (q ∷ qs) s x h = go (eqb (answer s q).refusal 0) refl (idle qs s x)
-    where
-      go : (b : Bool) → eqb (answer s q).refusal 0 ≡ b → Idle qs s x → (after (steps p) s (q ∷ qs) ≡ s) × (exact_after (steps p) s (q ∷ qs) x ≡ x)
-      go true e f = let y = sym (ap length (at_accepted p s q qs x (eqb-true (answer s q).refusal 0 e)).calls) ∙ h in absurd (omega (arith, y))
-      go false e f =
-          let r = at_refused p s q qs x (eqb-false (answer s q).refusal 0 e) in
-          let i = f (sym (ap length r.calls) ∙ h) in
-          (r.particle ∙ i.0, r.exact ∙ i.1)
-
-  pub particle_equal : (qs : List Call) → K p qs ≡ 0 → (i : ℕ) → place p qs i ≡ exact_place p qs i
-  particle_equal qs h i = let e = idle qs p (map val p.c_s) h in rw (e.0, e.1) (sym (values_at p.c_s i))
+    rw (counted p qs p) at (calls_near (steps p) lawful p qs (itself p h) (particle_in_range p h) keeps i l)
+  where
+    lawful : Lawful (steps p) (Inv p)
+    lawful = record { stays = stays p; law = law p; ranges = ranges p }

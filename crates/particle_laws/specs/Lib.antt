@@ -1,17 +1,18 @@
 -- A particle's calls beyond their contracts: theorem 1 of the third demand, what the calls lead to, and that 8 never comes from them.
 --
 -- WHERE TO START
---   Demand      THEOREM 1, `particle-near`: a particle that passes the checks, a list of calls of any length, each any three floats; where every accepted call keeps 6·D·t ≤ h² and
+--   Demand      THEOREM 1, `particle_near`: a particle that passes the checks, a list of calls of any length, each any three floats; where every accepted call keeps 6·D·t ≤ h² and
 --               2·h·∣flux∣ ≤ D-as-M, every node is within K-as-M / 2 ^ 49 of the exact scheme from the same start, K the number of accepted calls. What is folded is `stepped`, the
---               definition that the contract of `step` cites. `at-accepted` and `at-refused` say what one call does to the particle, to the exact scheme and to K;
---               `particle-equal`: where none is accepted the values are equal;  `after-passes`: after any list of calls the particle passes the checks, so its nodes are finite
---   Instance    the ready graphite sheet, 11 nodes, three steps and two refused calls: every premise computed, and theorem 1 for them
+--               definition that the contract of `step` cites.  `after_passes`: after any list of calls the particle passes the checks, so its nodes are finite
+--   proofs/Demand     `at_accepted` and `at_refused` say what one call does to the particle, to the exact scheme and to K;  `particle_equal`: where none is accepted the values are equal
+--   proofs/Instance   the ready graphite sheet, 11 nodes, three steps and two refused calls: every premise computed, and theorem 1 for them
 --
 -- WHAT ELSE IS PROVED
 --   Closure     `step-passes`: an accepted step leads to a particle that passes the checks again;  `step-refused`: a refused one leaves the particle as it is;
 --               `step-params`, `step-nodes`, `step-unused`: the sheet, the count of nodes and the unused places stay;  `build-passes`: an accepted build passes the checks;
 --               `step-number`: a step's number is settled before it is made, so 8 never comes from it
---   Accepted    `taken-are`: which calls of a list are accepted depends on each call's own numbers alone
+--   Accepted    `answer_number`: a particle that passes the checks answers a call with the number that the call meets by itself;  proofs/Accepted, `taken_are`: which calls of a
+--               list are accepted depends on each call's own numbers alone
 --   Finite      8 never comes from dt_stable, theta_surface, c_avg and theta_avg: `dt-stable-is`, `theta-surface-is`, `c-avg-is`, `theta-avg-is`
 --   Potential   nor from ocp_surface, `ocp-surface-is`: each open-circuit curve is finite wherever the stoichiometry is a number (`open-circuit-sized`)
 --   Nodes       `Node-in`: every node of a sub-step in its ranges is from 0 to c_s_max, whether the two conditions hold or not
@@ -29,4 +30,3 @@ pub mod Demand
 pub mod Accepted
 pub mod Finite
 pub mod Potential
-pub mod Instance

@@ -15,8 +15,9 @@ use Rattle.discharge_run.specs.declared.RunState.{RunState}
 use Rattle.discharge_run.specs.Discharge.{followed, turned, row_of, over_of, last_row_of, started, finished_run, all_turns, all_rows, run_refusal, refused_run, discharged, discharged_rows, discharged_lowest}
 use Rattle.discharge_run.specs.Laws.{turned_rows, turned_refused, run_groups}
 use Rattle.row_search.specs.Search.{of_discharge, searched, full_read}
+use Rattle.row_search.specs.LowestRow.{summary_lowest, summary_kept}
 use Rattle.row_search_laws.specs.FiniteVoltage.{cell_voltage}
-use Rattle.row_search_laws.specs.RunLeft.{Left, turns_left, none_left, Summarized, summarized, search_full}
+use Rattle.row_search_laws.specs.RunLeft.{Left, turns_left, none_left, Summarized, search_full}
 
 -- ---- a turn that is not refused gives a row with a finite voltage
 followed_fine : (w : RunSettings) (r : RunState) (t : SpmStepAnswer) (b : Bool) → eqb t.refusal 0 ≡ b → (t.refusal ≡ 0 → T (finite t.state.voltage))
@@ -65,7 +66,8 @@ module _ (w : RunSettings) (s : SpmSolver) (rows₀ lowest₀ : List Float) wher
   -- EACH PLACE OF THE SUMMARY is its group's lowest voltage, of equals the first, and the places past the groups are as they were
   pub discharge_summarized : Summarized count rows lowest₀ lowest
   unfolding discharged_lowest
-  discharge_summarized = summarized count rows lowest₀ discharge_left
+  discharge_summarized =
+      record { groups = summary_lowest count rows discharge_left.fine lowest₀ discharge_left.groups; kept = summary_kept count rows lowest₀ }
 
   -- THE SEARCH IS THE FULL READ from the first row, for every count up to the run's and every finite voltage
   pub discharge_searched : (k : ℕ) (v : Float) → k ≤ count → T (finite v) → searched of_discharge rows lowest k v ≡ full_read rows k v

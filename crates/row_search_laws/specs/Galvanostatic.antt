@@ -13,10 +13,12 @@ use Rattle.dfn.specs.declared.DfnStepAnswer.{DfnStepAnswer}
 use Rattle.galvanostatic_run.specs.declared.RunSettings.{RunSettings}
 use Rattle.galvanostatic_run.specs.declared.RunState.{RunState}
 use Rattle.galvanostatic_run.specs.Galvanostatic.{followed, turned, row_of, over_of, last_row_of, started, RunOutcome, finished_run, all_turns, all_rows, run_settings, run_refusal, galvanostatic, galvanostatic_rows, galvanostatic_lowest}
-use Rattle.galvanostatic_run.specs.Laws.{turned_rows, turned_refused, run_groups}
+use Rattle.galvanostatic_run.specs.Laws.{turned_rows, run_groups}
+use Rattle.galvanostatic_run.proofs.Laws.{turned_refused}
 use Rattle.row_search.specs.Search.{of_galvanostatic, searched, full_read}
+use Rattle.row_search.specs.LowestRow.{summary_lowest, summary_kept}
 use Rattle.row_search_laws.specs.FiniteVoltage.{dfn_voltage_lem}
-use Rattle.row_search_laws.specs.RunLeft.{Left, turns_left, none_left, Summarized, summarized, search_full}
+use Rattle.row_search_laws.specs.RunLeft.{Left, turns_left, none_left, Summarized, search_full}
 
 -- ---- a turn that is not refused gives a row with a finite voltage
 followed_fine : (w : RunSettings) (r : RunState) (t : DfnStepAnswer) (b : Bool) → eqb t.refusal 0 ≡ b → (t.refusal ≡ 0 → T (finite t.report.voltage))
@@ -71,7 +73,8 @@ module _ (d : DfnSolver) (current dt limit : Float) (rows₀ lowest₀ : List Fl
   -- EACH PLACE OF THE SUMMARY is its group's lowest voltage, of equals the first, and the places past the groups are as they were
   pub galvanostatic_summarized : Summarized count rows lowest₀ lowest
   unfolding galvanostatic_lowest
-  galvanostatic_summarized = summarized count rows lowest₀ galvanostatic_left
+  galvanostatic_summarized =
+      record { groups = summary_lowest count rows galvanostatic_left.fine lowest₀ galvanostatic_left.groups; kept = summary_kept count rows lowest₀ }
 
   -- THE SEARCH IS THE FULL READ from the first row, for every count up to the run's and every finite voltage
   pub galvanostatic_searched : (k : ℕ) (v : Float) → k ≤ count → T (finite v) → searched of_galvanostatic rows lowest k v ≡ full_read rows k v

@@ -8,7 +8,8 @@ use Rattle.runs.specs.Lowest.{summary}
 use Rattle.runs.specs.LowestLaws.{summary_none, summary_length, summary_updated, summary_ends, group_within}
 use Rattle.galvanostatic_run.specs.declared.RunState.{RunState}
 use Rattle.galvanostatic_run.specs.Galvanostatic.{over_of, last_row_of, turned, finished_run, all_turns, all_rows}
-use Rattle.galvanostatic_run.specs.Laws.{turned_rows, turned_refused}
+use Rattle.galvanostatic_run.specs.Laws.{turned_rows}
+use Rattle.galvanostatic_run.proofs.Laws.{turned_refused}
 use borrow.Author.Rules.{rules}
 use Rattle.galvanostatic_run.proofs.run_rows.Goals as goal
 

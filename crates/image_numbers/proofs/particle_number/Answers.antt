@@ -6,22 +6,20 @@ use Rattle.image_numbers.proofs.particle_number.Goals as goal
 pub returns-in-6 : goal.returns-in-6
 unfolding particle_number
 returns-in-6 c =
-    rw c.in-6.is cc
+    rw c.in-6.is c.dt_stable.ensures
 
 pub returns-in-7 : goal.returns-in-7
 unfolding particle_number
-returns-in-7 c =
-    rw c.in-7.is cc
+returns-in-7 c = search rules
 
 pub returns-in-8 : goal.returns-in-8
 unfolding particle_number
-returns-in-8 c =
-    rw c.in-8.is cc
+returns-in-8 c = search rules
 
 pub returns-in-9 : goal.returns-in-9
 unfolding particle_number
 returns-in-9 c =
-    rw c.in-9.is cc
+    rw c.in-9.is c.c_avg.ensures
 
 pub returns-in_default : goal.returns-in_default
 unfolding particle_number

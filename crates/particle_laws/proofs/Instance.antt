@@ -22,7 +22,8 @@ use Rattle.particle.specs.Particle.{spacing, place_of}
 use Rattle.particle.specs.Calls.{new_refusal, fresh, made, step_refusal}
 use Rattle.particle_laws.specs.Closure.{build_passes, step_number, step_moved}
 use Rattle.particle_laws.specs.Demand.{Call, answer, place, exact_place, taken, K, numbers_of_of, particle_near}
-use Rattle.particle_laws.specs.Accepted.{call_refusal, answer_number, fitting, taken_are}
+use Rattle.particle_laws.specs.Accepted.{call_refusal, answer_number, fitting}
+use Rattle.particle_laws.proofs.Accepted.{taken_are}
 
 -- what `new` answers
 abbrev pub start : ParticleDiffusion

@@ -1,0 +1,4 @@
+pub mod Dense
+pub mod Reports
+pub mod DfnSteps
+pub mod ReadBack
