@@ -6,7 +6,8 @@ use Rattle.diffusion.specs.Run.{Each, Both}
 use Rattle.solver.specs.Cell.{cell_refusal}
 use Rattle.solver_laws.specs.Electrodes.{Electrode}
 use Rattle.solver_laws.specs.Demand as SD
-use Rattle.solver_laws.specs.Ranking.{Paired, Twins, Ranked, solver_ranking}
+use Rattle.solver_laws.specs.Ranking.{Paired, Twins, Ranked}
+use Rattle.solver_laws.proofs.Ranking.{solver_ranking}
 use Rattle.cell_images.specs.Images.{cell_at}
 use Rattle.boundary_laws.specs.CallLists.{CCall, image_after, accepted_calls, well_formed_of}
 use Rattle.boundary_laws.specs.StepLists.{cell_steps}

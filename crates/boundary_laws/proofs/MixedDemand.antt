@@ -8,9 +8,10 @@ use Rattle.solver.specs.declared.SpmSolver.{SpmSolver}
 use Rattle.solver.specs.Cell.{cell_refusal}
 use Rattle.solver_laws.specs.Electrodes.{Electrode, nodes_are}
 use Rattle.solver_laws.specs.Demand as SD
+use Rattle.solver_laws.proofs.Demand.{solver_near}
 use Rattle.solver_laws.specs.AcceptedLists.{after_append}
-use Rattle.solver_laws.specs.RunLists.{run_is_list}
-use Rattle.solver_laws.specs.ReplayLists.{replay_is_list}
+use Rattle.solver_laws.proofs.RunLists.{run_is_list}
+use Rattle.solver_laws.proofs.ReplayLists.{replay_is_list}
 use Rattle.cell_images.specs.Images.{cell_at}
 use Rattle.image_builds.specs.Builds.{cell_built}
 use Rattle.image_laws.specs.CellRuns.{image_cycle_is_list}
@@ -59,4 +60,4 @@ pub mixed_images_near : (e : Electrode) (s : List ℕ) (qs : List (CCall CellCal
 mixed_images_near e s qs l h bs i m =
     let z = since_build_in s qs in
     rw (← cell_nodes e (image_after cell_calls s qs) (cell_of z) (mixed_images_are s qs l) i (node_below z.start h i m))
-    (SD.solver_near e z.start z.steps h bs i (rw (nodes_are z.start h e) m))
+    (solver_near e z.start z.steps h bs i (rw (nodes_are z.start h e) m))

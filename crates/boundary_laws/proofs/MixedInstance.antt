@@ -5,7 +5,8 @@ use Rattle.fraction.specs.Fraction.{nat, pow2, ◌-F◌, ◌*F◌, ◌/F◌, ◌
 use Rattle.solver.specs.declared.SpmSolver.{SpmSolver}
 use Rattle.solver_laws.specs.Electrodes.{Electrode}
 use Rattle.solver_laws.specs.Demand as SD
-use Rattle.solver_laws.specs.Instance.{start, start_passes, discharge, discharge_counted, discharge_bounds}
+use Rattle.solver_laws.specs.Instance.{start, start_passes, discharge}
+use Rattle.solver_laws.proofs.Instance.{discharge_counted, discharge_bounds}
 use Rattle.cell_images.specs.Images.{cell_at}
 use Rattle.image_builds.specs.Builds.{build_length}
 use Rattle.boundary_laws.specs.CallLists.{image_after, well_formed_of}

@@ -15,6 +15,7 @@ use Rattle.solver.specs.declared.SpmSolver.{SpmSolver}
 use Rattle.solver.specs.Cell.{cell_refusal}
 use Rattle.solver_laws.specs.Electrodes.{Electrode, nodes_are}
 use Rattle.solver_laws.specs.Demand as SD
+use Rattle.solver_laws.proofs.Demand.{solver_near}
 use Rattle.solver_laws.specs.Closure as SC
 use Rattle.solver_laws.specs.Electrodes as L
 use Rattle.particle.specs.Particle.{place_of}
@@ -82,7 +83,7 @@ cell_images_near e s qs l h bs i m =
     ∙ cell_total w (cell_at s) in
     let node : val (place_of (L.particle_at e (SD.cell_after (cell_at s) w)) i) ≡ node_at e (image_after cell_steps s qs) i =
     ap (λ (b : SpmSolver). val (place_of (L.particle_at e b) i)) (sym cell) ∙ ap val (electrode e (image_after cell_steps s qs) i (node_below (cell_at s) h i m)) in
-    rw (← node, count) (SD.solver_near e (cell_at s) w h (subst (Each (λ q. FluxBound (SD.numbers_at e (cell_at s) q))) calls bs) i (rw (nodes_are (cell_at s) h e) m))
+    rw (← node, count) (solver_near e (cell_at s) w h (subst (Each (λ q. FluxBound (SD.numbers_at e (cell_at s) q))) calls bs) i (rw (nodes_are (cell_at s) h e) m))
   where
     returned : (s : List ℕ) (q : SD.Call) (a : List ℕ) → length s ≡ cell_bytes → cell_steps.returned s q a ≡ B.after_lengths (eqb (length a) cell_step_bytes) (SD.answer (cell_at s) q).refusal
     returned s q a l = unfold B.cell_return in unfold CS.cell_return in rw (eq-eqb (length s) cell_bytes l)

@@ -8,7 +8,7 @@ use Rattle.runs.specs.Lowest.{room_of}
 use Rattle.solver.specs.declared.SpmSolver.{SpmSolver}
 use Rattle.solver_laws.specs.Demand as SD
 use Rattle.solver_laws.specs.ReplayCalls.{calls_of}
-use Rattle.solver_laws.specs.ReplayLists.{rows_bytes}
+use Rattle.solver_laws.proofs.ReplayLists.{rows_bytes}
 use Rattle.solver_laws.specs.CycleCalls.{made_by}
 use Rattle.solver_laws.specs.Instance.{minute, three, draw, no_current, too_long, discharge}
 use Rattle.discharge_run.specs.declared.RunSettings.{RunSettings}

@@ -14,11 +14,13 @@ use Rattle.solver.specs.declared.SpmSolver.{SpmSolver}
 use Rattle.solver.specs.Cell.{cell_refusal}
 use Rattle.solver.specs.Step.{stepped}
 use Rattle.solver_laws.specs.Demand.{Call, answer, cell_after}
-use Rattle.solver_laws.specs.RunLists.{call_of, calls_of, run_is_list, run_passes}
+use Rattle.solver_laws.specs.RunLists.{call_of, calls_of, run_passes}
+use Rattle.solver_laws.proofs.RunLists.{run_is_list}
 use Rattle.solver_laws.specs.ReplayCalls as RC
-use Rattle.solver_laws.specs.ReplayLists.{replay_is_list, replay_room, replay_passes}
+use Rattle.solver_laws.proofs.ReplayLists.{replay_is_list, replay_room, replay_passes}
 use Rattle.solver_laws.specs.CycleCalls as YC
-use Rattle.solver_laws.specs.CycleLists.{cycle_is_list, cycle_room, cycle_passes}
+use Rattle.solver_laws.specs.CycleLists.{cycle_passes}
+use Rattle.solver_laws.proofs.CycleLists.{cycle_is_list, cycle_room}
 use Rattle.discharge_run.specs.declared.RunSettings.{RunSettings}
 use Rattle.discharge_run.specs.declared.RunState.{RunState}
 use Rattle.discharge_run.specs.Discharge.{RunOutcome, run_settings, started, followed, turned, over_of, last_row_of, finished_run, all_turns, run_refusal, refused_run, discharged}
