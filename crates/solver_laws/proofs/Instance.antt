@@ -219,6 +219,7 @@ pub discharge_near : (e : Electrode) (i : ℕ) → i < 11
     → place e start discharge i -F exact_place e start discharge i within nat 66 *F val (particle_at e start).params.c_s_max /F pow2 49
 discharge_near e i l = rw (← discharge_counted) (solver_near e start discharge start_passes (discharge_bounds e) i (rw (nodes_are start start_passes e) l))
 
+-- THEOREM 3: two clocks, refused calls at other places of the two lists
 pub discharge_ranked : Ranked start later discharge stronger
 discharge_ranked =
     solver_ranking start later discharge stronger start_passes later_passes twins discharge_bounds stronger_bounds
