@@ -78,11 +78,11 @@ class Library:
 
     def find(self, module, name):
         """The declaration that a module's path and a name mean, or None for the kit's."""
-        m = re.fullmatch(r"Rattle\.(\w+)\.specs\.(.+)", module)
+        m = re.fullmatch(r"Rattle\.(\w+)\.(specs|proofs)\.(.+)", module)
         rust = re.fullmatch(r"(\w+)(?:::\w+)+", module)
-        if rust or (m and m.group(2).startswith("declared.")):
+        if rust or (m and m.group(3).startswith("declared.")):
             folder = TOP / "crates" / (rust or m).group(1) / "src"
-            name = name if rust else next(w for w in m.group(2).split(".")[1:] if w[0].isupper())
+            name = name if rust else next(w for w in m.group(3).split(".")[1:] if w[0].isupper())
             for path in sorted(folder.rglob("*.rt")):
                 for d in self.source(path).declared:
                     if d.name == name:
@@ -90,7 +90,7 @@ class Library:
             return None
         if not m:
             return None
-        path = TOP / "crates" / m.group(1) / "specs" / (m.group(2).replace(".", "/") + ".antt")
+        path = TOP / "crates" / m.group(1) / m.group(2) / (m.group(3).replace(".", "/") + ".antt")
         if not path.exists():
             return None
         for d in self.source(path).declared:
@@ -123,22 +123,24 @@ def contracts(path):
 
 
 def cited(library, names):
-    """The theorems and definitions that docs/CLAIMS.md names with their file; one named `specs/FILE` is of the crate named last before it."""
+    """The theorems and definitions that docs/CLAIMS.md names with their file, in specs/ or proofs/; one named with no crate is of the crate named last before it."""
     missing = []
     for line in CLAIMS.read_text(encoding="utf-8").splitlines():
-        for m in re.finditer(r"(?:(\w+)/)?(?:specs/)?\{?([A-Z]\w*): ([^`}]+)", line):
+        for m in re.finditer(r"(?:(\w+)/)?(?:(?:specs|proofs)/)?\{?([A-Z]\w*): ([^`}]+)", line):
             before = [m.group(1)] if m.group(1) in names else [w for w in re.findall(r"\w+", line[:m.start()]) if w in names][-1:]
-            path = TOP / "crates" / (before or ["-"])[0] / "specs" / f"{m.group(2)}.antt"
-            if not path.exists():
+            paths = [TOP / "crates" / (before or ["-"])[0] / part / f"{m.group(2)}.antt" for part in ("specs", "proofs")]
+            paths = [path for path in paths if path.exists()]
+            if not paths:
                 continue
             declared = {}
-            for d in library.source(path).declared:
-                declared.setdefault(d.name, d)
+            for path in paths:
+                for d in library.source(path).declared:
+                    declared.setdefault(d.name, d)
             for item in m.group(3).split(", "):
                 if item in declared:
                     yield declared[item]
-                elif not (path.parent / f"{item}.antt").exists():
-                    missing.append(f"{path.relative_to(TOP)} has no {item}")
+                elif not any((path.parent / f"{item}.antt").exists() for path in paths) and not any(re.search(rf"^  pub {re.escape(item)} :", path.read_text(encoding="utf-8"), re.M) for path in paths):
+                    missing.append(f"{paths[0].relative_to(TOP)} has no {item}")
     if missing:
         sys.exit("docs/CLAIMS.md: " + "; ".join(missing))
 
@@ -209,9 +211,9 @@ def in_order(paths, names):
         if path.suffix == ".antt":
             text = path.read_text(encoding="utf-8")
             for i in imports(text):
-                m = re.fullmatch(rf"Rattle\.{of_crate(path)}\.specs\.(.+)", i.path)
-                near = path.parent / (m.group(1).replace(".", "/") + ".antt") if m else None
-                if near in paths:
+                m = re.fullmatch(rf"Rattle\.{of_crate(path)}\.(specs|proofs)\.(.+)", i.path)
+                near = TOP / "crates" / of_crate(path) / m.group(1) / (m.group(2).replace(".", "/") + ".antt") if m else None
+                if near in paths and near != path:
                     put(near)
         out.append(path)
 

@@ -41,19 +41,6 @@ def roots(names):
                 yield path, without_comments(path.read_text(encoding="utf-8"), "--")
 
 
-def find(library, module, name):
-    """As the library's, and in proofs too."""
-    m = re.fullmatch(r"Rattle\.(\w+)\.proofs\.(.+)", module)
-    if not m:
-        return library.find(module, name)
-    path = TOP / "crates" / m.group(1) / "proofs" / (m.group(2).replace(".", "/") + ".antt")
-    if path.exists():
-        for d in library.source(path).declared:
-            if d.name == name or (d.kind == "data" and name in words(d.type)):
-                return d
-    return None
-
-
 def main():
     names, library = crates(), Library()
     everything = []
@@ -66,7 +53,7 @@ def main():
 
     def follow(path, text, line=None):
         for meaning in [*library.source(path).meanings(text, line), *in_attributes(path, text)]:
-            d = find(library, *meaning) if isinstance(meaning, tuple) else meaning
+            d = library.find(*meaning) if isinstance(meaning, tuple) else meaning
             if d is not None and d not in reached:
                 reached.add(d)
                 queue.append(d)

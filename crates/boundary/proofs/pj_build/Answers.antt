@@ -20,21 +20,24 @@ returns-then-not-lengths_fit c =
     let build-length = c.build_length in
     let if1 = c.if-not-is_listed in
     let is-listed = c.is_listed in
-    record { number = rw (
-      ← is-listed.ensures,
-      if1.false,
-      ← build-length.ensures,
-      ← built-length.ensures,
-      ← lengths-fit.ensures,
-      c.if-not-lengths_fit.true,
-    ) refl; written = rw (
-      ← is-listed.ensures,
-      if1.false,
-      ← build-length.ensures,
-      ← built-length.ensures,
-      ← lengths-fit.ensures,
-      c.if-not-lengths_fit.true,
-    ) refl }
+    record {
+      number = rw (
+        ← is-listed.ensures,
+        if1.false,
+        ← build-length.ensures,
+        ← built-length.ensures,
+        ← lengths-fit.ensures,
+        c.if-not-lengths_fit.true,
+      ) refl;
+      written = rw (
+        ← is-listed.ensures,
+        if1.false,
+        ← build-length.ensures,
+        ← built-length.ensures,
+        ← lengths-fit.ensures,
+        c.if-not-lengths_fit.true,
+      ) refl;
+    }
 
 pub returns-then-call-le6 : goal.returns-then-call-le6
 unfolding after_lengths build_return build_after
@@ -47,23 +50,26 @@ returns-then-call-le6 c =
     let if1 = c.if-not-is_listed in
     let is-listed = c.is_listed in
     let args = c.args in
-    record { number = rw (
-      ← is-listed.ensures,
-      if1.false,
-      ← build-length.ensures,
-      ← built-length.ensures,
-      ← lengths-fit.ensures,
-      if2.false,
-      le-leb args.call 6 (omega arith),
-    ) refl; written = rw (
-      ← is-listed.ensures,
-      if1.false,
-      ← build-length.ensures,
-      ← built-length.ensures,
-      ← lengths-fit.ensures,
-      if2.false,
-      le-leb args.call 6 (omega arith),
-    ) put-ready.ensures }
+    record {
+      number = rw (
+        ← is-listed.ensures,
+        if1.false,
+        ← build-length.ensures,
+        ← built-length.ensures,
+        ← lengths-fit.ensures,
+        if2.false,
+        le-leb args.call 6 (omega arith),
+      ) refl;
+      written = rw (
+        ← is-listed.ensures,
+        if1.false,
+        ← build-length.ensures,
+        ← built-length.ensures,
+        ← lengths-fit.ensures,
+        if2.false,
+        le-leb args.call 6 (omega arith),
+      ) put-ready.ensures;
+    }
 
 pub returns : goal.returns
 unfolding after_lengths build_return build_after
@@ -76,20 +82,23 @@ returns c =
     let if1 = c.if-not-is_listed in
     let is-listed = c.is_listed in
     let args = c.args in
-    record { number = rw (
-      ← is-listed.ensures,
-      if1.false,
-      ← build-length.ensures,
-      ← built-length.ensures,
-      ← lengths-fit.ensures,
-      if2.false,
-      lt-leb args.call 6 (omega arith),
-    ) put-new.ensures.number; written = rw (
-      ← is-listed.ensures,
-      if1.false,
-      ← build-length.ensures,
-      ← built-length.ensures,
-      ← lengths-fit.ensures,
-      if2.false,
-      lt-leb args.call 6 (omega arith),
-    ) put-new.ensures.written }
+    record {
+      number = rw (
+        ← is-listed.ensures,
+        if1.false,
+        ← build-length.ensures,
+        ← built-length.ensures,
+        ← lengths-fit.ensures,
+        if2.false,
+        lt-leb args.call 6 (omega arith),
+      ) put-new.ensures.number;
+      written = rw (
+        ← is-listed.ensures,
+        if1.false,
+        ← build-length.ensures,
+        ← built-length.ensures,
+        ← lengths-fit.ensures,
+        if2.false,
+        lt-leb args.call 6 (omega arith),
+      ) put-new.ensures.written;
+    }

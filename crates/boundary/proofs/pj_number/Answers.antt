@@ -36,19 +36,22 @@ returns-in-Value c =
     let if1 = c.if-not-is_listed in
     let is-listed = c.is_listed in
     let r = (value_answered _ _ _ _ (ap outcome_of (sym c.in-Value.is) ∙ number_of.ensures) write-f64.ensures) in
-    record { number = rw (
-      ← is-listed.ensures,
-      if1.false,
-      ← number-length.ensures,
-      ← lengths-fit.ensures,
-      if2.false,
-    ) r.0; written = rw (
-      ← is-listed.ensures,
-      if1.false,
-      ← number-length.ensures,
-      ← lengths-fit.ensures,
-      if2.false,
-    ) r.1 }
+    record {
+      number = rw (
+        ← is-listed.ensures,
+        if1.false,
+        ← number-length.ensures,
+        ← lengths-fit.ensures,
+        if2.false,
+      ) r.0;
+      written = rw (
+        ← is-listed.ensures,
+        if1.false,
+        ← number-length.ensures,
+        ← lengths-fit.ensures,
+        if2.false,
+      ) r.1;
+    }
 
 pub returns-in-Refused : goal.returns-in-Refused
 unfolding number_call
@@ -60,16 +63,19 @@ returns-in-Refused c =
     let if1 = c.if-not-is_listed in
     let is-listed = c.is_listed in
     let r = (refusal_answered _ _ _ (ap outcome_of (sym c.in-Refused.is) ∙ number_of.ensures)) in
-    record { number = rw (
-      ← is-listed.ensures,
-      if1.false,
-      ← number-length.ensures,
-      ← lengths-fit.ensures,
-      if2.false,
-    ) r.0; written = rw (
-      ← is-listed.ensures,
-      if1.false,
-      ← number-length.ensures,
-      ← lengths-fit.ensures,
-      if2.false,
-    ) r.1 }
+    record {
+      number = rw (
+        ← is-listed.ensures,
+        if1.false,
+        ← number-length.ensures,
+        ← lengths-fit.ensures,
+        if2.false,
+      ) r.0;
+      written = rw (
+        ← is-listed.ensures,
+        if1.false,
+        ← number-length.ensures,
+        ← lengths-fit.ensures,
+        if2.false,
+      ) r.1;
+    }

@@ -17,8 +17,7 @@ returns-then-number-ne0 c =
 
 pub run_rows-requires : goal.run_rows-requires
 unfolding started
-run_rows-requires c =
-    (
+run_rows-requires c = (
   rw c.start.ensures,
   (omega arith, (omega arith, run_groups _ _ _ (sym c.run_refusal-number.ensures ∙ c.if-number-ne0.false))),
 )

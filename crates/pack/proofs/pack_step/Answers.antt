@@ -21,11 +21,10 @@ within n k = by_tests (ltb k n) (leb 1 n) (leb n 32) refl refl
 
 pub returns-then-refused-ne0 : goal.returns-then-refused-ne0
 unfolding pack_answer pack_cells
-returns-then-refused-ne0 c =
-    (
-      rw (c.refused_move.ensures, ← c.place_refusal-refused.ensures, ne_eqb _ _ c.if-refused-ne0.true),
-      rw (← c.place_refusal-refused.ensures, ne_eqb _ _ c.if-refused-ne0.true),
-    )
+returns-then-refused-ne0 c = (
+  rw (c.refused_move.ensures, ← c.place_refusal-refused.ensures, ne_eqb _ _ c.if-refused-ne0.true),
+  rw (← c.place_refusal-refused.ensures, ne_eqb _ _ c.if-refused-ne0.true),
+)
 
 pub offset_bounds-cells-index : goal.offset_bounds-cells-index
 offset_bounds-cells-index c =
@@ -39,8 +38,7 @@ unfolding pack_answer pack_cells
 returns c =
     let xs = c.args.cells.now in
     let w : (c.args.index < length xs) × (length xs ≤ 32) = within _ _ (sym c.place_refusal-refused.ensures ∙ c.if-refused-ne0.false) in
-    let e = get_or_default xs c.args.index blank (record { c_neg = []; c_pos = []; time_s = nan }) w.0 in
-    (
+    let e = get_or_default xs c.args.index blank (record { c_neg = []; c_pos = []; time_s = nan }) w.0 in (
       rw (← c.place_refusal-refused.ensures, eq-eqb _ _ c.if-refused-ne0.false, e) c.step_in_place.ensures.0,
       rw (← c.place_refusal-refused.ensures, eq-eqb _ _ c.if-refused-ne0.false, e) (ap (set xs c.args.index) c.step_in_place.ensures.1),
     )

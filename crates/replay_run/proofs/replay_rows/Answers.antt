@@ -2,6 +2,10 @@
 use Prim.Native.Nat.{ℕ, ◌+◌, ◌-◌}
 use mathlib.Core.Path.{◌≡◌, refl, ◌∙◌, ap}
 use native.Mathlib.Omega.{arith}
+use Rattle.std.specs.Prelude.{List, Float, get_or, ◌*◌}
+use Rattle.std.specs.Float.{nan}
+use Rattle.array_update.specs.ArrayUpdate.{places_by}
+use Rattle.runs.specs.Endings.{by_refusal}
 use Rattle.runs.specs.Rows.{run_after, rows_after}
 use Rattle.runs.specs.Laws.{Going, going_on, over_at_once, ends_refused, ends_stopped, ends_full}
 use Rattle.replay_run.specs.declared.ReplayState.{ReplayState}
@@ -66,20 +70,21 @@ shape_of-out-then-run-ne-GOING-2 c =
     let loop = c.loop-i in
     put-row.auto.out ∙ loop.invariant.0.long
 
-pub returns-then-run-ne-GOING-2 : goal.returns-then-run-ne-GOING-2
+pub returns-then-run-ne-GOING-2-clause-result : goal.returns-then-run-ne-GOING-2-clause-result
 unfolding all_turns all_rows
-returns-then-run-ne-GOING-2 c =
-    let if3 = c.if-run-ne-GOING-2 in
-    let put-row = c.put_row in
-    let row_of = c.row_of in
-    let if2 = c.if-run-eq-REFUSED in
-    let turn = c.turn-run in
-    let loop-test = c.loop-i-test in
-    let loop = c.loop-i in
-    let args = c.args in
-    let q = ends_stopped over_of (turned args.text.now args.temp_k) last_row_of _ _ _ _ _ _ loop.invariant.0 _ _ _ turn.ensures if2.false row_of.ensures put-row.ensures loop-test.true
-    if3.true in
-    record { result = c.finished-then-run-ne-GOING-2.ensures ∙ ap finished_replay q.0; rows = q.1 }
+returns-then-run-ne-GOING-2-clause-result c =
+    let q = ends_stopped over_of (turned c.args.text.now c.args.temp_k) last_row_of _ _ _ _ _ _ c.loop-i.invariant.0 _ _ _ c.turn-run.ensures c.if-run-eq-REFUSED.false c.row_of.ensures c.put_row.ensures
+    c.loop-i-test.true c.if-run-ne-GOING-2.true in
+    c.finished-then-run-ne-GOING-2.ensures ∙ ap finished_replay q.0
+
+pub returns-then-run-ne-GOING-2-clause-rows : goal.returns-then-run-ne-GOING-2-clause-rows
+unfolding all_turns all_rows places_by
+returns-then-run-ne-GOING-2-clause-rows c =
+    let x = c.turn-run.result in
+    let n : over_of x ≡ by_refusal → ⊥ = search rules in
+    let q : (out' : List Float) → out' ≡ places_by (c.loop-i.i * 8) 8 (λ j. get_or (last_row_of x) j nan) c.loop-i.out → out' ≡ all_rows c.args.text.now c.args.temp_k c.args.first c.args.total c.args.out.now =
+    λ out' h. (ends_stopped over_of (turned c.args.text.now c.args.temp_k) last_row_of _ _ _ _ _ _ c.loop-i.invariant.0 x (last_row_of x) out' c.turn-run.ensures n refl h c.loop-i-test.true c.if-run-ne-GOING-2.true).1 in
+    q _ cc
 
 pub loop-i-smaller : goal.loop-i-smaller
 loop-i-smaller c =
