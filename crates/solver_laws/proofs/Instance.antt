@@ -196,14 +196,14 @@ stronger_drawn : Drawn four later stronger
 stronger_drawn = drawn four currents_fit.1 later later_made clocks.1.0 clocks.1.1 Each.none (Each.more refuses_no_current (Each.more refuses_too_long Each.none)) Each.none
 
 -- which calls are accepted, and how many sub-steps they have
+pub discharge_calls : DischargeCalls
+discharge_calls = record { discharge_taken = discharge_drawn.calls; discharge_counted = discharge_drawn.count }
+
 pub discharge_taken : taken start discharge ≡ draw three minute ∷ draw three one ∷ []
-discharge_taken = discharge_drawn.calls
+discharge_taken = discharge_calls.discharge_taken
 
 pub discharge_counted : K start discharge ≡ 66
-discharge_counted = discharge_drawn.count
-
-pub discharge_calls : DischargeCalls
-discharge_calls = record { discharge_taken = discharge_taken; discharge_counted = discharge_counted }
+discharge_counted = discharge_calls.discharge_counted
 
 pub stronger_taken : taken later stronger ≡ draw four minute ∷ draw four one ∷ []
 stronger_taken = stronger_drawn.calls
