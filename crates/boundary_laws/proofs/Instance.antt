@@ -10,8 +10,7 @@ use Rattle.solver_laws.specs.Electrodes.{Electrode}
 use Rattle.solver_laws.specs.Demand as SD
 use Rattle.solver_laws.specs.Ranking.{Twins}
 use Rattle.solver_laws.specs.Instance.{start, later, start_passes, later_passes, twins, minute, three, four, draw, discharge, stronger, stronger_paired}
-use Rattle.solver_laws.proofs.Instance.{discharge_taken, discharge_counted}
-use Rattle.solver_laws.proofs.Instance.{discharge_bounds, stronger_taken, stronger_bounds}
+use Rattle.solver_laws.proofs.Instance.{discharge_taken, discharge_counted, discharge_bounds, stronger_taken, stronger_bounds}
 use Rattle.cell_images.specs.Images.{cell_at}
 use Rattle.boundary_laws.specs.CallLists.{CCall, image_after, accepted_calls, well_formed_of}
 use Rattle.boundary_laws.specs.StepLists.{cell_steps, reported_sub_steps}

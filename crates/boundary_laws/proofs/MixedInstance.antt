@@ -6,8 +6,7 @@ use Rattle.solver.specs.declared.SpmSolver.{SpmSolver}
 use Rattle.solver_laws.specs.Electrodes.{Electrode}
 use Rattle.solver_laws.specs.Demand as SD
 use Rattle.solver_laws.specs.Instance.{start, start_passes, discharge}
-use Rattle.solver_laws.proofs.Instance.{discharge_counted}
-use Rattle.solver_laws.proofs.Instance.{discharge_bounds}
+use Rattle.solver_laws.proofs.Instance.{discharge_counted, discharge_bounds}
 use Rattle.cell_images.specs.Images.{cell_at}
 use Rattle.image_builds.specs.Builds.{build_length}
 use Rattle.boundary_laws.specs.CallLists.{image_after, well_formed_of}

@@ -1,4 +1,4 @@
--- The clock of a cell stays finite, for the largest finite number and a day add up to that number again; so 8 never comes from a step of the cell. Assumes nothing.
+-- A step that is accepted is accepted again by the cell that it leaves. Assumes nothing.
 use Rattle.std.specs.Prelude.{◌≡◌, T, Float}
 use Rattle.std.proofs.Common.{sym, ap, ◌∙◌}
 use Rattle.std.specs.Float.{binary64}

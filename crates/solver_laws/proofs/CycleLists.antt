@@ -128,12 +128,12 @@ module _ (l : List Phase) (g : CycleSettings) (s : SpmSolver) where
 
   -- ---- the endings, one by one
   -- DONE is the ending where no phase is left: the last one has ended
-  pub cycle_done : (places : ℕ) → cycle_refusal l g s places ≡ 0 → none_left_of (phases_left l g s (rows_of l g s places)) ≡ true → (cycled l g s places).ended ≡ record { ending = by_done; refusal = 0 }
-  unfolding ended_after
-  cycle_done places h n = cycle_ends places h ∙ rw n
-
   pub done_cycle : DoneCycle l g s
-  done_cycle = record { cycle_done = cycle_done }
+  unfolding ended_after
+  done_cycle = record { cycle_done = λ places h n. cycle_ends places h ∙ rw n }
+
+  pub cycle_done : (places : ℕ) → cycle_refusal l g s places ≡ 0 → none_left_of (phases_left l g s (rows_of l g s places)) ≡ true → (cycled l g s places).ended ≡ record { ending = by_done; refusal = 0 }
+  cycle_done places h n = done_cycle.cycle_done places h n
 
   -- and only there
   pub cycle_done_only : (places : ℕ) → (cycled l g s places).ended.ending ≡ by_done → none_left_of (phases_left l g s (rows_of l g s places)) ≡ true

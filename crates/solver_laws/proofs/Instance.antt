@@ -196,14 +196,14 @@ stronger_drawn : Drawn four later stronger
 stronger_drawn = drawn four currents_fit.1 later later_made clocks.1.0 clocks.1.1 Each.none (Each.more refuses_no_current (Each.more refuses_too_long Each.none)) Each.none
 
 -- which calls are accepted, and how many sub-steps they have
+pub discharge_calls : DischargeCalls
+discharge_calls = record { discharge_taken = discharge_drawn.calls; discharge_counted = discharge_drawn.count }
+
 pub discharge_taken : taken start discharge ≡ draw three minute ∷ draw three one ∷ []
-discharge_taken = discharge_drawn.calls
+discharge_taken = discharge_calls.discharge_taken
 
 pub discharge_counted : K start discharge ≡ 66
-discharge_counted = discharge_drawn.count
-
-pub discharge_calls : DischargeCalls
-discharge_calls = record { discharge_taken = discharge_taken; discharge_counted = discharge_counted }
+discharge_counted = discharge_calls.discharge_counted
 
 pub stronger_taken : taken later stronger ≡ draw four minute ∷ draw four one ∷ []
 stronger_taken = stronger_drawn.calls
@@ -219,6 +219,7 @@ pub discharge_near : (e : Electrode) (i : ℕ) → i < 11
     → place e start discharge i -F exact_place e start discharge i within nat 66 *F val (particle_at e start).params.c_s_max /F pow2 49
 discharge_near e i l = rw (← discharge_counted) (solver_near e start discharge start_passes (discharge_bounds e) i (rw (nodes_are start start_passes e) l))
 
+-- THEOREM 3: two clocks, refused calls at other places of the two lists
 pub discharge_ranked : Ranked start later discharge stronger
 discharge_ranked =
     solver_ranking start later discharge stronger start_passes later_passes twins discharge_bounds stronger_bounds

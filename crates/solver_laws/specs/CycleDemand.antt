@@ -1,5 +1,5 @@
 -- THEOREMS 2 AND 3 for cycles of phases: the cell that a cycle leaves is near the exact scheme, and of two cycles whose rows are paired the one with the greater currents leaves more in the
--- cathode and less in the anode. Assumes nothing.
+-- cathode and less in the anode: proofs/CycleDemand. Here the bound that is asked of the phases. Definitions only.
 use Rattle.std.specs.Prelude.{ℕ, ◌<◌, List}
 use Rattle.diffusion.specs.Premises.{FluxBound}
 use Rattle.solver.specs.declared.SpmSolver.{SpmSolver}

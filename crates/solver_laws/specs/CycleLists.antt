@@ -1,5 +1,5 @@
 -- A cycle of phases is a list of the solver's calls, one for each row: row j is the solver's own step with the current of the phase then under way on the cell that the rows before left;
--- and how a cycle ends. Assumes nothing.
+-- and how a cycle ends: what the theorems of proofs/CycleLists are stated by. Assumes nothing.
 use Rattle.std.specs.Prelude.{ℕ, ◌<◌, ◌≡◌, ◌&&◌, List}
 use Rattle.std.proofs.Common.{zero-lt-suc}
 use Rattle.std.proofs.Math.Bool.{true, false}

@@ -1,4 +1,4 @@
--- THEOREM 2 of the third demand: a cell, any list of calls of `step`, refused ones among them, and at each electrode the exact scheme beside it. Assumes nothing.
+-- THEOREM 2 of the third demand: a cell, any list of calls of `step`, refused ones among them, and at each electrode the exact scheme beside it: its statement, `SolverNear`, which proofs/Demand proves (`solver_near`). Assumes nothing.
 use Rattle.std.specs.Prelude.{ℕ, ◌+◌, ◌<◌, ◌≡◌, cond, eqb, Float, get_or, replicate}
 use Rattle.std.proofs.Math.Path.{refl}
 use Rattle.std.proofs.Common.{ap, ◌∙◌, arith}

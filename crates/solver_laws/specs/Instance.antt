@@ -240,7 +240,7 @@ clocks = ((tt, tt), (tt, tt))
 pub start_made : Inv start start
 start_made = itself start start_passes
 
--- THEOREM 3: two clocks, refused calls at other places of the two lists
+-- 3 A and 4 A are paired
 more_current : T (le three four)
 unfolding le of_bits
 more_current = tt

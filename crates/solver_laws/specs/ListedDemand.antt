@@ -1,4 +1,4 @@
--- THEOREMS 2 AND 3 for cells that lists of accepted calls leave (`Listed`), as runs, replays and cycles do. Assumes nothing.
+-- THEOREMS 2 AND 3 for cells that lists of accepted calls leave (`Listed`), as runs, replays and cycles do: proofs/ListedDemand. Here what they ask and give. Definitions only.
 use Rattle.std.specs.Prelude.{ℕ, ◌<◌, List}
 use Rattle.fraction.specs.Fraction.{nat, pow2, ◌+F◌, ◌-F◌, ◌*F◌, ◌/F◌, ◌≤F◌}
 use Rattle.binary64.specs.Value.{val}

@@ -1,4 +1,5 @@
--- THEOREM 3 of the third demand: of two lists of calls the one with the greater currents leaves more in the cathode and less in the anode, but for the roundings. Assumes nothing.
+-- THEOREM 3 of the third demand: of two lists of calls the one with the greater currents leaves more in the cathode and less in the anode, but for the roundings: its statement, `SolverRanking`,
+-- which proofs/Ranking proves (`solver_ranking`). Definitions only.
 use Rattle.std.specs.Prelude.{ℕ, ◌<◌, ◌≡◌, List, T}
 use Rattle.std.specs.Float.Ieee.{le}
 use Rattle.fraction.specs.Fraction.{nat, pow2, ◌+F◌, ◌-F◌, ◌*F◌, ◌/F◌, ◌≈F◌, ◌≤F◌}

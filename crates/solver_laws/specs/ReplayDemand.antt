@@ -1,5 +1,5 @@
 -- THEOREMS 2 AND 3 for replays of recorded loads: the cell that a replay leaves is near the exact scheme, and of two replays the one with the greater currents leaves more in the cathode
--- and less in the anode. Assumes nothing.
+-- and less in the anode: proofs/ReplayDemand. Here the bound that is asked of the lines. Definitions only.
 use Rattle.std.specs.Prelude.{ℕ, ◌<◌, List, Float}
 use Rattle.diffusion.specs.Premises.{FluxBound}
 use Rattle.solver.specs.declared.SpmSolver.{SpmSolver}

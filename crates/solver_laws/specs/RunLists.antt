@@ -1,4 +1,5 @@
--- The rows of a run are a list of the solver's calls, so theorem 2 holds of the cell that the run leaves, and theorem 3 of those that two runs leave. Assumes nothing.
+-- The rows of a run are a list of the solver's calls, so theorem 2 holds of the cell that the run leaves, and theorem 3 of those that two runs leave: the list,
+-- and the statement of theorem 2 (`RunNear`); the theorems stand in proofs/RunLists. Assumes nothing.
 use Rattle.std.specs.Prelude.{ℕ, ◌*◌, ◌<◌, ◌≡◌, List, replicate}
 use Rattle.fraction.specs.Fraction.{nat, pow2, ◌-F◌, ◌*F◌, ◌/F◌, ◌within◌}
 use Rattle.binary64.specs.Value.{val}
