@@ -5,11 +5,11 @@ use Rattle.std.specs.Float.{nan, inf, fin}
 use Rattle.std.specs.Float.Ieee.{le, lt, add, of_bits}
 use Rattle.std.specs.Float.Ieee.Scale.{finite}
 use Rattle.std.specs.Float.Ieee.Fits.{and_i}
-use Rattle.fraction.specs.Field.{≈F-refl, ≤F-of-≈F, ≤F-trans, le_of_lt}
+use Rattle.fraction.proofs.Field.{≈F-refl, ≤F-of-≈F, ≤F-trans, le_of_lt}
 use Rattle.binary64.specs.Operators.{◌⊕◌}
-use Rattle.binary64.specs.Value.{le_val, val_le, lt_val}
+use Rattle.binary64.proofs.Value.{le_val, val_le, lt_val}
 use Rattle.binary64.specs.Order.{not→lt}
-use Rattle.binary64.specs.OrderLaws.{add_le}
+use Rattle.binary64.proofs.OrderLaws.{add_le}
 use Rattle.binary64.specs.Literals.{«0·0»}
 use Rattle.min_max.specs.MinMax.{clamp_of}
 

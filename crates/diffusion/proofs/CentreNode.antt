@@ -1,9 +1,10 @@
 -- The centre node and its neighbour in an exact sub-step: with 6·D·t ≤ h² the centre stays on its side of where the neighbour stood, with 6·D·t above h² it goes beyond. Assumes nothing.
 use Rattle.std.specs.Prelude.{ℕ, [], ◌∷◌}
 use Rattle.fraction.specs.Fraction.{Fraction, nat, neg_f, ◌-F◌, ◌*F◌, inv, ◌≤F◌, ◌<F◌, ◌from◌to◌}
-use Rattle.fraction.specs.Field.{le_of_lt, lt_from, lt_of_not_le, lt_not_le}
-use Rattle.fraction.specs.Certificate.{quote, le_by, up, num, eqn, ◌⊞◌, ◌⊠◌, ◌·◌}
-use Rattle.fraction.specs.Inverse.{mul_inv, mul_cancel, mul-pos}
+use Rattle.fraction.proofs.Field.{le_of_lt, lt_from, lt_of_not_le, lt_not_le}
+use Rattle.fraction.proofs.Certificate.{quote}
+use Rattle.fraction.proofs.Certificate.{le_by, up, num, eqn, ◌⊞◌, ◌⊠◌, ◌·◌}
+use Rattle.fraction.proofs.Inverse.{mul_inv, mul_cancel, mul-pos}
 use Rattle.diffusion.specs.Exact.{Numbers, g, centre}
 use Rattle.diffusion.specs.Premises.{Stable}
 use Rattle.diffusion.proofs.ExactLaws.{g_low, g_high}

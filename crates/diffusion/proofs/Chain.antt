@@ -6,18 +6,20 @@ use native.Mathlib.Omega.{arith}
 use Rattle.std.specs.Float.Ieee.{of_bits}
 use Rattle.std.specs.Float.Ieee.Scale.{finite}
 use Rattle.fraction.specs.Fraction.{Fraction, whole, nat, ◌+F◌, neg_f, ◌-F◌, ◌*F◌, ◌/F◌, inv, ∣◌∣, ◌≈F◌, ◌≤F◌, ◌<F◌, ◌within◌}
-use Rattle.fraction.specs.Field.{≈F-refl, ≤F-of-≈F, *F-comm, nn-nat_f, le_of_lt}
-use Rattle.fraction.specs.Certificate.{quote, ring, le_by, eq_by, within_by, up, hi, lo, num, eqn, ◌⊞◌, ◌⊠◌, ◌·◌, ◌&◌}
-use Rattle.fraction.specs.Inverse.{mul_inv, inv_nn, inv_mul}
-use Rattle.fraction.specs.Mean.{mean₂_between}
-use Rattle.fraction.specs.Order.{≤F-refl, nat_le, nat_lt, lit≈F}
-use Rattle.fraction.specs.Size.{Size, size_pos, size_nat, size_mul, size_inv, size_wider}
-use Rattle.fraction.specs.Within.{within_self, within_abs, within_resp}
+use Rattle.fraction.proofs.Field.{≈F-refl, ≤F-of-≈F, *F-comm, nn-nat_f, le_of_lt}
+use Rattle.fraction.proofs.Certificate.{quote}
+use Rattle.fraction.proofs.Certificate.{ring, le_by, eq_by, within_by, up, hi, lo, num, eqn, ◌⊞◌, ◌⊠◌, ◌·◌, ◌&◌}
+use Rattle.fraction.proofs.Inverse.{mul_inv, inv_nn, inv_mul}
+use Rattle.fraction.proofs.Mean.{mean₂_between}
+use Rattle.fraction.proofs.Order.{≤F-refl, nat_le, nat_lt, lit≈F}
+use Rattle.fraction.proofs.Size.{Size, size_pos, size_nat, size_mul, size_inv, size_wider}
+use Rattle.fraction.proofs.Within.{within_self, within_abs, within_resp}
 use Rattle.binary64.specs.Operators.{◌⊕◌, ◌⊖◌, ◌⊗◌, ◌⊘◌, count}
-use Rattle.binary64.specs.Near.{Fair, Near, exact, near_resp, rescale, near_add, near_sub, near_mul, near_div, near_factor}
-use Rattle.binary64.specs.OrderLaws.{positive-finite}
-use Rattle.binary64.specs.Rounds.{rounds_resp, mul_rounds}
-use Rattle.binary64.specs.Value.{val, int_finite, int_val}
+use Rattle.binary64.proofs.Near.{Fair, Near, exact, near_resp, rescale, near_add, near_sub, near_mul, near_div, near_factor}
+use Rattle.binary64.proofs.OrderLaws.{positive-finite}
+use Rattle.binary64.proofs.Rounds.{rounds_resp, mul_rounds}
+use Rattle.binary64.specs.Value.{val, int_finite}
+use Rattle.binary64.proofs.Value.{int_val}
 use Rattle.diffusion.specs.SubStep.{SubStepParams, two, six, centre_rate, shell_rate, ghost_node}
 use Rattle.diffusion.specs.Exact.{numbers, g, centre, inner, surface}
 use Rattle.diffusion.proofs.ExactLaws.{over_nn, centre_weight}

@@ -4,9 +4,10 @@ use Rattle.std.proofs.Common.{inl, inr, T_not}
 use Rattle.std.specs.Float.Ieee.{lt}
 use Rattle.std.specs.Float.Ieee.Scale.{finite}
 use Rattle.fraction.specs.Fraction.{Fraction, clamp_f, ◌≈F◌, ◌≤F◌}
-use Rattle.fraction.specs.Field.{≈F-sym, ≈F-trans, ≤F-of-≈F, ≤F-trans, lt_not_le, le_or_lt, le_of_lt}
-use Rattle.fraction.specs.Clamp.{clamp_same, clamp_low, clamp_high}
-use Rattle.binary64.specs.Value.{val, lt_val, val_lt}
+use Rattle.fraction.proofs.Field.{≈F-sym, ≈F-trans, ≤F-of-≈F, ≤F-trans, lt_not_le, le_or_lt, le_of_lt}
+use Rattle.fraction.proofs.Clamp.{clamp_same, clamp_low, clamp_high}
+use Rattle.binary64.specs.Value.{val}
+use Rattle.binary64.proofs.Value.{lt_val, val_lt}
 use Rattle.min_max.specs.MinMax.{clamp_of}
 
 choose : {A : Type 0} (P : A → Type 0) (b : Bool) {x y : A} → (T b → P x) → (T (not b) → P y) → P (cond b x y)

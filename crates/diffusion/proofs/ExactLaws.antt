@@ -3,11 +3,12 @@
 use Rattle.std.specs.Prelude.{ℕ, ◌+◌, ◌-◌, ◌<◌, ◌≤◌, ◌≡◌, [], ◌∷◌}
 use Rattle.std.proofs.Common.{arith}
 use Rattle.fraction.specs.Fraction.{Fraction, nat, ◌+F◌, ◌-F◌, ◌*F◌, ◌/F◌, inv, ◌≤F◌, ◌<F◌, ◌within◌, ◌from◌to◌}
-use Rattle.fraction.specs.Certificate.{quote, le_by, within_by, up, hi, lo, num, eqn, ◌⊞◌, ◌⊠◌, ◌·◌}
-use Rattle.fraction.specs.Clamp.{clamp_mono, clamp_apart}
-use Rattle.fraction.specs.Inverse.{mul_inv, inv_nn, mul-pos}
-use Rattle.fraction.specs.Mean.{Weights, mean₂_mono, mean₂_apart, mean₃_mono, mean₃_apart}
-use Rattle.fraction.specs.Order.{nat_le, nat_lt}
+use Rattle.fraction.proofs.Certificate.{quote}
+use Rattle.fraction.proofs.Certificate.{le_by, within_by, up, hi, lo, num, eqn, ◌⊞◌, ◌⊠◌, ◌·◌}
+use Rattle.fraction.proofs.Clamp.{clamp_mono, clamp_apart}
+use Rattle.fraction.proofs.Inverse.{mul_inv, inv_nn, mul-pos}
+use Rattle.fraction.proofs.Mean.{Weights, mean₂_mono, mean₂_apart, mean₃_mono, mean₃_apart}
+use Rattle.fraction.proofs.Order.{nat_le, nat_lt}
 use Rattle.diffusion.specs.Exact.{Numbers, g, centre, inner, surface, moved, exact_node}
 use Rattle.diffusion.specs.Premises.{Stable}
 use Rattle.diffusion.specs.Places.{by_place, same_place, other_place}

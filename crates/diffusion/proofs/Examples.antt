@@ -6,7 +6,7 @@ use Rattle.std.specs.Float.{nan}
 use Rattle.std.specs.Float.Ieee.{neg, of_bits, add, sub, mul, div, of_int, lt}
 use Rattle.std.specs.Float.Ieee.Scale.{finite}
 use Rattle.fraction.specs.Fraction.{Fraction, whole, nat, frac, pow2, turned, inv, neg_f, ◌+F◌, ◌-F◌, ◌*F◌, ◌/F◌, ∣◌∣, ◌≤?◌, min_f, max_f, clamp_f, ◌≈F◌, ◌≤F◌, ◌within◌}
-use Rattle.fraction.specs.Order.{lit≤F, lit≈F}
+use Rattle.fraction.proofs.Order.{lit≤F, lit≈F}
 use Rattle.binary64.specs.Value.{val}
 use Rattle.binary64.specs.Literals.{«3·9e-14», «1·25e-6», «0·0002», «0·0004», «1·0», «24762·4», «25466·4», «31833·0»}
 use Rattle.iterate.specs.Iterate.{first_by}

@@ -5,14 +5,14 @@ use Rattle.std.proofs.Common.{le_refl, arith}
 use Rattle.std.proofs.lemmas.List.{length-map}
 use Rattle.std.specs.Float.{nan}
 use Rattle.fraction.specs.Fraction.{Fraction, nat, ◌-F◌, ◌*F◌, clamp_f, ◌≤F◌, ◌within◌}
-use Rattle.fraction.specs.Field.{≈F-refl, ≈F-sym, +F-cong, ≤F-of-≈F, ≤F-trans, le_of_lt}
-use Rattle.fraction.specs.Clamp.{clamp_apart, clamp_between}
-use Rattle.fraction.specs.Size.{size_pos}
-use Rattle.fraction.specs.Within.{within_resp}
+use Rattle.fraction.proofs.Field.{≈F-refl, ≈F-sym, +F-cong, ≤F-of-≈F, ≤F-trans, le_of_lt}
+use Rattle.fraction.proofs.Clamp.{clamp_apart, clamp_between}
+use Rattle.fraction.proofs.Size.{size_pos}
+use Rattle.fraction.proofs.Within.{within_resp}
 use Rattle.binary64.specs.Operators.{◌⊕◌, ◌⊗◌}
 use Rattle.binary64.specs.Error.{u, Close}
-use Rattle.binary64.specs.Near.{Near}
-use Rattle.binary64.specs.OrderLaws.{positive-finite}
+use Rattle.binary64.proofs.Near.{Near}
+use Rattle.binary64.proofs.OrderLaws.{positive-finite}
 use Rattle.binary64.specs.Value.{val}
 use Rattle.binary64.specs.Literals.{«0·0»}
 use Rattle.diffusion.specs.SubStep.{SubStepParams, shell_rate, ghost_node, rate, node, sub_step}

@@ -4,8 +4,9 @@ use Rattle.std.proofs.Common.{ap}
 use Rattle.std.proofs.lemmas.List.{length-map}
 use Rattle.std.specs.Float.{nan}
 use Rattle.fraction.specs.Fraction.{nat, pow2, ◌+F◌, ◌-F◌, ◌*F◌, ◌/F◌, ◌≤F◌, ◌within◌}
-use Rattle.fraction.specs.Certificate.{quote, le_by, up, hi, lo, ◌⊞◌}
-use Rattle.fraction.specs.Order.{≤F-refl}
+use Rattle.fraction.proofs.Certificate.{quote}
+use Rattle.fraction.proofs.Certificate.{le_by, up, hi, lo, ◌⊞◌}
+use Rattle.fraction.proofs.Order.{≤F-refl}
 use Rattle.binary64.specs.Value.{val}
 use Rattle.diffusion.specs.Premises.{ProfileInRange}
 use Rattle.diffusion.specs.Run.{Grid, Move, run, exact_run, Both, AllReady, Stronger}

@@ -7,11 +7,12 @@ use Rattle.std.proofs.Math.Nat.{zero-add}
 use Rattle.std.proofs.lemmas.List.{length-map}
 use Rattle.std.specs.Float.{nan}
 use Rattle.fraction.specs.Fraction.{Fraction, whole, nat, pow2, turned, inv, ◌+F◌, neg_f, ◌-F◌, ◌*F◌, ◌/F◌, ◌≤F◌, ◌within◌}
-use Rattle.fraction.specs.Field.{le_of_lt}
-use Rattle.fraction.specs.Certificate.{quote, le_by, within_by, up, num, eqn, ◌⊞◌, ◌⊠◌, ◌·◌}
-use Rattle.fraction.specs.Order.{nat_suc, lit≤F}
-use Rattle.fraction.specs.Size.{size_pos}
-use Rattle.fraction.specs.Within.{within_weaken, apart_trans}
+use Rattle.fraction.proofs.Field.{le_of_lt}
+use Rattle.fraction.proofs.Certificate.{quote}
+use Rattle.fraction.proofs.Certificate.{le_by, within_by, up, num, eqn, ◌⊞◌, ◌⊠◌, ◌·◌}
+use Rattle.fraction.proofs.Order.{nat_suc, lit≤F}
+use Rattle.fraction.proofs.Size.{size_pos}
+use Rattle.fraction.proofs.Within.{within_weaken, apart_trans}
 use Rattle.binary64.specs.Error.{u}
 use Rattle.binary64.specs.Value.{val}
 use Rattle.diffusion.specs.SubStep.{sub_step}

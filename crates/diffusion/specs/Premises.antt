@@ -4,11 +4,12 @@ use Rattle.std.specs.Float.{nan}
 use Rattle.std.specs.Float.Ieee.{le, of_bits}
 use Rattle.std.specs.Float.Ieee.Scale.{finite}
 use Rattle.fraction.specs.Fraction.{Fraction, whole, nat, ◌*F◌, ∣◌∣, ◌≈F◌, ◌≤F◌, ◌<F◌, ◌from◌to◌}
-use Rattle.fraction.specs.Field.{≈F-sym, ≤F-of-≈F, ≤F-trans, le_of_lt}
-use Rattle.fraction.specs.Order.{lit≈F}
-use Rattle.fraction.specs.Size.{Size, size_pos}
+use Rattle.fraction.proofs.Field.{≈F-sym, ≤F-of-≈F, ≤F-trans, le_of_lt}
+use Rattle.fraction.proofs.Order.{lit≈F}
+use Rattle.fraction.proofs.Size.{Size, size_pos}
 use Rattle.binary64.specs.Order.{between_finite}
-use Rattle.binary64.specs.Value.{val, le_val}
+use Rattle.binary64.specs.Value.{val}
+use Rattle.binary64.proofs.Value.{le_val}
 use Rattle.binary64.specs.Literals.{«0·0»}
 use Rattle.diffusion.specs.SubStep.{SubStepParams}
 use Rattle.diffusion.specs.Exact.{Numbers, numbers}

@@ -6,7 +6,7 @@ use Rattle.std.proofs.Math.Dec.{eqb-suc-zero}
 use Rattle.std.specs.Float.Ieee.{le, of_bits}
 use Rattle.std.specs.Float.Ieee.Fits.{and_i}
 use Rattle.binary64.specs.Order.{between_finite}
-use Rattle.binary64.specs.RangeTests.{tested_within, within_ge}
+use Rattle.binary64.proofs.RangeTests.{tested_within, within_ge}
 use Rattle.binary64.specs.Literals.{«100000·0»}
 use Rattle.elementary.specs.Exp.{one}
 use Rattle.refusal.specs.Numbers.{first_refusal, refusal_unless, sheet, not_finite_of}

@@ -3,8 +3,8 @@ use Prim.Native.Nat.{◌^◌}
 use lib.Ieee.{Float, of_bits}
 use Rattle.binary64.specs.Operators.{◌⊘◌}
 use Rattle.binary64.specs.Range.{Within, Sized}
-use Rattle.binary64.specs.RangeOps.{mul_most, div_most, div_between, sub_alike}
-use Rattle.binary64.specs.RangeTests.{literal}
+use Rattle.binary64.proofs.RangeOps.{mul_most, div_most, div_between, sub_alike}
+use Rattle.binary64.proofs.RangeTests.{literal}
 use Rattle.elementary.specs.Exp.{one}
 use Rattle.elementary.specs.Arrhenius.{arrhenius_of, gas_constant}
 use Rattle.elementary.proofs.Constants.{at_1}

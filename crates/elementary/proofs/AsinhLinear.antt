@@ -12,10 +12,10 @@ use Rattle.binary64.specs.Operators.{◌⊕◌, ◌⊖◌, ◌⊗◌, ◌⊘◌,
 use Rattle.binary64.specs.Literals.{«0·0009765625», «6·0»}
 use Rattle.binary64.specs.Opened.{sub_is}
 use Rattle.binary64.specs.Order.{not→lt, le→below}
-use Rattle.binary64.specs.OrderLaws.{add_le}
+use Rattle.binary64.proofs.OrderLaws.{add_le}
 use Rattle.binary64.specs.Range.{Most, Sized, sized, neg_most}
-use Rattle.binary64.specs.RangeOps.{mul_most, div_most, sub_over}
-use Rattle.binary64.specs.RangeTests.{most_le, most_ge}
+use Rattle.binary64.proofs.RangeOps.{mul_most, div_most, sub_over}
+use Rattle.binary64.proofs.RangeTests.{most_le, most_ge}
 use Rattle.binary64.specs.Representable.{times_one}
 use Rattle.min_max.specs.MinMax.{abs_of}
 use Rattle.elementary.specs.Exp.{one}

@@ -10,9 +10,11 @@ use lib.Ieee.Bits.{of_bits-fits}
 use lib.Ieee.Fits.{add-fits}
 use Rattle.binary64.specs.Operators.{◌⊕◌, ◌⊖◌, ◌⊗◌, ◌⊘◌, f64, negative}
 use Rattle.binary64.specs.Literals.{«0·0009765625», «6·0»}
-use Rattle.binary64.specs.Range.{Most, Within, Sized, sized, neg_most, most_of_le}
-use Rattle.binary64.specs.RangeOps.{mul_most, div_most, add_alike, sub_most, least_zero}
-use Rattle.binary64.specs.RangeTests.{within_positive, within_ge, most_le}
+use Rattle.binary64.specs.Range.{Most, Within, Sized, sized, neg_most}
+use Rattle.binary64.proofs.Range.{most_of_le}
+use Rattle.binary64.proofs.RangeOps.{least_zero}
+use Rattle.binary64.proofs.RangeOps.{mul_most, div_most, add_alike, sub_most}
+use Rattle.binary64.proofs.RangeTests.{within_positive, within_ge, most_le}
 use Rattle.square_root.specs.Root.{sqrt_of, rounded, whole_root, root_below}
 use Rattle.square_root.proofs.Range.{sqrt_within}
 use Rattle.elementary.specs.Exp.{one}

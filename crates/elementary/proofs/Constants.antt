@@ -2,7 +2,7 @@
 use mathlib.Core.Bool.{false}
 use lib.Ieee.{of_bits}
 use Rattle.binary64.specs.Range.{Most, Within}
-use Rattle.binary64.specs.RangeTests.{literal}
+use Rattle.binary64.proofs.RangeTests.{literal}
 use Rattle.binary64.specs.Literals.{«6·0»}
 use Rattle.elementary.specs.Exp.{one, scale}
 use Rattle.elementary.specs.Ln.{two, ln2, twenty_three}

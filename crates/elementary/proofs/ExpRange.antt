@@ -11,8 +11,8 @@ use lib.Ieee.Positive.{num, den, positive, mul_mono, between}
 use Rattle.binary64.specs.Operators.{◌⊕◌, ◌⊗◌, ◌⊘◌, f64, count}
 use Rattle.binary64.specs.Order.{lt→not}
 use Rattle.binary64.specs.Range.{exact, Most, Within, most_wider, least_wider}
-use Rattle.binary64.specs.RangeOps.{mul_most, div_most, div_count, add_over}
-use Rattle.binary64.specs.RangeTests.{tested_within, most_le, most_ge, within_ge}
+use Rattle.binary64.proofs.RangeOps.{mul_most, div_most, div_count, add_over}
+use Rattle.binary64.proofs.RangeTests.{tested_within, most_le, most_ge, within_ge}
 use Rattle.binary64.specs.Literals.{«708·0»}
 use Rattle.elementary.specs.Exp.{one, series, squarings, exp_of, highest, lowest, scale}
 use Rattle.elementary.proofs.ExpLaws.{exp_mid, powered_is}

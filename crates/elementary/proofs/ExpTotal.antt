@@ -10,8 +10,8 @@ use lib.Ieee.Order.{drop, kept}
 use lib.Ieee.Scale.{finite}
 use Rattle.binary64.specs.Operators.{◌⊕◌, ◌⊗◌, ◌⊘◌, count}
 use Rattle.binary64.specs.Range.{Sized, sized, most_wider}
-use Rattle.binary64.specs.RangeOps.{mul_most, div_most, div_count, add_most}
-use Rattle.binary64.specs.RangeTests.{tested_sized}
+use Rattle.binary64.proofs.RangeOps.{mul_most, div_most, div_count, add_most}
+use Rattle.binary64.proofs.RangeTests.{tested_sized}
 use Rattle.elementary.specs.Exp.{one, series, squarings, powered, exp_of, highest, lowest, scale}
 use Rattle.elementary.proofs.ExpLaws.{exp_high, exp_low, exp_mid, powered_is}
 use Rattle.min_max.proofs.ChoiceLaws.{not_lt_le}

@@ -14,17 +14,19 @@ use lib.Ieee.Fits.{add-fits, and_l, and_r}
 use lib.Ieee.Positive.{num, den, den_pos}
 use lib.Ieee.Scale.{finite, round_same}
 use Rattle.fraction.specs.Fraction.{nat, ◌≤F◌, ◌<F◌}
-use Rattle.fraction.specs.Field.{≈F-sym, ≤F-of-≈F}
-use Rattle.fraction.specs.Order.{lt_le_trans, nat_lt}
-use Rattle.fraction.specs.Certificate.{quote, le_by}
+use Rattle.fraction.proofs.Field.{≈F-sym, ≤F-of-≈F}
+use Rattle.fraction.proofs.Order.{lt_le_trans, nat_lt}
+use Rattle.fraction.proofs.Certificate.{quote}
+use Rattle.fraction.proofs.Certificate.{le_by}
 use Rattle.binary64.specs.Operators.{◌⊕◌, ◌⊗◌, ◌⊘◌, count, negative}
 use Rattle.binary64.specs.Representable.{own_round}
 use Rattle.binary64.specs.Order.{le→below}
-use Rattle.binary64.specs.OrderLaws.{add_le, mul_le, mul_ge, div_le}
+use Rattle.binary64.proofs.OrderLaws.{add_le, mul_le, mul_ge, div_le}
 use Rattle.binary64.specs.Range.{Most, Within, Sized, most_wider}
-use Rattle.binary64.specs.RangeOps.{mul_most, div_count, add_over}
-use Rattle.binary64.specs.RangeTests.{tested_sized, literal, most_le, within_ge}
-use Rattle.binary64.specs.Value.{ratio, val, val_is, ratio_nn, int_val}
+use Rattle.binary64.proofs.RangeOps.{mul_most, div_count, add_over}
+use Rattle.binary64.proofs.RangeTests.{tested_sized, literal, most_le, within_ge}
+use Rattle.binary64.specs.Value.{ratio, val, val_is, ratio_nn}
+use Rattle.binary64.proofs.Value.{int_val}
 use Rattle.elementary.specs.Exp.{one, series}
 use Rattle.elementary.specs.LastTerms.{start_low, start_high, last_terms, MeetAtSeries, eighth, within_eighth}
 use Rattle.elementary.specs.declared.Bracket.{Bracket}

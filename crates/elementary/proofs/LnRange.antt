@@ -14,9 +14,11 @@ use lib.Ieee.Fits.{up_pos}
 use lib.Ieee.Positive.{num, den, den_pos, positive}
 use Rattle.binary64.specs.Operators.{◌⊕◌, ◌⊖◌, ◌⊗◌, ◌⊘◌, count, negative}
 use Rattle.binary64.specs.Order.{not→lt}
-use Rattle.binary64.specs.Range.{exact, Most, Least, Within, Sized, sized, most_wider, least_wider, least_of_le}
-use Rattle.binary64.specs.RangeOps.{mul_most, div_most, div_between, div_count, add_most, add_alike, sub_alike, least_zero}
-use Rattle.binary64.specs.RangeTests.{int_between, within_positive}
+use Rattle.binary64.specs.Range.{exact, Most, Least, Within, Sized, sized, most_wider, least_wider}
+use Rattle.binary64.proofs.Range.{least_of_le}
+use Rattle.binary64.proofs.RangeOps.{least_zero}
+use Rattle.binary64.proofs.RangeOps.{mul_most, div_most, div_between, div_count, add_most, add_alike, sub_alike}
+use Rattle.binary64.proofs.RangeTests.{int_between, within_positive}
 use Rattle.elementary.specs.Exp.{one}
 use Rattle.elementary.specs.Ln.{two, ln2, terms, ln_parts, raise, ln_split, mant, expo, ln_of, three_halves, twenty_three}
 use Rattle.min_max.proofs.Format.{representable, lead_le, lead_lt, minus_up, minus_down}

@@ -2,7 +2,7 @@
 use Prim.Native.Nat.{◌^◌}
 use lib.Ieee.{Float}
 use Rattle.binary64.specs.Range.{Within, Sized}
-use Rattle.binary64.specs.RangeOps.{mul_most}
+use Rattle.binary64.proofs.RangeOps.{mul_most}
 use Rattle.elementary.specs.Power.{powf_of}
 use Rattle.elementary.proofs.ExpRange.{exp_22}
 use Rattle.elementary.proofs.LnRange.{ln_part}

@@ -45,12 +45,3 @@ pub mod Ring
 pub mod Quote
 pub mod IntegerRing
 pub mod Fraction
-pub mod Field
-pub mod Certificate
-pub mod Order
-pub mod Within
-pub mod Inverse
-pub mod Clamp
-pub mod Mean
-pub mod Size
-pub mod Examples

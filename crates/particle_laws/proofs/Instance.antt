@@ -4,7 +4,7 @@ use Rattle.std.proofs.Common.{sym, ap, ◌∙◌}
 use Rattle.std.specs.Float.{nan}
 use Rattle.std.specs.Float.Ieee.{neg, le, lt, add, sub, mul, div, of_int, fits, of_bits}
 use Rattle.fraction.specs.Fraction.{whole, nat, pow2, neg_f, ◌-F◌, ◌*F◌, ◌/F◌, ∣◌∣, ◌within◌}
-use Rattle.fraction.specs.Order.{lit≤F}
+use Rattle.fraction.proofs.Order.{lit≤F}
 use Rattle.binary64.specs.Operators.{◌⊖◌, ◌⊗◌, ◌⊘◌}
 use Rattle.binary64.specs.Value.{val}
 use Rattle.binary64.specs.Literals.{«0·0», «3·9e-14», «1·25e-6», «0·0001», «8·314», «298·15», «25290·4», «35000·0»}

@@ -5,10 +5,10 @@ use Rattle.std.specs.Float.Ieee.{le, of_bits}
 use Rattle.std.specs.Float.Ieee.Bits.{is_true}
 use Rattle.std.specs.Float.Ieee.Fits.{and_l, and_r}
 use Rattle.fraction.specs.Fraction.{whole}
-use Rattle.fraction.specs.Field.{≤F-trans}
-use Rattle.fraction.specs.Within.{within_self, within_weaken}
+use Rattle.fraction.proofs.Field.{≤F-trans}
+use Rattle.fraction.proofs.Within.{within_self, within_weaken}
 use Rattle.binary64.specs.Range.{Within, Sized}
-use Rattle.binary64.specs.Bounds.{bounded_most, within_scaled}
+use Rattle.binary64.proofs.Bounds.{bounded_most, within_scaled}
 use Rattle.binary64.specs.Value.{val}
 use Rattle.binary64.specs.Literals.{«0·0»}
 use Rattle.refusal.specs.Numbers.{refusal_unless, first_refusal}

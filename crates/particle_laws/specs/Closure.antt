@@ -11,16 +11,18 @@ use Rattle.std.specs.Float.Ieee.Bits.{is_true}
 use Rattle.std.specs.Float.Ieee.Fits.{and_i}
 use Rattle.std.specs.Float.Ieee.Scale.{finite}
 use Rattle.fraction.specs.Fraction.{whole, nat, ◌≈F◌}
-use Rattle.fraction.specs.Field.{≈F-sym, ≤F-of-≈F, ≤F-trans, le_of_lt}
-use Rattle.fraction.specs.Order.{lit≈F}
-use Rattle.fraction.specs.Size.{size_pos}
-use Rattle.fraction.specs.Certificate.{quote, le_by, up, ◌⊠◌}
+use Rattle.fraction.proofs.Field.{≈F-sym, ≤F-of-≈F, ≤F-trans, le_of_lt}
+use Rattle.fraction.proofs.Order.{lit≈F}
+use Rattle.fraction.proofs.Size.{size_pos}
+use Rattle.fraction.proofs.Certificate.{quote}
+use Rattle.fraction.proofs.Certificate.{le_by, up, ◌⊠◌}
 use Rattle.binary64.specs.Operators.{◌⊗◌}
 use Rattle.binary64.specs.Order.{between_finite}
-use Rattle.binary64.specs.Bounds.{within_scaled}
-use Rattle.binary64.specs.OrderLaws.{rounds_le}
-use Rattle.binary64.specs.Rounds.{representable, mul_rounds}
-use Rattle.binary64.specs.Value.{val, le_val}
+use Rattle.binary64.proofs.Bounds.{within_scaled}
+use Rattle.binary64.proofs.OrderLaws.{rounds_le}
+use Rattle.binary64.proofs.Rounds.{representable, mul_rounds}
+use Rattle.binary64.specs.Value.{val}
+use Rattle.binary64.proofs.Value.{le_val}
 use Rattle.binary64.specs.Literals.{«0·0»}
 use Rattle.elementary.specs.Exp.{one}
 use Rattle.refusal.specs.Numbers.{grid, sheet, neither_refused, passed}

@@ -8,15 +8,16 @@ use Rattle.std.specs.Float.Ieee.{lt, of_bits}
 use Rattle.std.specs.Float.Ieee.Bits.{is_true}
 use Rattle.std.specs.Float.Ieee.Scale.{finite}
 use Rattle.fraction.specs.Fraction.{whole, nat, pow2, neg_f}
-use Rattle.fraction.specs.Certificate.{quote, le_by, eqn, ◌·◌}
-use Rattle.fraction.specs.Order.{pow2_add, pow2_mono}
-use Rattle.fraction.specs.Within.{within_add, within_weaken}
+use Rattle.fraction.proofs.Certificate.{quote}
+use Rattle.fraction.proofs.Certificate.{le_by, eqn, ◌·◌}
+use Rattle.fraction.proofs.Order.{pow2_add, pow2_mono}
+use Rattle.fraction.proofs.Within.{within_add, within_weaken}
 use Rattle.binary64.specs.Operators.{◌⊕◌, f64}
 use Rattle.binary64.specs.Range.{Most, Within, Sized, sized, most_wider}
-use Rattle.binary64.specs.RangeTests.{literal, count_within}
-use Rattle.binary64.specs.RangeOps.{mul_between, mul_most, div_most}
-use Rattle.binary64.specs.Rounds.{add_rounds}
-use Rattle.binary64.specs.Bounds.{Bounded, bounded_pow, bounded_most, most_bounded}
+use Rattle.binary64.proofs.RangeTests.{literal, count_within}
+use Rattle.binary64.proofs.RangeOps.{mul_between, mul_most, div_most}
+use Rattle.binary64.proofs.Rounds.{add_rounds}
+use Rattle.binary64.proofs.Bounds.{Bounded, bounded_pow, bounded_most, most_bounded}
 use Rattle.binary64.specs.Value.{ratio_le}
 use Rattle.binary64.specs.Literals.{«0·0», «1e-30», «0·5», «1·0», «2·0», «3·0», «4·0»}
 use Rattle.elementary.specs.Exp.{one}

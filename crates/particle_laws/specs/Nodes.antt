@@ -9,14 +9,15 @@ use Rattle.std.specs.Float.{nan, inf, fin}
 use Rattle.std.specs.Float.Ieee.{le, is_nan, of_bits}
 use Rattle.std.specs.Float.Ieee.Fits.{and_i}
 use Rattle.std.specs.Float.Ieee.Scale.{finite}
-use Rattle.fraction.specs.Field.{≤F-trans, ≤F-of-≈F, le_of_lt}
-use Rattle.fraction.specs.Size.{size_pos}
+use Rattle.fraction.proofs.Field.{≤F-trans, ≤F-of-≈F, le_of_lt}
+use Rattle.fraction.proofs.Size.{size_pos}
 use Rattle.binary64.specs.Operators.{◌⊕◌, ◌⊗◌, count}
 use Rattle.binary64.specs.Range.{Within, Sized, sized, most_wider}
-use Rattle.binary64.specs.RangeTests.{literal, count_within}
-use Rattle.binary64.specs.RangeOps.{mul_between, mul_most, div_most, add_most, sub_most}
-use Rattle.binary64.specs.Bounds.{within_scaled}
-use Rattle.binary64.specs.Value.{val, val_le}
+use Rattle.binary64.proofs.RangeTests.{literal, count_within}
+use Rattle.binary64.proofs.RangeOps.{mul_between, mul_most, div_most, add_most, sub_most}
+use Rattle.binary64.proofs.Bounds.{within_scaled}
+use Rattle.binary64.specs.Value.{val}
+use Rattle.binary64.proofs.Value.{val_le}
 use Rattle.binary64.specs.Literals.{«0·0»}
 use Rattle.min_max.proofs.ChoiceLaws.{clamp_in}
 use Rattle.refusal.specs.Ranges.{in_range}

@@ -6,8 +6,8 @@ use Rattle.std.specs.Float.Ieee.Positive.{num, den, positive}
 use Rattle.std.specs.Float.Ieee.Scale.{finite}
 use Rattle.binary64.specs.Operators.{◌⊕◌, ◌⊗◌, ◌⊘◌}
 use Rattle.binary64.specs.Range.{Within, Sized, sized, most_wider}
-use Rattle.binary64.specs.RangeTests.{literal, tested_within}
-use Rattle.binary64.specs.RangeOps.{mul_most, div_most, add_most, add_alike, sub_most, sub_alike}
+use Rattle.binary64.proofs.RangeTests.{literal, tested_within}
+use Rattle.binary64.proofs.RangeOps.{mul_most, div_most, add_most, add_alike, sub_most, sub_alike}
 use Rattle.binary64.specs.Literals.{«0·0», «0·0019», «0·01», «0·0172», «0·029», «0·05», «0·08», «0·1», «0·12», «0·1387», «0·15», «0·17», «0·2», «0·2808», «0·4108», «0·4465», «0·5», «0·6», «0·7222», «0·7984», «0·85», «0·9», «0·92», «0·99», «1·2», «1·5», «3·414», «4·2», «30·0», «80·0»}
 use Rattle.elementary.specs.Exp.{one, exp_of}
 use Rattle.min_max.specs.MinMax.{clamp_of}

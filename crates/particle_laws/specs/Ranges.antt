@@ -7,12 +7,13 @@ use Rattle.std.specs.Float.Ieee.Bits.{is_true}
 use Rattle.std.specs.Float.Ieee.Fits.{and_l, and_r}
 use Rattle.std.specs.Float.Ieee.Positive.{num, den, positive}
 use Rattle.fraction.specs.Fraction.{nat, ◌≤F◌}
-use Rattle.fraction.specs.Field.{≈F-sym, ≤F-of-≈F, ≤F-trans, le_of_lt}
+use Rattle.fraction.proofs.Field.{≈F-sym, ≤F-of-≈F, ≤F-trans, le_of_lt}
 use Rattle.binary64.specs.Range.{Within, Sized, most_wider, least_wider}
-use Rattle.binary64.specs.RangeTests.{tested_within, tested_sized, count_within}
-use Rattle.binary64.specs.RangeOps.{mul_between, div_between}
-use Rattle.binary64.specs.Bounds.{within_scaled}
-use Rattle.binary64.specs.Value.{val, lt_val}
+use Rattle.binary64.proofs.RangeTests.{tested_within, tested_sized, count_within}
+use Rattle.binary64.proofs.RangeOps.{mul_between, div_between}
+use Rattle.binary64.proofs.Bounds.{within_scaled}
+use Rattle.binary64.specs.Value.{val}
+use Rattle.binary64.proofs.Value.{lt_val}
 use Rattle.binary64.specs.Literals.{«0·0», «200·0», «400·0», «86400·0», «100000·0», «1e13»}
 use Rattle.elementary.specs.Exp.{one}
 use Rattle.elementary.proofs.ArrheniusRange.{arrhenius_within}

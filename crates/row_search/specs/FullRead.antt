@@ -6,8 +6,8 @@ use Rattle.std.proofs.Math.ListN.{length, get_or}
 use Rattle.std.specs.Float.Ieee.{nan}
 use Rattle.std.specs.Float.Ieee.Bits.{is_true}
 use borrow.Author.Tests.{eq-eqb, le-leb}
-use Rattle.fraction.specs.Field.{≤F-trans, lt_from}
-use Rattle.binary64.specs.Value.{le_val, lt_val, val_lt}
+use Rattle.fraction.proofs.Field.{≤F-trans, lt_from}
+use Rattle.binary64.proofs.Value.{le_val, lt_val, val_lt}
 use Rattle.refusal.specs.Ranges.{count_in_range, finite}
 use Rattle.refusal.specs.Numbers.{first_refusal, refusal_unless}
 use Rattle.runs.specs.Lowest.{group_count, voltage_at, summary}

@@ -2,9 +2,10 @@
 use Rattle.std.specs.Prelude.{ℕ, zero, suc, ◌+◌, ◌-◌, ◌*◌, ◌/◌, ◌≤◌, ◌<◌, ◌≡◌, refl, Bool, true, false, cond, List, T, leb, length, get_or, Float}
 use Rattle.std.proofs.Common.{sym, subst, ⊎_elim, inl, inr, arith, eq-or-lt_of_le, le_of_suc-le-suc, leb-true, leb-false}
 use Rattle.std.specs.Float.Ieee.{nan, lt, le}
-use Rattle.fraction.specs.Field.{≤F-trans, le_or_lt, le_of_lt}
-use Rattle.fraction.specs.Order.{≤F-refl, lt_le_trans}
-use Rattle.binary64.specs.Value.{val, le_val, val_le, lt_val, val_lt}
+use Rattle.fraction.proofs.Field.{≤F-trans, le_or_lt, le_of_lt}
+use Rattle.fraction.proofs.Order.{≤F-refl, lt_le_trans}
+use Rattle.binary64.specs.Value.{val}
+use Rattle.binary64.proofs.Value.{le_val, val_le, lt_val, val_lt}
 use Rattle.refusal.specs.Ranges.{finite}
 use Rattle.iterate.specs.Iterate.{first_below, first_above}
 use Rattle.runs.specs.Lowest.{group_count, voltage_at, lowest_of, last_of, group_lowest, summary}

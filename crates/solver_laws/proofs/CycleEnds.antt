@@ -12,7 +12,7 @@ use Rattle.std.specs.Float.Ieee.Fits.{and_i, and_l, and_r, add-fits}
 use Rattle.std.specs.Float.Ieee.Positive.{num, den}
 use Rattle.binary64.specs.Literals.{«0·0», «1e-20», «1e-8», «4096·0», «1e6»}
 use Rattle.binary64.specs.Range.{Most, Sized, neg_most}
-use Rattle.binary64.specs.RangeTests.{tested_sized, most_le, most_ge}
+use Rattle.binary64.proofs.RangeTests.{tested_sized, most_le, most_ge}
 use Rattle.min_max.proofs.ChoiceLaws.{lt_le}
 use Rattle.refusal.specs.Numbers as N
 use Rattle.refusal.specs.Ranges.{in_range, load_fits_of, interval_fits, temperature_fits}

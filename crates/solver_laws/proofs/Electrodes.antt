@@ -5,8 +5,9 @@ use Rattle.fraction.specs.Fraction.{◌≤F◌}
 use Rattle.binary64.specs.Operators.{◌⊘◌, count}
 use Rattle.binary64.specs.Range.{Sized, neg_most}
 use Rattle.binary64.specs.Order.{neg_le}
-use Rattle.binary64.specs.OrderLaws.{div_le}
-use Rattle.binary64.specs.Value.{val, le_val}
+use Rattle.binary64.proofs.OrderLaws.{div_le}
+use Rattle.binary64.specs.Value.{val}
+use Rattle.binary64.proofs.Value.{le_val}
 use Rattle.particle.specs.Particle.{sub_step_params_of}
 use Rattle.particle_laws.specs.Ranges.{Ranged}
 use Rattle.kinetics.specs.Kinetics.{surface_current}

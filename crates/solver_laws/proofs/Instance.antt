@@ -6,10 +6,11 @@ use Rattle.std.specs.Float.Ieee.{neg, le, mul, div, round, size, of_int, of_bits
 use Rattle.std.specs.Float.Ieee.Fits.{and_l, and_r}
 use Rattle.std.specs.Float.Ieee.Scale.{finite}
 use Rattle.fraction.specs.Fraction.{whole, nat, pow2, neg_f, ◌-F◌, ◌*F◌, ◌/F◌, ∣◌∣, ◌≤F◌, ◌within◌}
-use Rattle.fraction.specs.Field.{≤F-trans}
-use Rattle.fraction.specs.Order.{lit≤F}
-use Rattle.fraction.specs.Within.{abs_of_within}
-use Rattle.fraction.specs.Certificate.{quote, le_by, up, num, ◌⊞◌, ◌⊠◌}
+use Rattle.fraction.proofs.Field.{≤F-trans}
+use Rattle.fraction.proofs.Order.{lit≤F}
+use Rattle.fraction.proofs.Within.{abs_of_within}
+use Rattle.fraction.proofs.Certificate.{quote}
+use Rattle.fraction.proofs.Certificate.{le_by, up, num, ◌⊞◌, ◌⊠◌}
 use Rattle.binary64.specs.Operators.{◌⊕◌, f64}
 use Rattle.binary64.specs.Range.{Sized}
 use Rattle.binary64.specs.Value.{val}

@@ -4,8 +4,9 @@ use Rattle.std.proofs.Common.{sym, ap, ◌∙◌, subst}
 use Rattle.std.proofs.Math.Dec.{eqb-suc-zero}
 use Rattle.std.proofs.lemmas.List.{length-map}
 use Rattle.fraction.specs.Fraction.{nat, pow2, ◌+F◌, ◌-F◌, ◌*F◌, ◌/F◌, ◌≤F◌, ◌within◌}
-use Rattle.fraction.specs.Field.{≈F-sym, ≤F-of-≈F}
-use Rattle.fraction.specs.Certificate.{quote, le_by, up, hi, lo, ◌⊞◌}
+use Rattle.fraction.proofs.Field.{≈F-sym, ≤F-of-≈F}
+use Rattle.fraction.proofs.Certificate.{quote}
+use Rattle.fraction.proofs.Certificate.{le_by, up, hi, lo, ◌⊞◌}
 use Rattle.binary64.specs.Operators.{◌⊘◌, count}
 use Rattle.binary64.specs.Range.{Sized}
 use Rattle.binary64.specs.Value.{val}

@@ -7,19 +7,22 @@ use Rattle.std.specs.Float.Ieee.Bits.{of_bits-fits}
 use Rattle.std.specs.Float.Ieee.Fits.{and_i, and_l, and_r, mul-fits}
 use Rattle.std.specs.Float.Ieee.Scale.{finite}
 use Rattle.fraction.specs.Fraction.{whole, nat, ◌*F◌, ◌≤F◌, ◌within◌}
-use Rattle.fraction.specs.Field.{≤F-trans, le_of_lt}
-use Rattle.fraction.specs.Order.{lit≤F}
-use Rattle.fraction.specs.Size.{size_pos, size_wider}
-use Rattle.fraction.specs.Certificate.{quote, le_by, within_by, up, hi, num, ◌⊞◌, ◌⊠◌}
+use Rattle.fraction.proofs.Field.{≤F-trans, le_of_lt}
+use Rattle.fraction.proofs.Order.{lit≤F}
+use Rattle.fraction.proofs.Size.{size_pos, size_wider}
+use Rattle.fraction.proofs.Certificate.{quote}
+use Rattle.fraction.proofs.Certificate.{le_by, within_by, up, hi, num, ◌⊞◌, ◌⊠◌}
 use Rattle.binary64.specs.Operators.{◌⊕◌, ◌⊖◌, ◌⊗◌, f64}
-use Rattle.binary64.specs.Error.{u, rounding_error}
+use Rattle.binary64.specs.Error.{u}
+use Rattle.binary64.proofs.Error.{rounding_error}
 use Rattle.binary64.specs.Range.{Within, Sized, sized, most_wider, neg_most}
-use Rattle.binary64.specs.RangeTests.{literal, tested_within, tested_sized, most_le, within_ge}
-use Rattle.binary64.specs.RangeOps.{mul_between, mul_most, div_most, add_most, sub_most}
-use Rattle.binary64.specs.Bounds.{within_scaled}
-use Rattle.binary64.specs.OrderLaws.{rounds_le}
-use Rattle.binary64.specs.Rounds.{representable, mul_rounds, sub_rounds}
-use Rattle.binary64.specs.Value.{val, le_val}
+use Rattle.binary64.proofs.RangeTests.{literal, tested_within, tested_sized, most_le, within_ge}
+use Rattle.binary64.proofs.RangeOps.{mul_between, mul_most, div_most, add_most, sub_most}
+use Rattle.binary64.proofs.Bounds.{within_scaled}
+use Rattle.binary64.proofs.OrderLaws.{rounds_le}
+use Rattle.binary64.proofs.Rounds.{representable, mul_rounds, sub_rounds}
+use Rattle.binary64.specs.Value.{val}
+use Rattle.binary64.proofs.Value.{le_val}
 use Rattle.binary64.specs.Literals.{«0·0», «1e-30», «0·00390625», «0·01», «0·015625», «0·125», «0·99», «2·0», «200·0», «400·0», «1000·0», «262144·0», «8·388608e6»}
 use Rattle.square_root.specs.Root.{sqrt_of, rounded, whole_root, root_below}
 use Rattle.square_root.proofs.Range.{sqrt_within}

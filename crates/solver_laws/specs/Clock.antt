@@ -9,9 +9,9 @@ use Rattle.std.specs.Float.Ieee.Fits.{and_l, and_r}
 use Rattle.std.specs.Float.Ieee.Scale.{finite}
 use Rattle.binary64.specs.Operators.{◌⊕◌, f64}
 use Rattle.binary64.specs.Order.{between_finite}
-use Rattle.binary64.specs.OrderLaws.{add_le}
+use Rattle.binary64.proofs.OrderLaws.{add_le}
 use Rattle.binary64.specs.Range.{Sized}
-use Rattle.binary64.specs.RangeTests.{most_le}
+use Rattle.binary64.proofs.RangeTests.{most_le}
 use Rattle.binary64.specs.Literals.{«0·0», «86400·0»}
 use Rattle.min_max.proofs.ChoiceLaws.{lt_le}
 use Rattle.refusal.specs.Numbers.{first_refusal, neither_refused}

@@ -9,12 +9,14 @@ use Rattle.std.specs.Float.{nan}
 use Rattle.std.specs.Float.Ieee.{le}
 use Rattle.std.specs.Float.Ieee.Bits.{is_true}
 use Rattle.std.specs.Float.Ieee.Fits.{and_l, and_r, and_i}
-use Rattle.fraction.specs.Field.{≈F-sym, ≤F-of-≈F, ≤F-trans}
-use Rattle.fraction.specs.Certificate.{quote, le_by, ◌⊞◌}
+use Rattle.fraction.proofs.Field.{≈F-sym, ≤F-of-≈F, ≤F-trans}
+use Rattle.fraction.proofs.Certificate.{quote}
+use Rattle.fraction.proofs.Certificate.{le_by, ◌⊞◌}
 use Rattle.binary64.specs.Operators.{◌⊕◌, ◌⊘◌, count}
-use Rattle.binary64.specs.OrderLaws.{rounds_nonneg}
-use Rattle.binary64.specs.Rounds.{add_rounds}
-use Rattle.binary64.specs.Value.{val, le_val, val_le}
+use Rattle.binary64.proofs.OrderLaws.{rounds_nonneg}
+use Rattle.binary64.proofs.Rounds.{add_rounds}
+use Rattle.binary64.specs.Value.{val}
+use Rattle.binary64.proofs.Value.{le_val, val_le}
 use Rattle.binary64.specs.Literals.{«0·0»}
 use Rattle.refusal.specs.Numbers.{first_refusal, refusal_unless, not_finite_of}
 use Rattle.refusal.specs.Ranges.{finite, clock_fits}

@@ -2,13 +2,15 @@
 use Rattle.std.specs.Prelude.{◌^◌, ◌≡◌, Bool, true, false, cond, ◌||◌, Float}
 use Rattle.std.specs.Float.Ieee.{lt, is_nan, of_bits}
 use Rattle.fraction.specs.Fraction.{Fraction, nat, ◌≤F◌, ◌<F◌}
-use Rattle.fraction.specs.Field.{≤F-trans}
-use Rattle.fraction.specs.Size.{size_pos}
+use Rattle.fraction.proofs.Field.{≤F-trans}
+use Rattle.fraction.proofs.Size.{size_pos}
 use Rattle.binary64.specs.Range.{Within}
-use Rattle.binary64.specs.RangeOps.{literal, mul_between, div_between}
-use Rattle.binary64.specs.Bounds.{within_scaled}
-use Rattle.binary64.specs.OrderLaws.{positive-finite}
-use Rattle.binary64.specs.Value.{val, le_val}
+use Rattle.binary64.proofs.RangeOps.{literal}
+use Rattle.binary64.proofs.RangeOps.{mul_between, div_between}
+use Rattle.binary64.proofs.Bounds.{within_scaled}
+use Rattle.binary64.proofs.OrderLaws.{positive-finite}
+use Rattle.binary64.specs.Value.{val}
+use Rattle.binary64.proofs.Value.{le_val}
 use Rattle.binary64.specs.Literals.{«0·5»}
 use Rattle.min_max.specs.MinMax.{min_of}
 use Rattle.min_max.proofs.ChoiceLaws.{min_first, min_second}

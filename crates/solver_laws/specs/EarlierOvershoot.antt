@@ -3,7 +3,7 @@
 use Rattle.std.specs.Prelude.{ℕ, ◌≡◌, refl, Float}
 use Rattle.std.specs.Float.Ieee.{is_nan, lt, mul, div, round, size, of_int, of_bits}
 use Rattle.fraction.specs.Fraction.{Fraction, whole, nat, ◌*F◌, ◌<F◌}
-use Rattle.fraction.specs.Order.{lit<F}
+use Rattle.fraction.proofs.Order.{lit<F}
 use Rattle.binary64.specs.Operators.{◌⊘◌, f64, count}
 use Rattle.binary64.specs.Value.{val}
 use Rattle.binary64.specs.Literals.{«0·45»}

@@ -7,18 +7,20 @@ use Rattle.std.specs.Float.Ieee.Bits.{is_true}
 use Rattle.std.specs.Float.Ieee.Positive.{num, den, den_pos, positive, positive-finite as finite-of-positive, through, le→cross, le_trans_positive}
 use Rattle.std.specs.Float.Ieee.Scale.{finite}
 use Rattle.fraction.specs.Fraction.{◌≤F◌}
-use Rattle.fraction.specs.Field.{≤F-trans, le_of_lt}
-use Rattle.fraction.specs.Certificate.{quote, le_by, up, ◌⊠◌}
-use Rattle.fraction.specs.Order.{lit≤F}
-use Rattle.fraction.specs.Size.{size_pos}
+use Rattle.fraction.proofs.Field.{≤F-trans, le_of_lt}
+use Rattle.fraction.proofs.Certificate.{quote}
+use Rattle.fraction.proofs.Certificate.{le_by, up, ◌⊠◌}
+use Rattle.fraction.proofs.Order.{lit≤F}
+use Rattle.fraction.proofs.Size.{size_pos}
 use Rattle.binary64.specs.Operators.{◌⊘◌}
 use Rattle.binary64.specs.Range.{Within}
-use Rattle.binary64.specs.RangeOps.{literal}
-use Rattle.binary64.specs.Bounds.{within_scaled}
+use Rattle.binary64.proofs.RangeOps.{literal}
+use Rattle.binary64.proofs.Bounds.{within_scaled}
 use Rattle.binary64.specs.Order.{lt→not}
-use Rattle.binary64.specs.OrderLaws.{rounds_le, positive-finite, div_ge}
-use Rattle.binary64.specs.Rounds.{mul_rounds}
-use Rattle.binary64.specs.Value.{val, le_val, val_le}
+use Rattle.binary64.proofs.OrderLaws.{rounds_le, positive-finite, div_ge}
+use Rattle.binary64.proofs.Rounds.{mul_rounds}
+use Rattle.binary64.specs.Value.{val}
+use Rattle.binary64.proofs.Value.{le_val, val_le}
 use Rattle.binary64.specs.Literals.{«1e-20», «1e-8», «0·45», «4096·0»}
 use Rattle.min_max.specs.Count.{ceil_of}
 use Rattle.min_max.proofs.CountLaws.{count_reaches, count_least}

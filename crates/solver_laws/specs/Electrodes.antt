@@ -7,14 +7,15 @@ use Rattle.std.specs.Float.Ieee.Bits.{is_true, is_false}
 use Rattle.std.specs.Float.Ieee.Fits.{and_l, and_r, and_i, down_pos}
 use Rattle.std.specs.Float.Ieee.Positive.{num, den}
 use Rattle.fraction.specs.Fraction.{nat, ◌≤F◌, ◌<F◌}
-use Rattle.fraction.specs.Field.{≈F-sym, ≤F-of-≈F, ≤F-trans, lt_from}
-use Rattle.fraction.specs.Size.{size_pos}
+use Rattle.fraction.proofs.Field.{≈F-sym, ≤F-of-≈F, ≤F-trans, lt_from}
+use Rattle.fraction.proofs.Size.{size_pos}
 use Rattle.binary64.specs.Operators.{◌⊘◌, count, negative}
 use Rattle.binary64.specs.Range.{Within, Most, Sized, sized, most_wider, neg_most}
-use Rattle.binary64.specs.RangeTests.{literal, tested_sized}
-use Rattle.binary64.specs.RangeOps.{mul_between, div_between, div_most, div_count}
-use Rattle.binary64.specs.Bounds.{within_scaled}
-use Rattle.binary64.specs.Value.{val, val_is, ratio_nn, lt_val}
+use Rattle.binary64.proofs.RangeTests.{literal, tested_sized}
+use Rattle.binary64.proofs.RangeOps.{mul_between, div_between, div_most, div_count}
+use Rattle.binary64.proofs.Bounds.{within_scaled}
+use Rattle.binary64.specs.Value.{val, val_is, ratio_nn}
+use Rattle.binary64.proofs.Value.{lt_val}
 use Rattle.binary64.specs.Literals.{«0·0», «1·0», «3·0», «4096·0», «86400·0», «1e6»}
 use Rattle.min_max.specs.Count.{ceil_of}
 use Rattle.min_max.proofs.CountLaws.{ceil_least}

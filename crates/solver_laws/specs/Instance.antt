@@ -7,7 +7,7 @@ use Rattle.std.specs.Float.Ieee.{neg, is_nan, le, lt, add, sub, mul, div, round,
 use Rattle.std.specs.Float.Ieee.Bits.{is_true}
 use Rattle.std.specs.Float.Ieee.Fits.{and_i, and_l}
 use Rattle.std.specs.Float.Ieee.Scale.{finite}
-use Rattle.fraction.specs.Field.{≈F-refl}
+use Rattle.fraction.proofs.Field.{≈F-refl}
 use Rattle.binary64.specs.Operators.{◌⊕◌, ◌⊖◌, ◌⊗◌, ◌⊘◌, f64}
 use Rattle.binary64.specs.Literals.{«0·0», «1e-14», «3·9e-14», «0·0002», «2·5», «3·0», «4·0», «4·2», «8·314», «298·15», «3600·0», «20000·0», «35000·0», «86400·0», «96485·0», «1e6»}
 use Rattle.elementary.specs.Exp.{one, exp_of}

@@ -7,14 +7,16 @@ use Rattle.std.proofs.Math.Dec.{T}
 use Rattle.std.specs.Float.Ieee.{le}
 use Rattle.std.specs.Float.Ieee.Scale.{finite}
 use Rattle.fraction.specs.Fraction.{nat, inv, ◌/F◌, ◌≤F◌, ◌<F◌}
-use Rattle.fraction.specs.Field.{≤F-trans, ≤F-of-≈F, ≈F-sym}
-use Rattle.fraction.specs.Certificate.{quote, le_by, up, ◌⊠◌}
-use Rattle.fraction.specs.Inverse.{inv_nn}
+use Rattle.fraction.proofs.Field.{≤F-trans, ≤F-of-≈F, ≈F-sym}
+use Rattle.fraction.proofs.Certificate.{quote}
+use Rattle.fraction.proofs.Certificate.{le_by, up, ◌⊠◌}
+use Rattle.fraction.proofs.Inverse.{inv_nn}
 use Rattle.binary64.specs.Operators.{◌⊖◌, ◌⊗◌, ◌⊘◌}
 use Rattle.binary64.specs.Literals.{«0·0»}
-use Rattle.binary64.specs.Rounds.{Rounds, mul_rounds, div_rounds}
-use Rattle.binary64.specs.Value.{val, le_val}
-use Rattle.binary64.specs.OrderLaws.{rounds_le, rounds_nonneg, rounds_nonpos, positive-finite, positive_num, sub_ge}
+use Rattle.binary64.proofs.Rounds.{Rounds, mul_rounds, div_rounds}
+use Rattle.binary64.specs.Value.{val}
+use Rattle.binary64.proofs.Value.{le_val}
+use Rattle.binary64.proofs.OrderLaws.{rounds_le, rounds_nonneg, rounds_nonpos, positive-finite, positive_num, sub_ge}
 use Rattle.diffusion.specs.Premises.{zero_fine, zero_val}
 use Rattle.kinetics.specs.Kinetics.{overpotential}
 use Rattle.solver.specs.declared.SpmSolver.{SpmSolver}

@@ -6,17 +6,18 @@ use Rattle.std.proofs.Common.{sym, subst, lit≤}
 use Rattle.std.specs.Float.Ieee.{lt, of_bits}
 use Rattle.std.specs.Float.Ieee.Scale.{finite}
 use Rattle.fraction.specs.Fraction.{Fraction, whole, nat, ◌+F◌, ◌*F◌, ◌/F◌, inv, ◌≈F◌, ◌≤F◌, ◌<F◌}
-use Rattle.fraction.specs.Field.{≈F-refl, le_of_lt}
-use Rattle.fraction.specs.Certificate.{quote, le_by, within_by, up, hi, num, sq, eqn, ◌⊞◌, ◌⊠◌, ◌·◌}
-use Rattle.fraction.specs.Inverse.{mul_inv}
-use Rattle.fraction.specs.Order.{lit≤F, lit≈F}
-use Rattle.fraction.specs.Size.{Size, size_pos, size_nat, size_mul, size_inv, size_wider}
+use Rattle.fraction.proofs.Field.{≈F-refl, le_of_lt}
+use Rattle.fraction.proofs.Certificate.{quote}
+use Rattle.fraction.proofs.Certificate.{le_by, within_by, up, hi, num, sq, eqn, ◌⊞◌, ◌⊠◌, ◌·◌}
+use Rattle.fraction.proofs.Inverse.{mul_inv}
+use Rattle.fraction.proofs.Order.{lit≤F, lit≈F}
+use Rattle.fraction.proofs.Size.{Size, size_pos, size_nat, size_mul, size_inv, size_wider}
 use Rattle.binary64.specs.Operators.{◌⊗◌, ◌⊘◌, count}
 use Rattle.binary64.specs.Range.{Within}
-use Rattle.binary64.specs.RangeOps.{literal}
-use Rattle.binary64.specs.Bounds.{Scaled, within_scaled}
+use Rattle.binary64.proofs.RangeOps.{literal}
+use Rattle.binary64.proofs.Bounds.{Scaled, within_scaled}
 use Rattle.binary64.specs.Error.{u, u_nn}
-use Rattle.binary64.specs.Near.{Near, exact, fair, near_own, near_mul, near_div}
+use Rattle.binary64.proofs.Near.{Near, exact, fair, near_own, near_mul, near_div}
 use Rattle.binary64.specs.Value.{val}
 use Rattle.binary64.specs.Literals.{«0·5», «4096·0»}
 use Rattle.min_max.specs.Count.{ceil_of}

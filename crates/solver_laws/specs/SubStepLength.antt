@@ -9,18 +9,21 @@ use Rattle.std.specs.Float.Ieee.Positive.{num, den, positive, between}
 use Rattle.std.specs.Float.Ieee.Scale.{finite}
 use Rattle.fraction.specs.Integer.{pos-≤}
 use Rattle.fraction.specs.Fraction.{Fraction, whole, nat, pow2, ◌+F◌, neg_f, ◌-F◌, ◌*F◌, ◌/F◌, inv, ◌≈F◌, ◌≤F◌, ◌<F◌}
-use Rattle.fraction.specs.Field.{≈F-sym, ≤F-of-≈F, ≤F-trans, le_or_lt, le_of_lt, lt_not_le, nn-nat_f}
-use Rattle.fraction.specs.Certificate.{quote, le_by, within_by, up, hi, lo, num as some, eqn, ◌⊞◌, ◌⊠◌, ◌·◌, ◌&◌}
-use Rattle.fraction.specs.Inverse.{mul_inv, inv_nn}
-use Rattle.fraction.specs.Order.{lit≤F, lit<F, nat_lt, lt_le_trans}
-use Rattle.fraction.specs.Size.{Size, size_pos, size_wider}
-use Rattle.fraction.specs.Within.{within_self}
+use Rattle.fraction.proofs.Field.{≈F-sym, ≤F-of-≈F, ≤F-trans, le_or_lt, le_of_lt, lt_not_le, nn-nat_f}
+use Rattle.fraction.proofs.Certificate.{quote}
+use Rattle.fraction.proofs.Certificate.{le_by, within_by, up, hi, lo, num as some, eqn, ◌⊞◌, ◌⊠◌, ◌·◌, ◌&◌}
+use Rattle.fraction.proofs.Inverse.{mul_inv, inv_nn}
+use Rattle.fraction.proofs.Order.{lit≤F, lit<F, nat_lt, lt_le_trans}
+use Rattle.fraction.proofs.Size.{Size, size_pos, size_wider}
+use Rattle.fraction.proofs.Within.{within_self}
 use Rattle.binary64.specs.Operators.{◌⊘◌, f64, count}
-use Rattle.binary64.specs.Error.{u, u_nn, rounding_error}
+use Rattle.binary64.specs.Error.{u, u_nn}
+use Rattle.binary64.proofs.Error.{rounding_error}
 use Rattle.binary64.specs.Order.{between_finite}
-use Rattle.binary64.specs.OrderLaws.{rounds_le, stays_above, positive-finite, positive_num}
-use Rattle.binary64.specs.Rounds.{Rounds, representable, div_rounds}
-use Rattle.binary64.specs.Value.{val, le_val, int_finite, int_val}
+use Rattle.binary64.proofs.OrderLaws.{rounds_le, stays_above, positive-finite, positive_num}
+use Rattle.binary64.proofs.Rounds.{Rounds, representable, div_rounds}
+use Rattle.binary64.specs.Value.{val, int_finite}
+use Rattle.binary64.proofs.Value.{le_val, int_val}
 use Rattle.binary64.specs.Literals.{«1·0», «4096·0»}
 use Rattle.min_max.specs.Count.{ceil_of}
 use Rattle.min_max.proofs.ChoiceLaws.{not_lt_le}

@@ -10,10 +10,12 @@ use lib.Ieee.{Float, nan, inf, fin, binary64, up, le, fits}
 use lib.Ieee.Fits.{up_pos}
 use lib.Ieee.Positive.{num, den, den_pos, positive}
 use Rattle.fraction.specs.Fraction.{nat, ◌+F◌, ◌*F◌, ◌<F◌, ◌≤F◌}
-use Rattle.fraction.specs.Field.{lt_not_le, le_or_lt, le_of_lt}
-use Rattle.fraction.specs.Certificate as certificate
-use Rattle.fraction.specs.Certificate.{quote, ◌⊞◌, ◌⊠◌, le_by}
-use Rattle.binary64.specs.Value.{val, le_val, val_le}
+use Rattle.fraction.proofs.Field.{lt_not_le, le_or_lt, le_of_lt}
+use Rattle.fraction.proofs.Certificate as certificate
+use Rattle.fraction.proofs.Certificate.{quote}
+use Rattle.fraction.proofs.Certificate.{◌⊞◌, ◌⊠◌, le_by}
+use Rattle.binary64.specs.Value.{val}
+use Rattle.binary64.proofs.Value.{le_val, val_le}
 use Rattle.square_root.specs.Root.{sqrt_of}
 use Rattle.square_root.specs.Standard.{natural, square, Nearest}
 use Rattle.square_root.proofs.Fractions.{natural_finite, val_most, most_val}

@@ -4,7 +4,7 @@ use lib.Dec.{T}
 use lib.Ieee.{Float, binary64, le, fits}
 use lib.Ieee.Positive.{num, den, positive, between}
 use Rattle.binary64.specs.Range.{Within}
-use Rattle.binary64.specs.RangeTests.{tested_within}
+use Rattle.binary64.proofs.RangeTests.{tested_within}
 use Rattle.square_root.specs.Root.{sqrt_of}
 use Rattle.square_root.proofs.Fractions.{positive_natural}
 use Rattle.square_root.proofs.Monotone.{sqrt_mono}

@@ -7,7 +7,7 @@ use lib.Dec.{T, lt→ltb}
 use lib.Ieee.{Float, nan, inf, fin, binary64, fits, round}
 use lib.Ieee.Positive.{num, den, den_pos}
 use lib.Ieee.Scale.{round_same}
-use Rattle.fraction.specs.Order.{≤F-refl}
+use Rattle.fraction.proofs.Order.{≤F-refl}
 use Rattle.binary64.specs.Representable.{own_round}
 use Rattle.square_root.specs.Standard.{natural, Nearest, SquareRoot}
 use Rattle.square_root.proofs.Fractions.{natural_finite, most_val}

@@ -5,8 +5,9 @@ use Rattle.std.specs.Int.Signed.{le_z_yes, ≤ℤ_refl}
 use Rattle.fraction.specs.IntegerRing.{zquote, zle_by}
 use Rattle.fraction.specs.IntegerRing as Z
 use Rattle.fraction.specs.Fraction.{Fraction, below, nat, ◌+F◌, neg_f, ◌-F◌, ◌*F◌, ◌≈F◌, ◌≤F◌, ◌within◌, ∣◌∣}
-use Rattle.fraction.specs.Field.{≈F-sym}
-use Rattle.fraction.specs.Certificate.{quote, ring, le_by, within_by, up, hi, lo, num, eqn, ◌⊞◌, ◌⊠◌, ◌·◌}
+use Rattle.fraction.proofs.Field.{≈F-sym}
+use Rattle.fraction.proofs.Certificate.{quote}
+use Rattle.fraction.proofs.Certificate.{ring, le_by, within_by, up, hi, lo, num, eqn, ◌⊞◌, ◌⊠◌, ◌·◌}
 
 pub within_nn : {x b : Fraction} → x within b → nat 0 ≤F b
 within_nn {x} {b} h = le_by (x ∷ b ∷ []) 1 (hi h ⊞ lo h) (search quote depth 24) tt

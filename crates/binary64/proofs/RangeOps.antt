@@ -7,10 +7,11 @@ use Rattle.std.specs.Float.Ieee.{unlike}
 use Rattle.std.specs.Float.Ieee.Positive.{num, den, den_pos, first_pos}
 use Rattle.binary64.specs.Operators.{◌⊕◌, ◌⊖◌, ◌⊗◌, ◌⊘◌, count, negative}
 use Rattle.binary64.specs.Opened.{mul_is, div_is, sub_is, plus, minus, Summed, add_summed}
-use Rattle.binary64.specs.Range.{exact, exact_over, Most, Between, Sized, sized, neg_most, neg_least, round_most, round_between}
+use Rattle.binary64.specs.Range.{exact, Most, Between, Sized, sized, neg_most, neg_least}
+use Rattle.binary64.proofs.Range.{exact_over, round_most, round_between}
 -- (where ranges start, so that one line brings in all)
 pub use Rattle.binary64.specs.Range.{least_zero}
-pub use Rattle.binary64.specs.RangeTests.{literal, tested_within, tested_sized, int_between, count_within}
+pub use Rattle.binary64.proofs.RangeTests.{literal, tested_within, tested_sized, int_between, count_within}
 
 -- ---- products and sums of fractions of naturals: with x / p ≤ A / C and y / q ≤ B / D
 ruleset expand = (add-mul, mul-add, mul_assoc, mul_comm, mul_left_comm)

@@ -3,15 +3,18 @@ use Rattle.std.specs.Prelude.{[], ◌∷◌, ℕ, ◌^◌, ◌≤◌, Bool, T, F
 use Rattle.std.specs.Float.Ieee.{of_bits}
 use Rattle.std.specs.Float.Ieee.Scale.{finite}
 use Rattle.fraction.specs.Fraction.{Fraction, whole, nat, ◌+F◌, ◌*F◌, ◌within◌}
-use Rattle.fraction.specs.Field.{≈F-refl}
-use Rattle.fraction.specs.Certificate.{quote, within_by, hi, lo, ◌⊞◌}
-use Rattle.fraction.specs.Order.{lit≤F}
+use Rattle.fraction.proofs.Field.{≈F-refl}
+use Rattle.fraction.proofs.Certificate.{quote}
+use Rattle.fraction.proofs.Certificate.{within_by, hi, lo, ◌⊞◌}
+use Rattle.fraction.proofs.Order.{lit≤F}
 use Rattle.binary64.specs.Operators.{◌⊕◌, ◌⊗◌, ◌⊘◌, count}
-use Rattle.binary64.specs.Error.{u, Close, rounding_error}
-use Rattle.binary64.specs.Near.{Fair, Near, exact, near_add, near_mul}
+use Rattle.binary64.specs.Error.{u, Close}
+use Rattle.binary64.proofs.Error.{rounding_error}
+use Rattle.binary64.proofs.Near.{Fair, Near, exact, near_add, near_mul}
 use Rattle.binary64.specs.Range.{Most, Within}
-use Rattle.binary64.specs.RangeOps.{mul_most, div_count, add_over, literal}
-use Rattle.binary64.specs.Rounds.{add_rounds}
+use Rattle.binary64.proofs.RangeOps.{literal}
+use Rattle.binary64.proofs.RangeOps.{mul_most, div_count, add_over}
+use Rattle.binary64.proofs.Rounds.{add_rounds}
 use Rattle.binary64.specs.Value.{val}
 use Rattle.binary64.specs.Literals.{«1·0»}
 

@@ -4,7 +4,7 @@ use Rattle.std.proofs.Common.{inl, inr}
 use Rattle.fraction.specs.Ring.{con, ◌+ₚ◌, ◌-ₚ◌, ◌*ₚ◌, negₚ, len, Vanish, norm}
 use Rattle.fraction.specs.Quote.{At, Quoted, Quoted₂, Quoted₃, Quoted₄, variable, variables, solved, Fits, certified, Balances, balanced, multiple, both}
 use Rattle.fraction.specs.Fraction.{Fraction, whole, nat, ◌+F◌, neg_f, ◌-F◌, ◌*F◌, ◌≈F◌, ◌≤F◌, ◌within◌}
-use Rattle.fraction.specs.Field.{Fring, Ford, ≈F-refl, ≈F-sym, ≈F-trans, +F-cong, *F-cong, neg_f-cong, whole-+, whole-*, ≤F-of-≈F, to_gap, nn-add_f, nn-mul_f, nn-nat_f, le_or_lt, le_of_lt}
+use Rattle.fraction.proofs.Field.{Fring, Ford, ≈F-refl, ≈F-sym, ≈F-trans, +F-cong, *F-cong, neg_f-cong, whole-+, whole-*, ≤F-of-≈F, to_gap, nn-add_f, nn-mul_f, nn-nat_f, le_or_lt, le_of_lt}
 
 -- ---- reading a fraction's expression back
 -- (a number that is written out, for which this test computes; any other is a variable, or a sum or product of such)

@@ -9,7 +9,8 @@ use Rattle.std.specs.Float.Ieee.Positive.{num, den, den_pos, through, positive, 
 use Rattle.std.specs.Float.Ieee.Scale.{finite}
 use Rattle.binary64.specs.Operators.{count, negative}
 use Rattle.binary64.specs.Order.{Below, le→below, below→le, neg_le, between_finite, below_zero_lem, int_value}
-use Rattle.binary64.specs.Range.{Most, Between, Within, Sized, neg_most, most_of_le, least_of_le}
+use Rattle.binary64.specs.Range.{Most, Between, Within, Sized, neg_most}
+use Rattle.binary64.proofs.Range.{most_of_le, least_of_le}
 
 -- ---- whole numbers up to 2 ^ 53 in size
 whole_between : (x : Float) (s : Bool) (k A B : ℕ) → HasValue x s k 1 → k ≤ A → B ≤ k → Between x s A 1 B 1

@@ -3,10 +3,11 @@ use Rattle.std.specs.Prelude.{Bool, true, false, not, cond, [], ◌∷◌, T, �
 use Rattle.std.specs.Int.Signed.{le_z_yes}
 use Rattle.fraction.specs.Integer.{not-≤ℤ}
 use Rattle.fraction.specs.Fraction.{Fraction, below, nat, ◌+F◌, ◌-F◌, ◌≤?◌, min_f, max_f, clamp_f, ◌≈F◌, ◌≤F◌, ◌within◌, ◌from◌to◌}
-use Rattle.fraction.specs.Field.{≤F-trans, le_of_lt}
-use Rattle.fraction.specs.Order.{≤F-refl, ≤F-antisym}
-use Rattle.fraction.specs.Within.{within_nn, apart}
-use Rattle.fraction.specs.Certificate.{quote, le_by, up, hi, lo, ◌⊞◌}
+use Rattle.fraction.proofs.Field.{≤F-trans, le_of_lt}
+use Rattle.fraction.proofs.Order.{≤F-refl, ≤F-antisym}
+use Rattle.fraction.proofs.Within.{within_nn, apart}
+use Rattle.fraction.proofs.Certificate.{quote}
+use Rattle.fraction.proofs.Certificate.{le_by, up, hi, lo, ◌⊞◌}
 
 -- ---- what holds of both choices holds of the choice
 choose : {A : Type 0} (P : A → Type 0) (b : Bool) {x y : A} → (T b → P x) → (T (not b) → P y) → P (cond b x y)

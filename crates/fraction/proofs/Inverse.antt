@@ -6,10 +6,11 @@ use Rattle.fraction.specs.Integer.{≤ℤ-or}
 use Rattle.fraction.specs.IntegerRing.{zquote, zle_by}
 use Rattle.fraction.specs.IntegerRing as Z
 use Rattle.fraction.specs.Fraction.{Fraction, below, whole, nat, ◌+F◌, neg_f, ◌-F◌, ◌*F◌, ◌/F◌, inv, turned, ◌≈F◌, ◌≤F◌, ◌<F◌, ◌within◌}
-use Rattle.fraction.specs.Field.{lt_not_le, lt_from, le_of_lt}
-use Rattle.fraction.specs.Order.{lt_le_trans, pos_of_one}
-use Rattle.fraction.specs.Within.{within_resp, within_add, within_mul, within_neg}
-use Rattle.fraction.specs.Certificate.{quote, le_by, eq_by, up, eqn, ◌⊞◌, ◌⊠◌, ◌·◌, ◌&◌}
+use Rattle.fraction.proofs.Field.{lt_not_le, lt_from, le_of_lt}
+use Rattle.fraction.proofs.Order.{lt_le_trans, pos_of_one}
+use Rattle.fraction.proofs.Within.{within_resp, within_add, within_mul, within_neg}
+use Rattle.fraction.proofs.Certificate.{quote}
+use Rattle.fraction.proofs.Certificate.{le_by, eq_by, up, eqn, ◌⊞◌, ◌⊠◌, ◌·◌, ◌&◌}
 
 -- above 0: so is the number above
 top_pos : {x : Fraction} → nat 0 <F x → pos 0 <ℤ x.top

@@ -4,8 +4,9 @@ use Rattle.std.proofs.Common.{ap, arith, pow-add, pow_pos, pow_mono}
 use Rattle.fraction.specs.Integer.{≤ℤ-antisym, not-≤ℤ, pos-≤, pos-<}
 use Rattle.std.specs.Int.Signed.{le_z, le_z_yes}
 use Rattle.fraction.specs.Fraction.{Fraction, below, whole, nat, pow2, ◌+F◌, ◌*F◌, ◌≈F◌, ◌≤F◌, ◌<F◌}
-use Rattle.fraction.specs.Field.{≈F-refl, ≈F-sym, ≤F-of-≈F, ≤F-trans, whole-*, lt_from}
-use Rattle.fraction.specs.Certificate.{quote, le_by, up, ◌⊞◌, ◌⊠◌}
+use Rattle.fraction.proofs.Field.{≈F-refl, ≈F-sym, ≤F-of-≈F, ≤F-trans, whole-*, lt_from}
+use Rattle.fraction.proofs.Certificate.{quote}
+use Rattle.fraction.proofs.Certificate.{le_by, up, ◌⊞◌, ◌⊠◌}
 
 -- ---- ≤
 pub ≤F-refl : {x : Fraction} → x ≤F x

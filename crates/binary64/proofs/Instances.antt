@@ -5,17 +5,19 @@ use Rattle.std.specs.Float.{fin}
 use Rattle.std.specs.Float.Ieee.{of_bits, fits, le, neg, add, sub, mul}
 use Rattle.std.specs.Float.Ieee.Scale.{finite}
 use Rattle.fraction.specs.Fraction.{whole, nat, pow2, frac, ◌+F◌, neg_f, ◌-F◌, ◌*F◌, ◌/F◌, inv, turned, ◌≈F◌, ◌within◌}
-use Rattle.fraction.specs.Field.{lt_not_le}
-use Rattle.fraction.specs.Order.{lit≤F, lit<F}
-use Rattle.fraction.specs.Size.{Size, size_nat, size_mul, size_inv}
+use Rattle.fraction.proofs.Field.{lt_not_le}
+use Rattle.fraction.proofs.Order.{lit≤F, lit<F}
+use Rattle.fraction.proofs.Size.{Size, size_nat, size_mul, size_inv}
 use Rattle.binary64.specs.Operators.{◌⊕◌, ◌⊖◌, ◌⊗◌, ◌⊘◌, f64, count}
-use Rattle.binary64.specs.Bounds.{Scaled}
-use Rattle.binary64.specs.Error.{u, Close, rounding_error}
-use Rattle.binary64.specs.Near.{Near, fair, near_own, near_count, near_mul, near_div}
-use Rattle.binary64.specs.OrderLaws.{InBounds, stays, mul_le}
+use Rattle.binary64.proofs.Bounds.{Scaled}
+use Rattle.binary64.specs.Error.{u, Close}
+use Rattle.binary64.proofs.Error.{rounding_error}
+use Rattle.binary64.proofs.Near.{Near, fair, near_own, near_count, near_mul, near_div}
+use Rattle.binary64.proofs.OrderLaws.{InBounds, stays, mul_le}
 use Rattle.binary64.specs.Range.{exact, Within}
-use Rattle.binary64.specs.RangeOps.{mul_between, sub_over, literal, tested_within}
-use Rattle.binary64.specs.Rounds.{add_rounds, div_rounds}
+use Rattle.binary64.proofs.RangeOps.{literal, tested_within}
+use Rattle.binary64.proofs.RangeOps.{mul_between, sub_over}
+use Rattle.binary64.proofs.Rounds.{add_rounds, div_rounds}
 use Rattle.binary64.specs.Value.{val}
 use Rattle.binary64.specs.Literals.{«0·0», «0·001», «0·75», «1·0», «1·5», «3·0», «5·0»}
 

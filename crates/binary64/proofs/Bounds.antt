@@ -9,18 +9,20 @@ use Rattle.std.specs.Float.Ieee.Positive.{num, den, den_pos, through}
 use Rattle.std.specs.Float.Ieee.Scale.{finite}
 use Rattle.fraction.specs.Integer.{pos-≤, ≤-pos}
 use Rattle.fraction.specs.Fraction.{Fraction, whole, nat, pow2, neg_f, ◌*F◌, ◌≈F◌, ◌within◌}
-use Rattle.fraction.specs.Field.{nn-nat_f, ≈F-sym, ≤F-of-≈F, ≤F-trans}
-use Rattle.fraction.specs.Certificate.{quote, le_by, up as gap, eqn, ◌⊞◌, ◌⊠◌, ◌·◌}
-use Rattle.fraction.specs.Inverse.{mul_cancel}
-use Rattle.fraction.specs.Order.{pow2_pos, pow2_add}
-use Rattle.fraction.specs.Size.{Size}
-use Rattle.fraction.specs.Within.{within_weaken, within_self, within_mul}
+use Rattle.fraction.proofs.Field.{nn-nat_f, ≈F-sym, ≤F-of-≈F, ≤F-trans}
+use Rattle.fraction.proofs.Certificate.{quote}
+use Rattle.fraction.proofs.Certificate.{le_by, up as gap, eqn, ◌⊞◌, ◌⊠◌, ◌·◌}
+use Rattle.fraction.proofs.Inverse.{mul_cancel}
+use Rattle.fraction.proofs.Order.{pow2_pos, pow2_add}
+use Rattle.fraction.proofs.Size.{Size}
+use Rattle.fraction.proofs.Within.{within_weaken, within_self, within_mul}
 use Rattle.binary64.specs.Operators.{◌⊗◌, negative}
-use Rattle.binary64.specs.OrderLaws.{stays}
+use Rattle.binary64.proofs.OrderLaws.{stays}
 use Rattle.binary64.specs.Range.{Most, Within, Sized}
-use Rattle.binary64.specs.Rounds.{Rounds, mul_rounds}
+use Rattle.binary64.proofs.Rounds.{Rounds, mul_rounds}
 use Rattle.binary64.specs.Sign.{neg_finite}
-use Rattle.binary64.specs.Value.{ratio, val, val_is, val_neg, ratio_le, ratio_nn, ratio_same, signed_within, signed_size}
+use Rattle.binary64.specs.Value.{ratio, val, val_is, ratio_le, ratio_nn, ratio_same, signed_within, signed_size}
+use Rattle.binary64.proofs.Value.{val_neg}
 
 -- r is finite, and |r| ≤ B
 pub record Bounded (r : Float) (B : Fraction) : Type 0 where

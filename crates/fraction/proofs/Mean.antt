@@ -2,7 +2,8 @@
 -- Where no weight is below 0 a mean keeps bounds, order and distances.
 use Rattle.std.specs.Prelude.{[], ◌∷◌}
 use Rattle.fraction.specs.Fraction.{Fraction, nat, ◌+F◌, ◌-F◌, ◌*F◌, ◌≤F◌, ◌within◌, ◌from◌to◌}
-use Rattle.fraction.specs.Certificate.{quote, le_by, within_by, up, hi, lo, ◌⊞◌, ◌⊠◌}
+use Rattle.fraction.proofs.Certificate.{quote}
+use Rattle.fraction.proofs.Certificate.{le_by, within_by, up, hi, lo, ◌⊞◌, ◌⊠◌}
 
 abbrev pub mean₂ : (w x y : Fraction) → Fraction
 mean₂ w x y = x +F w *F (y -F x)

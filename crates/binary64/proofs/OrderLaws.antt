@@ -6,15 +6,17 @@ use Rattle.std.specs.Float.Ieee.{le, fits}
 use Rattle.std.specs.Float.Ieee.Positive.{num, den}
 use Rattle.std.specs.Float.Ieee.Scale.{finite}
 use Rattle.fraction.specs.Fraction.{Fraction, whole, nat, inv, ◌≈F◌, ◌≤F◌, ◌<F◌}
-use Rattle.fraction.specs.Field.{≈F-refl, ≈F-sym, ≈F-trans, ≤F-of-≈F, ≤F-trans, lt_not_le}
-use Rattle.fraction.specs.Certificate.{quote, ring, le_by, up, ◌⊞◌, ◌⊠◌}
-use Rattle.fraction.specs.Inverse.{inv_nn, inv_anti}
-use Rattle.fraction.specs.Order.{≤F-refl, ≤F-resp, lt_le_trans}
+use Rattle.fraction.proofs.Field.{≈F-refl, ≈F-sym, ≈F-trans, ≤F-of-≈F, ≤F-trans, lt_not_le}
+use Rattle.fraction.proofs.Certificate.{quote}
+use Rattle.fraction.proofs.Certificate.{ring, le_by, up, ◌⊞◌, ◌⊠◌}
+use Rattle.fraction.proofs.Inverse.{inv_nn, inv_anti}
+use Rattle.fraction.proofs.Order.{≤F-refl, ≤F-resp, lt_le_trans}
 use Rattle.binary64.specs.Operators.{◌⊕◌, ◌⊖◌, ◌⊗◌, ◌⊘◌, negative}
 use Rattle.binary64.specs.Monotone.{round_below}
 use Rattle.binary64.specs.Order.{between_finite}
-use Rattle.binary64.specs.Rounds.{Rounds, representable, add_rounds, sub_rounds, mul_rounds, div_rounds}
-use Rattle.binary64.specs.Value.{signed, val, val_is, ratio_same, signed_cong, signed→below, le_val}
+use Rattle.binary64.proofs.Rounds.{Rounds, representable, add_rounds, sub_rounds, mul_rounds, div_rounds}
+use Rattle.binary64.specs.Value.{signed, val, val_is, ratio_same, signed_cong, signed→below}
+use Rattle.binary64.proofs.Value.{le_val}
 
 -- ---- the order
 pub rounds_le : {P Q : Fraction} {x y : Float} → Rounds P x → Rounds Q y → P ≤F Q → T (le x y)

@@ -6,19 +6,22 @@ use Rattle.std.specs.Float.Ieee.{neg}
 use Rattle.std.specs.Float.Ieee.Scale.{finite}
 use Rattle.fraction.specs.Integer.{pos-≤}
 use Rattle.fraction.specs.Fraction.{Fraction, whole, nat, frac, ◌+F◌, neg_f, ◌-F◌, ◌*F◌, ◌/F◌, inv, ◌≈F◌, ◌≤F◌, ◌<F◌, ◌within◌}
-use Rattle.fraction.specs.Field.{≈F-refl, ≤F-of-≈F, nn-nat_f, lt_not_le, lt_of_not_le, le_of_lt}
-use Rattle.fraction.specs.Certificate.{quote, ring, le_by, within_by, up, hi, lo, num, eqn, ◌⊞◌, ◌⊠◌, ◌·◌, ◌&◌}
-use Rattle.fraction.specs.Inverse.{mul_inv, inv_nn, mul_cancel, quotient_error}
-use Rattle.fraction.specs.Order.{nat_le, nat_lt}
-use Rattle.fraction.specs.Size.{Size, size_pos, size_nat, size_mul, size_wider}
-use Rattle.fraction.specs.Within.{within_nn, within_self, within_weaken, within_resp, within_neg, within_add, within_mul, product_error}
+use Rattle.fraction.proofs.Field.{≈F-refl, ≤F-of-≈F, nn-nat_f, lt_not_le, lt_of_not_le, le_of_lt}
+use Rattle.fraction.proofs.Certificate.{quote}
+use Rattle.fraction.proofs.Certificate.{ring, le_by, within_by, up, hi, lo, num, eqn, ◌⊞◌, ◌⊠◌, ◌·◌, ◌&◌}
+use Rattle.fraction.proofs.Inverse.{mul_inv, inv_nn, mul_cancel, quotient_error}
+use Rattle.fraction.proofs.Order.{nat_le, nat_lt}
+use Rattle.fraction.proofs.Size.{Size, size_pos, size_nat, size_mul, size_wider}
+use Rattle.fraction.proofs.Within.{within_nn, within_self, within_weaken, within_resp, within_neg, within_add, within_mul, product_error}
 use Rattle.binary64.specs.Operators as Op
-use Rattle.binary64.specs.Bounds.{Scaled}
-use Rattle.binary64.specs.Error.{u, u_nn, rounding_error}
-use Rattle.binary64.specs.OrderLaws.{positive_num}
-use Rattle.binary64.specs.Rounds.{Rounds, add_rounds, sub_rounds, mul_rounds, div_rounds}
+use Rattle.binary64.proofs.Bounds.{Scaled}
+use Rattle.binary64.specs.Error.{u, u_nn}
+use Rattle.binary64.proofs.Error.{rounding_error}
+use Rattle.binary64.proofs.OrderLaws.{positive_num}
+use Rattle.binary64.proofs.Rounds.{Rounds, add_rounds, sub_rounds, mul_rounds, div_rounds}
 use Rattle.binary64.specs.Sign.{neg_finite}
-use Rattle.binary64.specs.Value.{val, val_neg, int_finite, int_val}
+use Rattle.binary64.specs.Value.{val, int_finite}
+use Rattle.binary64.proofs.Value.{val_neg, int_val}
 
 -- scales from 2 ^ -1000 to 2 ^ 900
 abbrev pub Fair : Fraction → Type 0

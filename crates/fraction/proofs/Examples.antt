@@ -1,13 +1,14 @@
 -- The automation at work, then closed instances: the definitions give the numbers one expects, and the laws' premises can be met.
 use Rattle.std.specs.Prelude.{refl, [], ◌∷◌, pos, negsuc}
 use Rattle.fraction.specs.Fraction.{Fraction, whole, nat, frac, ◌+F◌, neg_f, ◌-F◌, ◌*F◌, ◌/F◌, inv, turned, ◌≈F◌, ◌≤F◌, ◌<F◌, ◌within◌, ∣◌∣, ◌from◌to◌, ◌≤?◌, min_f, max_f, clamp_f}
-use Rattle.fraction.specs.Certificate.{quote, ring, le_by, within_by, eq_by, up, hi, lo, num, ◌⊞◌, ◌⊠◌, ◌·◌}
-use Rattle.fraction.specs.Order.{lit≤F, lit<F, lit≈F}
-use Rattle.fraction.specs.Within.{product_error}
-use Rattle.fraction.specs.Inverse.{mul_inv, quotient_error}
-use Rattle.fraction.specs.Clamp.{clamp_apart}
-use Rattle.fraction.specs.Mean.{Weights, mean₃, mean₃_between}
-use Rattle.fraction.specs.Size.{Size, size_inv}
+use Rattle.fraction.proofs.Certificate.{quote}
+use Rattle.fraction.proofs.Certificate.{ring, le_by, within_by, eq_by, up, hi, lo, num, ◌⊞◌, ◌⊠◌, ◌·◌}
+use Rattle.fraction.proofs.Order.{lit≤F, lit<F, lit≈F}
+use Rattle.fraction.proofs.Within.{product_error}
+use Rattle.fraction.proofs.Inverse.{mul_inv, quotient_error}
+use Rattle.fraction.proofs.Clamp.{clamp_apart}
+use Rattle.fraction.proofs.Mean.{Weights, mean₃, mean₃_between}
+use Rattle.fraction.proofs.Size.{Size, size_inv}
 
 -- ---- the automation
 -- an identity

@@ -6,13 +6,15 @@ use Rattle.std.specs.Float.Ieee.{unlike, round, neg, fits}
 use Rattle.std.specs.Float.Ieee.Positive.{num, den, den_pos}
 use Rattle.std.specs.Float.Ieee.Scale.{finite}
 use Rattle.fraction.specs.Fraction.{Fraction, whole, nat, ◌+F◌, neg_f, ◌-F◌, ◌*F◌, ◌/F◌, inv, turned, ◌≈F◌}
-use Rattle.fraction.specs.Field.{≈F-refl, ≈F-sym, ≈F-trans, +F-cong, *F-cong}
-use Rattle.fraction.specs.Certificate.{quote, eq_by, ◌·◌, ◌&◌}
+use Rattle.fraction.proofs.Field.{≈F-refl, ≈F-sym, ≈F-trans, +F-cong, *F-cong}
+use Rattle.fraction.proofs.Certificate.{quote}
+use Rattle.fraction.proofs.Certificate.{eq_by, ◌·◌, ◌&◌}
 use Rattle.binary64.specs.Operators.{◌⊕◌, ◌⊖◌, ◌⊗◌, ◌⊘◌, negative}
 use Rattle.binary64.specs.Representable.{own_round}
 use Rattle.binary64.specs.Opened.{mul_is, div_is, sub_is, plus, minus, add_summed}
 use Rattle.binary64.specs.Sign.{neg_finite}
-use Rattle.binary64.specs.Value.{ratio, signed, val, val_is, val_neg, ratio_same, signed_cong}
+use Rattle.binary64.specs.Value.{ratio, signed, val, val_is, ratio_same, signed_cong}
+use Rattle.binary64.proofs.Value.{val_neg}
 
 -- Q is ±top / bottom, and r is what `round` makes of that
 pub record Rounds (Q : Fraction) (r : Float) : Type 0 where

@@ -1,10 +1,11 @@
 -- The size of a scale by powers of 2: `Size x e f` says 2 ^ -e ≤ x ≤ 2 ^ f.
 use Rattle.std.specs.Prelude.{[], ◌∷◌, ℕ, ◌+◌, ◌^◌, ◌≤◌}
 use Rattle.fraction.specs.Fraction.{Fraction, nat, pow2, neg_f, ◌*F◌, inv, ◌≤F◌, ◌<F◌}
-use Rattle.fraction.specs.Field.{≤F-trans, nn-nat_f, le_of_lt}
-use Rattle.fraction.specs.Order.{mul_mono, ≤F-refl, pos_of_one, nat_le, pow2_add, pow2_mono}
-use Rattle.fraction.specs.Inverse.{mul_inv, inv_nn}
-use Rattle.fraction.specs.Certificate.{quote, le_by, up, eqn, ◌⊞◌, ◌⊠◌, ◌·◌}
+use Rattle.fraction.proofs.Field.{≤F-trans, nn-nat_f, le_of_lt}
+use Rattle.fraction.proofs.Order.{mul_mono, ≤F-refl, pos_of_one, nat_le, pow2_add, pow2_mono}
+use Rattle.fraction.proofs.Inverse.{mul_inv, inv_nn}
+use Rattle.fraction.proofs.Certificate.{quote}
+use Rattle.fraction.proofs.Certificate.{le_by, up, eqn, ◌⊞◌, ◌⊠◌, ◌·◌}
 
 pub record Size (x : Fraction) (e f : ℕ) : Type 0 where
   pub low : nat 1 ≤F x *F pow2 e

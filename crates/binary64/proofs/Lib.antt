@@ -1,0 +1,11 @@
+pub mod Value
+pub mod Range
+pub mod OrderLaws
+pub mod Rounds
+pub mod Bounds
+pub mod Near
+pub mod RangeOps
+pub mod Examples
+pub mod Instances
+pub mod Error
+pub mod RangeTests

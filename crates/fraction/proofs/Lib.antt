@@ -1,0 +1,9 @@
+pub mod Field
+pub mod Certificate
+pub mod Order
+pub mod Within
+pub mod Inverse
+pub mod Clamp
+pub mod Mean
+pub mod Size
+pub mod Examples
