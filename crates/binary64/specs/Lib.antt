@@ -11,7 +11,7 @@
 --   Bounds      `Bounded r B`: finite, |val r| ≤ B.  `Scaled r e f`: finite, 2 ^ -e ≤ val r ≤ 2 ^ f
 --   Near        `Near x q κ k b`: finite, |val x − q| ≤ k · κ · u and |q| ≤ b · κ, for a scale κ that is `Fair` (from 2 ^ -1000 to 2 ^ 900)
 --
--- What is proved
+-- What is proved, in proofs/ but for Sign, Order, Opened, Nearest, Representable and Monotone; Rounds, Bounds and Near stand there with their definitions
 --   RangeTests  where ranges start: literal for closed floats, int-between and count-within for whole numbers, tested-within and tested-sized from a program's comparisons;
 --               and where they end: most-le, most-ge, within-ge, within-positive. In Range most-wider and least-wider widen them
 --   RangeOps    the range of each operation's result from those of its operands: mul- and div-between, add- and sub-alike, -unlike (operands of one sign, of opposite ones),

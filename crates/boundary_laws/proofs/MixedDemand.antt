@@ -1,5 +1,5 @@
 -- THEOREM 2 OF LISTS THAT MIX BUILDS, STEPS, RUNS, REPLAYS AND CYCLES: the cell of the last image is the cell of the last accepted build (or of the first image) after a list of
--- steps, those of the runs, replays and cycles among them, and every node is within K-as-M / 2 ^ 49 of the exact one. Assumes nothing.
+-- steps, those of the runs, replays and cycles among them, and every node is within K·M / 2 ^ 49 of the exact one. Assumes nothing.
 use Rattle.std.specs.Prelude.{ℕ, ◌<◌, ◌≡◌, refl, Bool, true, false, cond, List, [], ◌∷◌, ◌++◌, eqb, length}
 use Rattle.std.proofs.Common.{sym, ap, ◌∙◌, inl, inr}
 use Rattle.fraction.specs.Fraction.{nat, pow2, ◌-F◌, ◌*F◌, ◌/F◌, ◌within◌}
@@ -51,7 +51,7 @@ pub mixed_images_are : (s : List ℕ) (qs : List (CCall CellCall)) → length s 
 unfolding SD.cell_after
 mixed_images_are s qs l = (cell_calls_simulate qs s l).reads ∙ since_is (well_formed_of cell_calls qs) (record { start = cell_at s; steps = [] })
 
--- THEOREM 2. Where the accepted steps since the last build keep 2·h·∣flux∣ ≤ D-as-M at e, every node of e in the last image is within K-as-M / 2 ^ 49 of the exact
+-- THEOREM 2. Where the accepted steps since the last build keep 2·h·∣flux∣ ≤ D·M at e, every node of e in the last image is within K·M / 2 ^ 49 of the exact
 -- one, K their sub-steps.
 pub mixed_images_near : (e : Electrode) (s : List ℕ) (qs : List (CCall CellCall)) → length s ≡ cell_bytes → cell_refusal (since_build_in s qs).start ≡ 0
     → SD.FluxBoundAt e (since_build_in s qs).start (since_build_in s qs).steps → (i : ℕ) → i < (since_build_in s qs).start.config.n_nodes

@@ -36,7 +36,7 @@ use Rattle.image_layout.specs.Layout.{particle_bytes, cell_bytes, cell_step_byte
 abbrev pub ParticleStepConditions : List ℕ → List (CCall PD.Call) → Type 0
 ParticleStepConditions s qs = Each (λ q. StepConditions (PD.numbers_of_of (particle_in s) q)) (accepted_calls particle_steps s qs)
 
--- THEOREM 1. Every node of the last image is within K-as-M / 2 ^ 49 of the exact one, K the number of calls that return 0.
+-- THEOREM 1. Every node of the last image is within K·M / 2 ^ 49 of the exact one, K the number of calls that return 0.
 pub particle_images_near : (s : List ℕ) (qs : List (CCall PD.Call)) → length s ≡ particle_bytes → particle_refusal (particle_in s) ≡ 0 → ParticleStepConditions s qs
     → (i : ℕ) → i < (particle_in s).n_nodes
     → node_of (image_after particle_steps s qs) i -F PD.exact_place (particle_in s) (well_formed_of particle_steps qs) i
@@ -54,11 +54,11 @@ pub particle_images_pass : (s : List ℕ) (qs : List (CCall PD.Call)) → length
 particle_images_pass s qs l h = rw (particle_simulates qs s l).particle (PD.after_passes (particle_in s) (well_formed_of particle_steps qs) h)
 
 -- ---- a cell: lists of `pj_cell_step`
--- the calls that return 0 keep 2·h·∣flux∣ ≤ D-as-M at an electrode
+-- the calls that return 0 keep 2·h·∣flux∣ ≤ D·M at an electrode
 abbrev pub CellFluxBounds : Electrode → List ℕ → List (CCall SD.Call) → Type 0
 CellFluxBounds e s qs = Each (λ q. FluxBound (SD.numbers_at e (cell_at s) q)) (accepted_calls cell_steps s qs)
 
--- THEOREM 2. Every node of the electrode e in the last image is within K-as-M / 2 ^ 49 of the exact one, K the sub-steps that the answers report. Nothing is asked
+-- THEOREM 2. Every node of the electrode e in the last image is within K·M / 2 ^ 49 of the exact one, K the sub-steps that the answers report. Nothing is asked
 -- of the other electrode.
 pub cell_images_near : (e : Electrode) (s : List ℕ) (qs : List (CCall SD.Call)) → length s ≡ cell_bytes → cell_refusal (cell_at s) ≡ 0 → CellFluxBounds e s qs
     → (i : ℕ) → i < (cell_at s).config.n_nodes
@@ -92,7 +92,7 @@ cell_images_near e s qs l h bs i m =
     electrode Electrode.anode t i l = unfold cell_at in unfold particle_at in row_place t cell_anode_profile i l
     electrode Electrode.cathode t i l = unfold cell_at in unfold particle_at in row_place t cell_cathode_profile i l
 
--- THEOREM 3. Two images whose cells are of one make with equal profiles and pass the checks; the calls that return 0 keep 2·h·∣flux∣ ≤ D-as-M at both
+-- THEOREM 3. Two images whose cells are of one make with equal profiles and pass the checks; the calls that return 0 keep 2·h·∣flux∣ ≤ D·M at both
 -- electrodes and are paired: alike in interval and temperature, the second's current no less. Then no node of the second cathode is more than 2·K·M / 2 ^ 49
 -- below the first, and none of the second anode more than that above.
 pub record RankedImages (s s' : List ℕ) (qs qs' : List (CCall SD.Call)) : Type 0 where

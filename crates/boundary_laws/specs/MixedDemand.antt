@@ -1,5 +1,5 @@
 -- THEOREM 2 OF LISTS THAT MIX BUILDS, STEPS, RUNS, REPLAYS AND CYCLES: the cell of the last image is the cell of the last accepted build (or of the first image) after a list of
--- steps, those of the runs, replays and cycles among them, and every node is within K-as-M / 2 ^ 49 of the exact one. Assumes nothing.
+-- steps, those of the runs, replays and cycles among them, and every node is within K·M / 2 ^ 49 of the exact one. Assumes nothing.
 use Rattle.std.specs.Prelude.{ℕ, ◌≡◌, refl, Bool, true, false, cond, List, [], ◌∷◌, ◌++◌, eqb}
 use Rattle.std.proofs.Common.{inl, inr, eqb-true}
 use Rattle.discharge_run.specs.Discharge as DR

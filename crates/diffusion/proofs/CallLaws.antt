@@ -1,4 +1,4 @@
--- Lists of calls: whatever was refused, every node is within K-as-M / 2 ^ 49 of the exact scheme's; and of two lists the one with the greater fluxes ranks above, but for 2·K·M / 2 ^ 49.
+-- Lists of calls: whatever was refused, every node is within K·M / 2 ^ 49 of the exact scheme's; and of two lists the one with the greater fluxes ranks above, but for 2·K·M / 2 ^ 49.
 -- A list of calls comes to the list of the sub-steps of its accepted calls.
 use Rattle.std.specs.Prelude.{ℕ, ◌+◌, ◌<◌, ◌≤◌, ◌≡◌, Bool, T, length, get_or, Float}
 use Rattle.std.proofs.Math.Path.{refl, sym, ap}
@@ -115,7 +115,7 @@ module _ {S Q : Type 0} (a : Stepper S Q) where
     ready s qs h ks = each_with (λ q ms ns. each_with (λ m x y. record { ranges = x; conditions = y }) ms ns) (of_accepted (λ q. Each (λ m. ParametersInRange (sub_step_params a.grid m)) (a.moves q)) laws.ranges qs s h) ks
 
     module _ (s : S) (qs : List Q) (h : Inv s) (w : ProfileInRange a.grid.n (val a.grid.c_max) (a.profile s)) (ks : ConditionsHold a s qs) where
-      -- LISTS OF CALLS: with K the sub-steps of the accepted ones, every node is within K-as-M / 2 ^ 49 of the exact scheme from the same start
+      -- LISTS OF CALLS: with K the sub-steps of the accepted ones, every node is within K·M / 2 ^ 49 of the exact scheme from the same start
       pub calls_near : (i : ℕ) → i < a.grid.n
           → val (get_or (a.profile (after a s qs)) i nan) -F get_or (exact_after a s qs (map val (a.profile s))) i (nat 0) within nat (total a s qs) *F val a.grid.c_max /F pow2 49
       calls_near i l = rw (after_is qs s h, exact_is qs s (map val (a.profile s)), ← total_is qs s) (run_near a.grid (made (accepted a s qs)) (a.profile s) (made_ready (ready s qs h ks)) w i l)

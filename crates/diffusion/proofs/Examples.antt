@@ -62,7 +62,7 @@ M = «31833·0»
 abbrev second : Float
 second = «1·0»
 
--- −4e-4 and −2e-4: 2·h·∣flux∣ is 1e-9 and 5e-10, D-as-M is 1.24e-9
+-- −4e-4 and −2e-4: 2·h·∣flux∣ is 1e-9 and 5e-10, D·M is 1.24e-9
 abbrev fast : Float
 fast = neg «0·0004»
 

@@ -1,4 +1,4 @@
--- Lists of sub-steps: after K of them every node is finite, from 0 to M, and within K-as-M / 2 ^ 49 of the exact scheme's.
+-- Lists of sub-steps: after K of them every node is finite, from 0 to M, and within K·M / 2 ^ 49 of the exact scheme's.
 use Rattle.std.specs.Prelude.{ℕ, suc, ◌+◌, ◌<◌, ◌≤◌, ◌≡◌, length, get_or, Float}
 use Rattle.std.proofs.Math.Path.{refl, subst}
 use Rattle.std.proofs.Common.{◌∙◌, add-zero, arith}
@@ -31,7 +31,7 @@ share_holds = lit≤F tt
 one_more : {M : Fraction} (K : ℕ) → nat 0 ≤F M → M *F (nat 14 *F u) +F bound K M ≤F bound (suc K) M
 one_more {M} K m = le_by (M ∷ u ∷ share ∷ nat K ∷ nat (suc K) ∷ []) 0 (m ⊠ up share_holds ⊞ eqn (neg_f (M *F share) · nat_suc K)) (search quote depth 24) tt
 
--- ---- every node within K-as-M / 2 ^ 49
+-- ---- every node within K·M / 2 ^ 49
 pub record Tracks (b : Grid) (c : List Float) (x : List Fraction) (K : ℕ) : Type 0 where
   pub long : b.n ≤ length x
   pub near : (i : ℕ) → i < b.n → val (get_or c i nan) -F get_or x i (nat 0) within bound K (val b.c_max)
@@ -81,7 +81,7 @@ module _ (b : Grid) where
       subst (λ (k : ℕ). Tracks b (run b ms (sub_step (sub_step_params b m) c)) (exact_run b ms (exact_step (numbers (sub_step_params b m)) x)) k) (omega arith)
       (run_tracks (sub_step (sub_step_params b m) c) (exact_step (numbers (sub_step_params b m)) x) (suc K) rs (sub_step_in_range (sub_step_params b m) r c w) (tracks_step r w h))
 
-  -- LISTS OF SUB-STEPS: with K their number, every node is within K-as-M / 2 ^ 49 of the exact scheme from the same start
+  -- LISTS OF SUB-STEPS: with K their number, every node is within K·M / 2 ^ 49 of the exact scheme from the same start
   pub run_near : (ms : List Move) (c : List Float) → AllReady b ms → ProfileInRange b.n (val b.c_max) c → (i : ℕ) → i < b.n
       → val (get_or (run b ms c) i nan) -F get_or (exact_run b ms (map val c)) i (nat 0) within nat (length ms) *F val b.c_max /F pow2 49
   run_near ms c rs w i l = (subst (λ (k : ℕ). Tracks b (run b ms c) (exact_run b ms (map val c)) k) (add-zero (length ms)) (run_tracks c (map val c) 0 rs w (tracks_start c w))).near i l

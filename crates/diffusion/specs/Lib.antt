@@ -3,11 +3,11 @@
 -- WHERE TO START
 --   Exact       the exact scheme on fractions: `centre`, `inner`, `surface` before the clamp, `exact_node` after it, `exact_step` for a profile. Nothing in it rounds.
 --   Calls       lists of calls: `after`, the state; `exact_after`, the exact scheme given the same calls and whether each was refused; `total`, the number K of sub-steps
---   CallLaws    `calls_near`: every node is within K-as-M / 2 ^ 49 of the exact one;  `calls_ranking`: greater fluxes, nodes nowhere more than 2·K·M / 2 ^ 49 below
+--   CallLaws    `calls_near`: every node is within K·M / 2 ^ 49 of the exact one;  `calls_ranking`: greater fluxes, nodes nowhere more than 2·K·M / 2 ^ 49 below
 --
 -- WHAT IS DEFINED
 --   SubStep     the sub-step in binary64, operation by operation as the program has it; the contracts of the particle's and of the solver's step cite it
---   Premises    `TimeStepBound e`, `FluxBound e`: the demand's two conditions, 6·D·t ≤ h² and 2·h·∣flux∣ ≤ D-as-M, in exact fractions;  `StepConditions e`: both.  `ParametersInRange v`: 3 to 64 nodes, h and M within 2 ^ ±100, D within 2 ^ ±300,
+--   Premises    `TimeStepBound e`, `FluxBound e`: the demand's two conditions, 6·D·t ≤ h² and 2·h·∣flux∣ ≤ D·M, in exact fractions;  `StepConditions e`: both.  `ParametersInRange v`: 3 to 64 nodes, h and M within 2 ^ ±100, D within 2 ^ ±300,
 --               an interval at least 0, a finite flux.  `ProfileInRange n M c`: each of the first n places of c is finite and from 0 to M
 --   Run         `run` and `exact_run`: a list of sub-steps on one grid, each with its own diffusivity, flux and length.  `Each`, `Both`: what holds place by place of one or two lists
 --   Calls       `Stepper`: a state of any kind, its calls, and the sub-steps that an accepted call makes.  `Lawful`: what a particle or an electrode has to show of its own
@@ -19,7 +19,7 @@
 --   ClampValue  the clamp of binary64 is the exact clamp
 --   OneStep     `sub_step_in_range`, `sub_step_near`: one sub-step keeps every node finite and from 0 to M, and within 14·M / 2 ^ 53 of the exact sub-step of the same profile
 --   Profile     what each place holds after a sub-step; unused places stay
---   RunLaws     `run_near`: K sub-steps, K-as-M / 2 ^ 49;  `run_whole`, `run_length`, `run_unused`
+--   RunLaws     `run_near`: K sub-steps, K·M / 2 ^ 49;  `run_whole`, `run_length`, `run_unused`
 --   Ordered     `ordered_run`: the exact scheme keeps the order of two profiles over two lists of sub-steps
 --   Ranking     `ranking`, for two lists of sub-steps alike but for the fluxes
 --   Copies      `run_times`: one sub-step k times over is a list of k

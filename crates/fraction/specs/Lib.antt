@@ -9,7 +9,7 @@
 --   ∣x∣ and ∣x∣ ≤ b    `∣ x ∣`, `x within b`; ∣x − q∣ ≤ e is `x -F q within e`; low ≤ x ≤ high is `x from low to high`
 --   min_f max_f clamp_f   clamp_f low high x: what is below low becomes low, then what is above high becomes high
 --
--- PROVED
+-- PROVED, in proofs/
 --   Field              commutative ring, total order; a number at least 0 by its top; the strict order is "not the other way round"
 --   Order              ≤ and < under sums and products, natural numbers, powers of 2; closed fractions by computing: lit≤F tt, lit<F tt,
 --                      lit≈F refl, under an `unfolding` line that names the operations used

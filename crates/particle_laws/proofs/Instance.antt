@@ -37,7 +37,7 @@ start_passes = build_passes graphite_anode 11 tt refl
 abbrev room : Float
 room = «298·15»
 
--- -1e-4 mol/(m^2 s) for a second: 6·D·t is 2.3e-13, h² 1.6e-12; 2·h·∣flux∣ is 2.5e-10, D-as-M 1.2e-9
+-- -1e-4 mol/(m^2 s) for a second: 6·D·t is 2.3e-13, h² 1.6e-12; 2·h·∣flux∣ is 2.5e-10, D·M 1.2e-9
 abbrev pub draw : Call
 draw = record { flux = neg «0·0001»; dt = one; temp = room }
 

@@ -134,7 +134,7 @@ itself p h = record { passes = h; sheet = refl; nodes = refl }
 pub after_passes : (p : ParticleDiffusion) (qs : List Call) → particle_refusal p ≡ 0 → particle_refusal (after (steps p) p qs) ≡ 0
 after_passes p qs h = (stays_all p qs p (itself p h)).passes
 
--- THEOREM 1. The particle passes the checks; every accepted call keeps 6·D·t ≤ h² and 2·h·∣flux∣ ≤ D-as-M (`StepConditions`). Then every node is within K-as-M / 2 ^ 49 of the exact one.
+-- THEOREM 1. The particle passes the checks; every accepted call keeps 6·D·t ≤ h² and 2·h·∣flux∣ ≤ D·M (`StepConditions`). Then every node is within K·M / 2 ^ 49 of the exact one.
 pub particle_near : (p : ParticleDiffusion) (qs : List Call) → particle_refusal p ≡ 0 → Each (λ q. StepConditions (numbers_of_of p q)) (taken p qs)
     → (i : ℕ) → i < p.n_nodes → place p qs i -F exact_place p qs i within nat (K p qs) *F val p.params.c_s_max /F pow2 49
 particle_near p qs h ks i l =

@@ -2,7 +2,7 @@
 --
 -- WHERE TO START
 --   Demand      THEOREM 1, `particle_near`: a particle that passes the checks, a list of calls of any length, each any three floats; where every accepted call keeps 6·D·t ≤ h² and
---               2·h·∣flux∣ ≤ D-as-M, every node is within K-as-M / 2 ^ 49 of the exact scheme from the same start, K the number of accepted calls. What is folded is `stepped`, the
+--               2·h·∣flux∣ ≤ D·M, every node is within K·M / 2 ^ 49 of the exact scheme from the same start, K the number of accepted calls. What is folded is `stepped`, the
 --               definition that the contract of `step` cites.  `after_passes`: after any list of calls the particle passes the checks, so its nodes are finite
 --   proofs/Demand     `at_accepted` and `at_refused` say what one call does to the particle, to the exact scheme and to K;  `particle_equal`: where none is accepted the values are equal
 --   proofs/Instance   the ready graphite sheet, 11 nodes, three steps and two refused calls: every premise computed, and theorem 1 for them

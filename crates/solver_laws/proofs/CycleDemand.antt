@@ -29,8 +29,8 @@ phase_bounds e l g s n h =
     let qs = cycle_calls l g s n in
     each_with (λ q a b. subst (λ (x : Call). FluxBound (numbers_at e s x)) (sym a.same) (h a.place a.meant)) qs qs
 
--- THEOREM 2 for a cycle. The cell passes the checks; at the electrode e each of the phases keeps 2·h·∣flux∣ ≤ D-as-M. Then every node of e in the cell that the cycle leaves is within
--- K-as-M / 2 ^ 49 of the exact scheme from the same start over its rows' calls, K the sub-steps that their steps report. Nothing is asked of where the phases end.
+-- THEOREM 2 for a cycle. The cell passes the checks; at the electrode e each of the phases keeps 2·h·∣flux∣ ≤ D·M. Then every node of e in the cell that the cycle leaves is within
+-- K·M / 2 ^ 49 of the exact scheme from the same start over its rows' calls, K the sub-steps that their steps report. Nothing is asked of where the phases end.
 pub cycle_near : (e : Electrode) (l : List Phase) (g : CycleSettings) (s : SpmSolver) (places : ℕ) → cell_refusal s ≡ 0 → PhaseFluxBounds e l g s
     → (i : ℕ) → i < (particle_at e s).n_nodes
     → val (place_of (particle_at e (cycled l g s places).solver) i) -F exact_place e s (calls_of l g s (cycled l g s places).rows) i
@@ -39,7 +39,7 @@ cycle_near e l g s places h k i m =
     let n = (cycled l g s places).rows in
     listed_near e s (cycled l g s places).solver (calls_of l g s n) (cycled_listed l g s places) h (phase_bounds e l g s n k) i m
 
--- THEOREM 3 for two cycles. Two cells of one make with equal profiles pass the checks; the phases of both cycles keep 2·h·∣flux∣ ≤ D-as-M at both electrodes; the rows are equally many, and
+-- THEOREM 3 for two cycles. Two cells of one make with equal profiles pass the checks; the phases of both cycles keep 2·h·∣flux∣ ≤ D·M at both electrodes; the rows are equally many, and
 -- their calls are paired: alike in interval and temperature, the second's current no less.
 pub cycle_ranked : (l l' : List Phase) (g g' : CycleSettings) (s s' : SpmSolver) (places places' : ℕ) → cell_refusal s ≡ 0 → cell_refusal s' ≡ 0 → Twins s s'
     → ((e : Electrode) → PhaseFluxBounds e l g s) → ((e : Electrode) → PhaseFluxBounds e l' g' s')

@@ -78,7 +78,7 @@ phases_unrefused d =
     let z = (cycle_refused_first phases settings start 32 phases_pass clock.0 d).0 in
     cycle_refused phases settings start 32 d ((cycle_refused_step phases settings start 32 phases_pass d).number ∙ rw z first_accepted)
 
--- ---- each phase keeps 2·h·∣flux∣ ≤ D-as-M
+-- ---- each phase keeps 2·h·∣flux∣ ≤ D·M
 rest_fits : T (load_fits_of «0·0» «1e6») × T (load_fits_of «0·0» four)
 unfolding le neg of_bits
 rest_fits = (tt, tt)

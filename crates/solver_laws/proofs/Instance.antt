@@ -34,7 +34,7 @@ use Rattle.solver_laws.specs.Ranking.{Ranked}
 use Rattle.solver_laws.proofs.Ranking.{solver_ranking}
 use Rattle.solver_laws.specs.Instance.{DischargeCalls, draw_accepted, draw_count, clocks, currents_fit, d_neg_of, d_pos_of, discharge, draw, four, later, later_made, later_passes, minute, minute_split, no_current, no_current_refused, one_split, plan_by, plan_is, quotient, room, small, start, start_made, start_passes, stronger, stronger_paired, three, too_long, too_long_refused, twins}
 
--- ---- a current of at most 4 A keeps 2·h·∣flux∣ ≤ D-as-M: the fluxes are least and greatest at -4 A and 4 A
+-- ---- a current of at most 4 A keeps 2·h·∣flux∣ ≤ D·M: the fluxes are least and greatest at -4 A and 4 A
 abbrev flux_most : Electrode → Float
 flux_most Electrode.anode = f64 0x3f08_1cac_346c_4365
 flux_most Electrode.cathode = f64 0x3eec_ef35_0bb5_1da9
@@ -70,7 +70,7 @@ flux_within Electrode.cathode i dt m h =
     let b = cathode_flux start start_passes (neg four) i dt dt room room four_sized.1 m (and_l (le (neg four) i) (le i four) h) in
     record { lo = ≤F-trans (neg_most Electrode.cathode) (rw f.cathode_low at b); hi = rw f.cathode_high at a }
 
--- at the anode 2·h·∣flux∣ is at most 1.2e-10 and D-as-M 1.2e-9; at the cathode 6.9e-12 and 2.3e-10
+-- at the anode 2·h·∣flux∣ is at most 1.2e-10 and D·M 1.2e-9; at the cathode 6.9e-12 and 2.3e-10
 abbrev diffusivity_of : Electrode → Float
 diffusivity_of Electrode.anode = d_neg_of
 diffusivity_of Electrode.cathode = d_pos_of

@@ -17,12 +17,12 @@ use Rattle.solver_laws.specs.ListedDemand.{CellsRanked, FluxBounds}
 taken_bounds : (e : Electrode) (s r : SpmSolver) (qs : List Call) → Listed s r qs → FluxBounds e s qs → FluxBoundAt e s qs
 taken_bounds e s r qs a bs = rw (all_taken a.accepted) bs
 
--- THEOREM 2: every node of e in the cell r is within K-as-M / 2 ^ 49 of the exact scheme from the same start over these calls
+-- THEOREM 2: every node of e in the cell r is within K·M / 2 ^ 49 of the exact scheme from the same start over these calls
 pub listed_near : (e : Electrode) (s r : SpmSolver) (qs : List Call) → Listed s r qs → cell_refusal s ≡ 0 → FluxBounds e s qs → (i : ℕ) → i < (particle_at e s).n_nodes
     → val (place_of (particle_at e r) i) -F exact_place e s qs i within nat (K s qs) *F val (particle_at e s).params.c_s_max /F pow2 49
 listed_near e s r qs a h bs i l = rw a.cell (solver_near e s qs h (taken_bounds e s r qs a bs) i l)
 
--- THEOREM 3: two cells of one make with equal profiles pass the checks; the calls keep 2·h·∣flux∣ ≤ D-as-M at both electrodes, and are paired: alike in interval and temperature, the second's
+-- THEOREM 3: two cells of one make with equal profiles pass the checks; the calls keep 2·h·∣flux∣ ≤ D·M at both electrodes, and are paired: alike in interval and temperature, the second's
 -- current no less
 pub listed_ranked : (s s' r r' : SpmSolver) (qs qs' : List Call) → Listed s r qs → Listed s' r' qs' → cell_refusal s ≡ 0 → cell_refusal s' ≡ 0 → Twins s s'
     → ((e : Electrode) → FluxBounds e s qs) → ((e : Electrode) → FluxBounds e s' qs') → Both Paired qs qs' → CellsRanked s r r' (K s qs)

@@ -40,8 +40,8 @@ line_bounds : (e : Electrode) (text : List ℕ) (temp : Float) (s : SpmSolver) (
     → FluxBounds e s (calls_of text temp (replayed text temp s places).rows)
 line_bounds e text temp s places h = each_line (λ q. FluxBound (numbers_at e s q)) text temp (replayed text temp s places).rows h
 
--- THEOREM 2 for a replay. The cell passes the checks; at the electrode e each line that has a row keeps 2·h·∣flux∣ ≤ D-as-M. Then every node of e in the cell that the replay leaves is
--- within K-as-M / 2 ^ 49 of the exact scheme from the same start over these lines, K the sub-steps that their steps report.
+-- THEOREM 2 for a replay. The cell passes the checks; at the electrode e each line that has a row keeps 2·h·∣flux∣ ≤ D·M. Then every node of e in the cell that the replay leaves is
+-- within K·M / 2 ^ 49 of the exact scheme from the same start over these lines, K the sub-steps that their steps report.
 pub replay_near : (e : Electrode) (text : List ℕ) (temp : Float) (s : SpmSolver) (places : ℕ) → cell_refusal s ≡ 0 → LineFluxBounds e text temp s places
     → (i : ℕ) → i < (particle_at e s).n_nodes
     → val (place_of (particle_at e (replayed text temp s places).solver) i) -F exact_place e s (calls_of text temp (replayed text temp s places).rows) i
@@ -49,7 +49,7 @@ pub replay_near : (e : Electrode) (text : List ℕ) (temp : Float) (s : SpmSolve
 replay_near e text temp s places h k i l =
     listed_near e s (replayed text temp s places).solver (calls_of text temp (replayed text temp s places).rows) (replayed_listed text temp s places) h (line_bounds e text temp s places k) i l
 
--- THEOREM 3 for two replays at one temperature. Two cells of one make with equal profiles pass the checks; the replays have equally many rows, their lines keep 2·h·∣flux∣ ≤ D-as-M at both
+-- THEOREM 3 for two replays at one temperature. Two cells of one make with equal profiles pass the checks; the replays have equally many rows, their lines keep 2·h·∣flux∣ ≤ D·M at both
 -- electrodes and are paired: alike in interval, the second's current no less.
 pub replay_ranked : (text text' : List ℕ) (temp : Float) (s s' : SpmSolver) (places places' : ℕ) → cell_refusal s ≡ 0 → cell_refusal s' ≡ 0 → Twins s s'
     → ((e : Electrode) → LineFluxBounds e text temp s places) → ((e : Electrode) → LineFluxBounds e text' temp s' places')

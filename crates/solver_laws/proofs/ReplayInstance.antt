@@ -75,7 +75,7 @@ some_row z =
 lower_case : 2 < rows → ⊥
 lower_case m = subst T (sym (replay_line text room start 24 2 m).form ∙ lines.third) tt
 
--- ---- both lines keep 2·h·∣flux∣ ≤ D-as-M
+-- ---- both lines keep 2·h·∣flux∣ ≤ D·M
 bounded : (e : Electrode) (q : Call) (dt : Float) → q ≡ draw three dt → FluxBound (numbers_at e start q)
 bounded e q dt h = subst (λ (x : Call). FluxBound (numbers_at e start x)) (sym h) (draw_bound e three dt (current_range three currents_fit.0) small.0)
 

@@ -82,7 +82,7 @@ run_near e w s places h k i l =
     let near = listed_near e s (discharged w s places).solver (calls_of w s places) (discharged_listed w s places) c k' i l in
     rw (all_counted s (call_of w) n s (itself s c) (discharged_listed w s places).accepted) at near
 
--- THEOREM 3 for two runs. Nothing refuses either as a whole; two cells of one make with equal profiles; the steps of each keep 2·h·∣flux∣ ≤ D-as-M at both electrodes; the rows are equally many,
+-- THEOREM 3 for two runs. Nothing refuses either as a whole; two cells of one make with equal profiles; the steps of each keep 2·h·∣flux∣ ≤ D·M at both electrodes; the rows are equally many,
 -- and the steps paired: alike in interval and temperature, the second's current no less.
 pub run_ranked : (w w' : RunSettings) (s s' : SpmSolver) (places places' : Room) → run_refusal w s places ≡ 0 → run_refusal w' s' places' ≡ 0 → Twins s s'
     → ((e : Electrode) → FluxBound (numbers_at e s (call_of w))) → ((e : Electrode) → FluxBound (numbers_at e s' (call_of w')))

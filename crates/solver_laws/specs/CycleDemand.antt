@@ -10,6 +10,6 @@ use Rattle.solver_laws.specs.Electrodes.{Electrode}
 use Rattle.solver_laws.specs.Demand.{numbers_at}
 use Rattle.solver_laws.specs.CycleCalls.{call_of}
 
--- the call of each of the first `count` phases keeps 2·h·∣flux∣ ≤ D-as-M at an electrode
+-- the call of each of the first `count` phases keeps 2·h·∣flux∣ ≤ D·M at an electrode
 abbrev pub PhaseFluxBounds : Electrode → List Phase → CycleSettings → SpmSolver → Type 0
 PhaseFluxBounds e l g s = (k : ℕ) → k < g.count → FluxBound (numbers_at e s (call_of g (phase_at l k)))

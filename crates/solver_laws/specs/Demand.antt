@@ -83,7 +83,7 @@ numbers_at e s q = record {
   t = val (q.dt ⊘ count (sub_steps_of (plan_for s q)));
 }
 
--- the accepted calls keep 2·h·∣flux∣ ≤ D-as-M at an electrode
+-- the accepted calls keep 2·h·∣flux∣ ≤ D·M at an electrode
 abbrev pub FluxBoundAt : Electrode → SpmSolver → List Call → Type 0
 FluxBoundAt e s qs = Each (λ q. FluxBound (numbers_at e s q)) (taken s qs)
 
@@ -132,7 +132,7 @@ accepted_stable e s q = go (answer s q) (leads s q.current q.dt q.temp)
     go a (Leads.refused k) z = absurd (omega (arith, z))
     go a (Leads.moved h g f) z = sub_step_stable s q.current q.dt q.temp h g e
 
--- THEOREM 2. The cell passes the checks; at the electrode e every accepted call keeps 2·h·∣flux∣ ≤ D-as-M. Then every node of e is within K-as-M / 2 ^ 49 of the exact one. Nothing is asked of
+-- THEOREM 2. The cell passes the checks; at the electrode e every accepted call keeps 2·h·∣flux∣ ≤ D·M. Then every node of e is within K·M / 2 ^ 49 of the exact one. Nothing is asked of
 -- the other electrode, nor of the length of the sub-steps.
 abbrev pub SolverNear : Type 0
 SolverNear = (e : Electrode) (s : SpmSolver) (qs : List Call) → cell_refusal s ≡ 0 → FluxBoundAt e s qs

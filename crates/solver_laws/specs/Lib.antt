@@ -6,7 +6,7 @@
 --
 -- WHERE TO START
 --   Demand      THEOREM 2, `solver_near` (P): a cell that passes the checks, a list of calls of any length, each any three floats, and one of the electrodes; where every accepted call keeps
---               2·h·∣flux∣ ≤ D-as-M at that electrode, every node of it is within K-as-M / 2 ^ 49 of the exact scheme from the same start, K the sub-steps that the answers
+--               2·h·∣flux∣ ≤ D·M at that electrode, every node of it is within K·M / 2 ^ 49 of the exact scheme from the same start, K the sub-steps that the answers
 --               report. `accepted_stable`: 6·D·t ≤ h², the demand's other condition, holds of every accepted call. What is folded (`cell_after`, `taken`, `K`) is `stepped`, the definition that the contract of `step` cites; each sub-step is dt / count long, in binary64.
 --               `after_passes`: after any list of calls the cell passes the checks, so its nodes are finite
 --   Ranking     THEOREM 3, `solver_ranking` (P): two cells of one make with equal profiles (`Twins`), two lists that keep that bound at both electrodes, their accepted calls paired

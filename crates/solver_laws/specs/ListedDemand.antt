@@ -9,7 +9,7 @@ use Rattle.solver.specs.declared.SpmSolver.{SpmSolver}
 use Rattle.solver_laws.specs.Electrodes.{Electrode}
 use Rattle.solver_laws.specs.Demand.{Call, numbers_at}
 
--- each call of a list keeps 2·h·∣flux∣ ≤ D-as-M at an electrode
+-- each call of a list keeps 2·h·∣flux∣ ≤ D·M at an electrode
 abbrev pub FluxBounds : Electrode → SpmSolver → List Call → Type 0
 FluxBounds e s qs = Each (λ q. FluxBound (numbers_at e s q)) qs
 

@@ -30,7 +30,7 @@ pub record Ranked (s s' : SpmSolver) (qs qs' : List Call) : Type 0 where
   pub cathode : (i : ℕ) → i < s.config.n_nodes → place Electrode.cathode s qs i -F nat 2 *F nat (K s qs) *F val s.cathode.params.c_s_max /F pow2 49 ≤F place Electrode.cathode s' qs' i
   pub anode : (i : ℕ) → i < s.config.n_nodes → place Electrode.anode s' qs' i ≤F place Electrode.anode s qs i +F nat 2 *F nat (K s qs) *F val s.anode.params.c_s_max /F pow2 49
 
--- THEOREM 3. Two cells of one make with equal profiles pass the checks; the accepted calls of each list keep 2·h·∣flux∣ ≤ D-as-M at both electrodes; the accepted calls, in order, are equally many and
+-- THEOREM 3. Two cells of one make with equal profiles pass the checks; the accepted calls of each list keep 2·h·∣flux∣ ≤ D·M at both electrodes; the accepted calls, in order, are equally many and
 -- paired: alike in interval and temperature, the second's current no less. Refused calls may stand anywhere in either list.
 abbrev pub SolverRanking : Type 0
 SolverRanking = (s s' : SpmSolver) (qs qs' : List Call) → cell_refusal s ≡ 0 → cell_refusal s' ≡ 0 → Twins s s'

@@ -8,6 +8,6 @@ use Rattle.solver_laws.specs.Electrodes.{Electrode}
 use Rattle.solver_laws.specs.Demand.{numbers_at}
 use Rattle.solver_laws.specs.ReplayCalls.{call_at}
 
--- each line that has a row keeps 2·h·∣flux∣ ≤ D-as-M at an electrode
+-- each line that has a row keeps 2·h·∣flux∣ ≤ D·M at an electrode
 abbrev pub LineFluxBounds : Electrode → List ℕ → Float → SpmSolver → ℕ → Type 0
 LineFluxBounds e text temp s places = (j : ℕ) → j < (replayed text temp s places).rows → FluxBound (numbers_at e s (call_at text temp j))

@@ -31,7 +31,7 @@ pub run_passes : (w : RunSettings) (s : SpmSolver) (places : Room) → run_refus
 unfolding cell_refusal first_refusal
 run_passes w s places h = let a = run_tests w s places h in rw (a.0, a.1)
 
--- THEOREM 2. Nothing refuses the whole run; at the electrode e its step keeps 2·h·∣flux∣ ≤ D-as-M. Then every node of e in the cell that the run leaves is within K-as-M / 2 ^ 49 of the exact
+-- THEOREM 2. Nothing refuses the whole run; at the electrode e its step keeps 2·h·∣flux∣ ≤ D·M. Then every node of e in the cell that the run leaves is within K·M / 2 ^ 49 of the exact
 -- scheme from the same start over the run's calls, where K = rows · sub-steps of one step.
 abbrev pub RunNear : Type 0
 RunNear = (e : Electrode) (w : RunSettings) (s : SpmSolver) (places : Room) → run_refusal w s places ≡ 0 → FluxBound (numbers_at e s (call_of w)) → (i : ℕ) → i < (particle_at e s).n_nodes
