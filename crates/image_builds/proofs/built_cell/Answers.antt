@@ -7,12 +7,12 @@ use Rattle.image_builds.proofs.built_cell.Goals as goal
 pub returns-in-8 : goal.returns-in-8
 unfolding cell_built
 returns-in-8 c =
-    rw (c.in-8.is, ← c.config_at-config.ensures) c.graphite_lfp.ensures
+    rw (c.in-8.is, ← c.config_at-config.ensures) (search rules)
 
 pub returns-in-9 : goal.returns-in-9
 unfolding cell_built
 returns-in-9 c =
-    rw (c.in-9.is, ← c.config_at-config.ensures) c.graphite_nmc.ensures
+    rw (c.in-9.is, ← c.config_at-config.ensures) (search rules)
 
 pub returns-in_default : goal.returns-in_default
 unfolding cell_built
