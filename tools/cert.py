@@ -1,5 +1,5 @@
 #!/usr/bin/env python3
-"""Finds the certificate of an inequality of fractions (crates/fraction/specs/Certificate.antt).
+"""Finds the certificate of an inequality of fractions (crates/fraction/proofs/Certificate.antt).
 
     cert.py 'x y a b A B e f' 'hx: in x-a e' 'hy: in y-b f' 'ha: in a A' 'hb: in b B' 'goal in x*y-a*b A*f+B*e+e*f' [deg=2]
 

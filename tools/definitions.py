@@ -9,6 +9,7 @@ It starts from the names in the contracts of the library crates' public function
 (`CRATE/specs/FILE: name`), and follows each definition's own text, down to the records of src and the kit's library. Proofs are not followed: whoever believes
 the checker need not read them.
 """
+import functools
 import re
 import sys
 
@@ -61,10 +62,14 @@ class Struct:
 
 
 def structs(source):
-    for m in re.finditer(r"^((?://[^\n]*\n)*(?:#\[[^\n]*\]\n)*)(?:pub )?(?:struct|enum) (\w+) \{.*?^\}", source.text, re.M | re.S):
+    for m in re.finditer(r"^((?://[^\n]*\n)*(?:#\[[^\n]*\]\n)*)(?:pub )?(?:struct|enum) (\w+)(?:<[^>\n]*>)? \{.*?^\}", source.text, re.M | re.S):
         first = source.text.count("\n", 0, m.start()) + 1
         line = first + m.group(1).count("\n")
-        yield Struct(source, m.group(2), first, line, without_comments(m.group()[len(m.group(1)):], "//"))
+        text = m.group()[len(m.group(1)):]
+        model = re.search(r"^impl(?:<[^>\n]*>)? Model for " + m.group(2) + r"\b.*?^\}", source.text, re.M | re.S)
+        if model:  # what stands for the record in clauses, and its invariant
+            text += "\n" + model.group()
+        yield Struct(source, m.group(2), first, line, without_comments(text, "//"))
 
 
 class Library:
@@ -114,12 +119,20 @@ def is_law(d):
     return not result or result[0] not in DATA
 
 
+@functools.cache
+def models():
+    """The types of src that another value stands for in clauses."""
+    return {m for path in (TOP / "crates").glob("*/src/**/*.rt") for m in re.findall(r"^impl\b.* Model for (\w+)", path.read_text(encoding="utf-8"), re.M)}
+
+
 def contracts(path):
-    """Each public function of a file: its name, whether C calls it, the clauses of its contract."""
+    """Each public function of a file: its name, whether C calls it, the clauses of its contract with the types of its signature that have a model."""
     text = without_comments(path.read_text(encoding="utf-8"), "//")
     for m in re.finditer(r"^( *)pub (extern \"C\" )?fn (\w+)", text, re.M):
         head = re.split(r"\n" + m.group(1) + r"\{\n", text[m.start():], maxsplit=1)[0]
-        yield m.group(3), bool(m.group(2)), " ".join(re.findall(r"(?:requires|ensures)[^{\n]*\{.*", head))
+        of = re.findall(r"^impl\b.*?(\w+)(?:<[^>\n]*>)? \{$", text[:m.start()], re.M)[-1:] if m.group(1) else []
+        types = [w for w in re.findall(r"\b[A-Z]\w+", re.split(r"\n *(?:requires|ensures)\b", head)[0]) + of if w in models()]
+        yield m.group(3), bool(m.group(2)), " ".join(re.findall(r"(?:requires|ensures)[^{\n]*\{.*", head) + types)
 
 
 def cited(library, names):

@@ -6,7 +6,8 @@
     tools/inner_functions.py --write    puts them into the page
 
 The first list has every public function with a `requires`. The second has every public function that gives a number, an array of
-numbers or a record of numbers with no refusal beside it, and so may give a NaN or an infinity. Calls of the stepper are in neither.
+numbers or a record of numbers with no refusal beside it, by itself, in an Option or beside an error that is no refusal, and so may give
+a NaN or an infinity. Calls of the stepper, which give a `Result<.., Refusal>`, are in neither.
 """
 import re
 import sys
@@ -16,9 +17,9 @@ TOP = Path(__file__).resolve().parent.parent
 PAGE = TOP / "docs" / "DECISIONS.md"
 WIDTH = 170
 # Records that a caller fills in, of which nothing is worked out.
-INPUTS = {"ElectrodeParams", "ElectrolyteParams", "DfnParams", "SpmConfig", "SpmParts"}
-# What is always finite: a count, and the zeros beside a refusal.
-FINITE = {"count_f64", "no_particle", "no_state"}
+INPUTS = {"ElectrodeParams", "ElectrolyteParams", "DfnParams", "SpmConfig", "SpmParts", "ParticleView"}
+# What is always finite: a count, the zeros before a first step, a decimal that is read.
+FINITE = {"profile::count_f64", "solver_step::no_state", "decimal_text::nearest", "decimal_text::read"}
 
 
 def libraries():
@@ -29,10 +30,11 @@ def functions(crate):
     """Each public function of a crate: its name, what it returns, whether it asks something."""
     for path in sorted((TOP / "crates" / crate / "src").rglob("*.rt")):
         text = path.read_text(encoding="utf-8")
-        for m in re.finditer(r"^( *)pub fn (\w+)", text, re.M):
-            head = re.split(r"\n" + m.group(1) + r"\{\n", text[m.start():], maxsplit=1)[0]
-            result = re.search(r"\) -> ([^\n]+)", head)
-            yield m.group(2), result.group(1).strip() if result else "", "\n" + m.group(1) + "    requires" in head
+        text = re.sub(r"^pub trait .*?^\}", lambda m: re.sub(r"^    fn ", "    pub fn ", m.group(), flags=re.M), text, flags=re.M | re.S)
+        for m in re.finditer(r"^( *)pub (?:const )?fn (\w+)", text, re.M):
+            head = re.split(r"\n" + m.group(1) + r"\{\n|;\n", text[m.start():], maxsplit=1)[0]
+            results = re.findall(r"\) -> ((?:(?!\) -> )[^\n])+)$", head, re.M)  # the last: those before it are of closures that it takes
+            yield m.group(2), results[-1].strip(" {") if results else "", "\n" + m.group(1) + "    requires" in head
 
 
 def records(names):
@@ -40,10 +42,18 @@ def records(names):
     found = set()
     for crate in names:
         for path in (TOP / "crates" / crate / "src").rglob("*.rt"):
-            for name, body in re.findall(r"pub struct (\w+) \{(.*?)\n\}", path.read_text(encoding="utf-8"), re.S):
+            for name, body in re.findall(r"pub struct (\w+)(?:<[^>]*>)? \{(.*?)\n\}", path.read_text(encoding="utf-8"), re.S):
                 if "f64" in body and "refusal:" not in body and name not in INPUTS:
                     found.add(name)
     return found
+
+
+def is_bare(result, plain):
+    """Whether a result has a number of the field, by itself or in a record, and no refusal beside it."""
+    wrapped = re.fullmatch(r"(?:Option<(.*)>|Result<(.*), (\w+)>)", result)
+    if wrapped:
+        return wrapped.group(3) != "Refusal" and is_bare(wrapped.group(1) or wrapped.group(2), plain)
+    return result == "f64" or result.startswith("[f64") or result.split("<")[0] in plain
 
 
 def lists():
@@ -53,7 +63,7 @@ def lists():
     for crate in names:
         public = list(functions(crate))
         asks.append((crate, [n for n, _, requires in public if requires]))
-        numbers.append((crate, [n for n, r, _ in public if n not in FINITE and (r == "f64" or r.startswith("[f64") or r in plain)]))
+        numbers.append((crate, [n for n, r, _ in public if f"{crate}::{n}" not in FINITE and is_bare(r, plain)]))
     return asks, numbers
 
 

@@ -39,6 +39,8 @@ def unused(path):
     for word in words(rest):
         used.add(word)
         used.update(parts(word))
+        if path.suffix == ".rt":
+            used.update(re.split(r"[<>]+", word))  # `Result<T, Refusal>`, `&View<'_>`
     heads = {re.split(r"[.:]", i.path)[0] for i in brought}
     acts = "do" in used or "←" in used
     lines = raw.splitlines()

@@ -1,5 +1,6 @@
 // What C links: each call of the library boundary under its own name, with the same contract. The archive libboundary.a is made of this crate; harness/c/persimmonjib.h
 // declares its functions.
+// Numbers, and lengths beside slices, are C's interface.
 #![tactic(auto)]
 
 ghost use Rattle.std.specs.Prelude.{◌≡◌, length};

@@ -2,7 +2,7 @@
 use Rattle.std.specs.Prelude.{ℕ, ◌≡◌, List, eqb}
 use Rattle.matrix_rows.specs.Loops.{either}
 use Rattle.electrode.specs.Sheet.{graphite_anode, lfp_cathode, nmc_cathode}
-use Rattle.solver.specs.declared.SpmBuildAnswer.{SpmBuildAnswer}
+use Rattle.solver.specs.Answers.{SpmBuildAnswer}
 use Rattle.solver.specs.Cell as S
 use Rattle.solver_laws.specs.Build.{build_passes}
 use Rattle.sheet_images.specs.Images.{sheet_at, config_at}

@@ -10,7 +10,7 @@ use Rattle.refusal.specs.Numbers.{first_refusal, refusal_unless}
 use Rattle.electrode.specs.declared.ElectrodeParams.{ElectrodeParams}
 use Rattle.electrode.specs.Sheet.{graphite_anode}
 use Rattle.particle.specs.declared.ParticleDiffusion.{ParticleDiffusion}
-use Rattle.particle.specs.declared.ParticleAnswer.{ParticleAnswer}
+use Rattle.particle.specs.Answers.{ParticleAnswer}
 use Rattle.particle.specs.Calls as P
 use Rattle.particle_laws.specs.Demand as PD
 use Rattle.particle_laws.proofs.Instance.{start, start_passes, sheet_is, nodes_are, draw, no_flux, no_time, discharge, discharge_taken, discharge_conditions_hold}

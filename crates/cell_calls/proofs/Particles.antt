@@ -6,8 +6,8 @@ use lib.Ieee.{Float}
 use Rattle.binary64.specs.Operators.{◌⊕◌}
 use Rattle.codec.specs.Words.{places_at}
 use Rattle.solver_step.specs.declared.SpmParts.{SpmParts}
-use Rattle.solver_step.specs.declared.SpmReported.{SpmReported}
-use Rattle.solver.specs.declared.SpmStepAnswer.{SpmStepAnswer}
+use Rattle.solver_step.specs.Answers.{SpmReported}
+use Rattle.solver.specs.Answers.{SpmStepAnswer}
 use Rattle.solver.specs.Step.{stepped}
 use Rattle.solver.specs.Parts.{parts_of, Agrees, StepOf, cell_with, step_by, answer_kept, answer_made}
 use Rattle.cell_images.specs.Images.{cell_at, put_cell, put_report}

@@ -2,12 +2,12 @@
 use Rattle.std.specs.Prelude.{ℕ, List, Float}
 use Rattle.codec.specs.Words.{put_float}
 use Rattle.image_rows.specs.Written.{written}
-use Rattle.particle.specs.declared.ParticleAnswer.{ParticleAnswer}
+use Rattle.particle.specs.Answers.{ParticleAnswer}
 use Rattle.particle.specs.Particle.{particle_of}
 use Rattle.particle.specs.Calls as P
 use Rattle.solver_step.specs.declared.SpmParts.{SpmParts}
 use Rattle.solver_step.specs.declared.report.SpmState.{SpmState}
-use Rattle.solver.specs.declared.SpmStepAnswer.{SpmStepAnswer}
+use Rattle.solver.specs.Answers.{SpmStepAnswer}
 use Rattle.solver.specs.Step as S
 use Rattle.cell_images.specs.Images.{cell_at, put_cell, put_report}
 use Rattle.sheet_images.specs.Images.{particle_at, put_particle, put_config}

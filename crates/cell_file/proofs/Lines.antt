@@ -1,71 +1,69 @@
 -- What a text sets, and line after line. Assumes nothing.
-use Rattle.std.proofs.Common.{◌≡◌, ℕ, suc, ◌+◌, ◌-◌, ◌<◌, ◌≤◌, Bool, true, false, cond, ◌&&◌, eqb, ltb, leb, ◌⊎◌, List, [], ◌∷◌, length, take, drop, sym, refl, ◌∙◌, inl, inr, ⊎_elim, le_refl, zero-add, add-one, arith, length-drop, drop-drop, le-ltb, lt-ltb, ne_eqb, le-leb, leb-false, leb-true}
+use Rattle.std.proofs.Common.{◌≡◌, ℕ, suc, ◌+◌, ◌-◌, ◌<◌, ◌≤◌, Bool, true, false, cond, ◌&&◌, eqb, ltb, List, [], ◌∷◌, length, take, drop, Err, sym, refl, ◌∙◌, le_refl, add-one, arith, length-drop, le-ltb, lt-ltb, le-leb, take_all}
+use Rattle.std.proofs.Math.Dec.{eqb-suc-zero}
 use borrow.Author.Tests.{lt-leb}
-use Rattle.plain_text.specs.Text.{index_of, lines_of, starts_with, after_mark}
-use Rattle.plain_text.specs.Pieces.{rest_is, lines_behind, lines_first}
+use Rattle.std.specs.List.{slice_index}
+use Rattle.plain_text.specs.Text.{index_of, before, lines_of, starts_with, after_mark}
+use Rattle.plain_text.specs.Pieces.{lines_behind, lines_first}
+use Rattle.decimal_text.specs.declared.DecimalError.{DecimalError}
+use Rattle.decimal_text.specs.declared.DecimalError.TheVariants.{TooLong, NotDecimal}
 use Rattle.setting_table.specs.Names.{none}
-use Rattle.cell_file.specs.declared.Setting.{Setting}
-use Rattle.cell_file.specs.declared.Settings.{Settings}
-use Rattle.cell_file.specs.Settings.{setting, no_sign, long_file, not_given, assigned, setting_of, solid_setting}
-use Rattle.cell_file.specs.Settings.{faulted, taken_line, lines_taken, file_taken, in_sheets, missing_by, whole_sheets, cell_taken}
+use Rattle.cell_file.specs.declared.Fault.{Fault}
+use Rattle.cell_file.specs.Answers.{Settings, number_of, fault_from}
+use Rattle.cell_file.specs.Settings.{setting, long_file, not_given, valued, faulted, taken_line, lines_taken, file_taken, last, in_sheets, is_asked, missing_by, whole_sheets, cell_taken}
 use Rattle.binary64.specs.Literals.{«0·0»}
 
-module _ (t : List ℕ) (i : ℕ) (some : length t ≡ 0 → ⊥) (e : i ≡ 0 + index_of 61 t) where
-  is_index : index_of 61 t ≡ i
-  is_index = sym (zero-add (index_of 61 t)) ∙ sym e
+pub is_fault : (e : Fault) → eqb (number_of e) 0 ≡ false
+is_fault e = eqb-suc-zero _
 
-  pub sets : (r : Setting) → i < length t → r ≡ assigned (take i t) (take (length t - (i + 1)) (drop (i + 1) t)) → r ≡ solid_setting t
-  unfolding solid_setting setting_of
-  sets r h q = rw (ne_eqb (length t) 0 some, is_index, lt-ltb i (length t) h) (q ∙ rw (rest_is (i + 1) t, add-one i))
+pub valued_none : (k : ℕ) (e : DecimalError) → setting (number_of (fault_from e)) k «0·0» ≡ valued k (Err e)
+unfolding valued
+valued_none k TooLong = refl
+valued_none k NotDecimal = refl
 
-  pub sets_none : length t ≤ i → setting no_sign none «0·0» ≡ solid_setting t
-  unfolding solid_setting setting_of
-  sets_none h = rw (ne_eqb (length t) 0 some, is_index, le-ltb i (length t) h)
+-- a text without a remark
+pub before_all : (b : ℕ) (s : List ℕ) → index_of b s ≡ length s → s ≡ before b s
+unfolding before
+before_all b s e = rw e (sym (take_all (length s) s (le_refl (length s))))
 
-either_way : (a b : ℕ) → (a ≤ b) ⊎ (b < a)
-either_way a b = go (leb a b) refl
-  where
-    go : (t : Bool) → leb a b ≡ t → (a ≤ b) ⊎ (b < a)
-    go true q = inl (leb-true a b q)
-    go false q = inr (leb-false a b q)
+pub before_some : (b : ℕ) (s t : List ℕ) → t ≡ take (index_of b s) s → t ≡ before b s
+unfolding before
+before_some b s t e = e
 
--- the lines from a place on
-unfoldable pub lines_from : ℕ → List ℕ → List (List ℕ)
-lines_from from s = cond (leb from (length s)) (lines_of (drop from s)) []
+-- ---- after a fault nothing is taken
+fault_stays : (ls : List (List ℕ)) (st : Settings) (n : ℕ) → eqb st.fault 0 ≡ false → st ≡ lines_taken st n ls
+unfolding lines_taken taken_line
+fault_stays [] st n h = refl
+fault_stays (l ∷ ls) st n h = rw h (fault_stays ls st (suc n) h)
 
-pub from_start : (s : List ℕ) → lines_from 0 s ≡ lines_of s
-unfolding lines_from
-from_start s = rw (le-leb 0 (length s) (omega arith))
+-- ---- the first line, and those after it
+module _ (st next : Settings) (n : ℕ) (s first : List ℕ) where
+  first-line : first ≡ take (index_of 10 s) s → next ≡ taken_line st n first → lines_taken next (suc n) (lines_behind s) ≡ lines_taken st n (lines_of s)
+  unfolding lines_taken
+  first-line e q = rw (lines_first s, q, e)
 
-module _ (s : List ℕ) (from : ℕ) (h : from ≤ length s) where
-  is_behind : lines_behind (drop from s) ≡ lines_from (from + index_of 10 (drop from s) + 1) s
-  unfolding lines_behind lines_from
-  is_behind = rw (length-drop from s, drop-drop) (go (index_of 10 (drop from s)))
-    where
-      go : (i : ℕ) → cond (ltb i (length s - from)) (lines_of (drop (from + suc i) s)) [] ≡ cond (leb (from + i + 1) (length s)) (lines_of (drop (from + i + 1) s)) []
-      go i =
-          let q : from + suc i ≡ from + i + 1 = omega arith in
-          ⊎_elim
-          (λ (d : from + i + 1 ≤ length s). rw (le-leb (from + i + 1) (length s) d, lt-ltb i (length s - from) (omega arith), q))
-          (λ (d : length s < from + i + 1). rw (lt-leb (from + i + 1) (length s) d, le-ltb i (length s - from) (omega arith)))
-          (either_way (from + i + 1) (length s))
+  is_behind : index_of 10 s < length s → lines_behind s ≡ lines_of (drop (suc (index_of 10 s)) s)
+  unfolding lines_behind
+  is_behind h = rw (lt-ltb _ _ h)
 
-  first-line :
-      (st : Settings) (n : ℕ)
-      → lines_taken st n (lines_from from s) ≡ lines_taken (taken_line st n (take (index_of 10 (drop from s)) (drop from s))) (suc n) (lines_behind (drop from s))
-  unfolding lines_taken lines_from
-  first-line st n = rw (le-leb from (length s) h, lines_first (drop from s))
+  none_behind : index_of 10 s ≡ length s → lines_behind s ≡ []
+  unfolding lines_behind
+  none_behind h = rw (h, le-ltb (length s) (length s) (le_refl (length s)))
 
   pub line-turn :
-      (st : Settings) (n e : ℕ) → e ≡ from + index_of 10 (drop from s)
-      → lines_taken (taken_line st n (take (e - from) (drop from s))) (n + 1) (lines_from (e + 1) s) ≡ lines_taken st n (lines_from from s)
-  line-turn st n e q =
-      let i : e - from ≡ index_of 10 (drop from s) = omega arith in
-      rw (i, q, ← is_behind, add-one n) (sym (first-line st n))
+      (others : List ℕ) → index_of 10 s < length s → first ≡ take (index_of 10 s) s → others ≡ drop (suc (index_of 10 s)) s → next ≡ taken_line st n first
+      → lines_taken next (n + 1) (lines_of others) ≡ lines_taken st n (lines_of s)
+  line-turn others h e f q = rw (f, ← is_behind h, add-one n) (first-line e q)
 
-pub over : (s : List ℕ) (st : Settings) (n from : ℕ) → length s < from → lines_taken st n (lines_from from s) ≡ st
-unfolding lines_taken lines_from
-over s st n from h = rw (lt-leb from (length s) h)
+  pub line-fault : first ≡ take (index_of 10 s) s → next ≡ taken_line st n first → eqb next.fault 0 ≡ false → next ≡ lines_taken st n (lines_of s)
+  line-fault e q h = fault_stays (lines_behind s) next (suc n) h ∙ first-line e q
+
+  pub line-last : index_of 10 s ≡ length s → first ≡ s → next ≡ taken_line st n first → next ≡ lines_taken st n (lines_of s)
+  unfolding lines_taken
+  line-last h e q = rw (none_behind h) at (first-line (e ∙ rw h (sym (take_all (length s) s (le_refl (length s))))) q)
+
+pub rest_shorter : (s others : List ℕ) (n : ℕ) → n < length s → others ≡ drop (suc n) s → length others + 1 ≤ length s
+rest_shorter s others n h e = rw (e, length-drop (suc n) s) (omega arith)
 
 pub mark_length : (s : List ℕ) → length (after_mark s) ≤ length s
 unfolding after_mark
@@ -74,6 +72,18 @@ mark_length s = go (starts_with s (239 ∷ 187 ∷ 191 ∷ []))
     go : (t : Bool) → length (cond t (drop 3 s) s) ≤ length s
     go true = rw (length-drop 3 s) (omega arith)
     go false = le_refl (length s)
+
+-- ---- a number that is missing, place by place
+pub missing_turn : (i : ℕ) (g : List ℕ) → i < none → missing_by (none - i) g ≡ cond (is_asked i && eqb (slice_index g i) 0) i (missing_by (none - (i + 1)) g)
+unfolding missing_by
+missing_turn i g h =
+    let q : none - i ≡ suc (none - (i + 1)) = omega arith in
+    let p : last - (none - (i + 1)) ≡ i = omega arith in
+    rw (q, p)
+
+pub missing_over : (i : ℕ) (g : List ℕ) → none ≤ i → missing_by (none - i) g ≡ none
+unfolding missing_by
+missing_over i g h = let q : none - i ≡ 0 = omega arith in rw q
 
 -- ---- the three ends of a cell file
 module _ (st : Settings) (s : List ℕ) where

@@ -15,8 +15,7 @@ use Rattle.plain_text.specs.Text.{starts_with, lines_of, after_mark}
 use Rattle.electrode.specs.Sheet.{graphite_anode, nmc_cathode}
 use Rattle.electrode.specs.Numbers.{sheet_of}
 use Rattle.setting_table.specs.Names.{anode, cathode, none, bytes_of, letter_of, is_named, place_by, place_of}
-use Rattle.cell_file.specs.declared.Setting.{Setting}
-use Rattle.cell_file.specs.declared.Settings.{Settings}
+use Rattle.cell_file.specs.Answers.{Setting, Settings}
 use Rattle.cell_file.specs.Settings.{given_twice, long_file, not_given, fresh_settings, faulted, given, stored, taken_line, line_setting, lines_taken, file_taken, last, in_sheets, is_asked, missing_by, whole_sheets, cell_taken}
 use Rattle.cell_file.specs.Records.{ready_with, ten_at, sheet_at}
 

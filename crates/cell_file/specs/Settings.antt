@@ -1,12 +1,11 @@
 -- What a line sets, and what a file sets: the first fault that is met, with its line, or the numbers. Definitions only.
-use Rattle.std.specs.Prelude.{ℕ, zero, suc, ◌-◌, Bool, cond, not, ◌&&◌, List, [], ◌∷◌, length, take, drop, replicate, ◌==◌, nat_le, nat_lt, slice_index, slice_set, Float}
-use Rattle.decimal_text.specs.declared.Decimal.{Decimal}
-use Rattle.decimal_text.specs.declared.Decimal.TheVariants.{Number, TooLong, NotDecimal}
+use Rattle.std.specs.Prelude.{ℕ, zero, suc, ◌-◌, Bool, cond, not, ◌&&◌, List, [], ◌∷◌, length, take, drop, replicate, ◌==◌, nat_le, nat_lt, slice_index, slice_set, Float, Result, Ok, Err}
+use Rattle.decimal_text.specs.declared.DecimalError.{DecimalError}
+use Rattle.decimal_text.specs.declared.DecimalError.TheVariants.{TooLong, NotDecimal}
 use Rattle.decimal_text.specs.DecimalText.{number_of}
 use Rattle.setting_table.specs.Names.{anode, none, row_of, place_of}
 use Rattle.setting_table.specs.Ranges.{in_place, is_count, is_whole}
-use Rattle.cell_file.specs.declared.Setting.{Setting}
-use Rattle.cell_file.specs.declared.Settings.{Settings}
+use Rattle.cell_file.specs.Answers.{Setting, Settings}
 use Rattle.plain_text.specs.Text.{index_of, trimmed, before, lines_of, after_mark}
 use Rattle.binary64.specs.Literals.{«0·0»}
 
@@ -45,10 +44,10 @@ setting fault place value = record { fault = fault; place = place; value = value
 unfoldable pub number_fault : ℕ → Float → ℕ
 number_fault k x = cond (in_place k x) (cond (is_count k && not (is_whole x)) not_whole 0) out_of_range
 
-unfoldable pub valued : ℕ → Decimal → Setting
-valued k (Number x) = setting (number_fault k x) k x
-valued k TooLong = setting too_long_of k «0·0»
-valued k NotDecimal = setting not_decimal k «0·0»
+unfoldable pub valued : ℕ → Result Float DecimalError → Setting
+valued k (Ok x) = setting (number_fault k x) k x
+valued k (Err TooLong) = setting too_long_of k «0·0»
+valued k (Err NotDecimal) = setting not_decimal k «0·0»
 
 -- NAME and VALUE, with blanks around them or not
 unfoldable pub assigned : List ℕ → List ℕ → Setting

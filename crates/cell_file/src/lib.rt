@@ -3,233 +3,250 @@
 
 pub mod records;
 
-ghost use Rattle.std.specs.Prelude.{◌≡◌, ◌<◌, ◌≤◌, length};
+ghost use Rattle.std.specs.Prelude.{◌≡◌, ◌<◌, ◌≤◌, length, unwrap_or, IfSome};
 ghost use Rattle.plain_text.specs.Text.{lines_of};
 ghost use Rattle.setting_table.specs.Names.{none};
-ghost use Rattle.cell_file.specs.Settings.{number_fault, valued, assigned, solid_setting, line_setting, faulted, stored, taken_line, lines_taken, in_sheets, missing_by, cell_taken};
+ghost use Rattle.cell_file.specs.Settings.{number_fault, valued, assigned, solid_setting, line_setting, fresh_settings, faulted, stored, taken_line, lines_taken, in_sheets, missing_by, cell_taken};
+ghost use Rattle.cell_file.specs.Answers.{fault_from, number_of, fault_of, setting_given, setting_answered, settings_of, settings_answered};
 
-use decimal_text::Decimal;
-use setting_table::names::{ANODE, NONE, row_of};
+use decimal_text::DecimalError;
+use setting_table::names::{ANODE, NONE, Place, place_of};
 
-// What is wrong with a line or a file; 0 is nothing.
-pub const NO_SIGN: u64 = 1;
+// What is wrong with a line or a file.
+#[derive(Clone, Copy, Debug, PartialEq, Eq)]
+pub enum Fault {
+    NoSign,
+    UnknownName,
+    NotDecimal,
+    TooLong,
+    OutOfRange,
+    NotWhole,
+    GivenTwice,
+    LongFile,
+    NotGiven,
+}
 
-pub const UNKNOWN_NAME: u64 = 2;
-
-pub const NOT_DECIMAL: u64 = 3;
-
-pub const TOO_LONG: u64 = 4;
-
-pub const OUT_OF_RANGE: u64 = 5;
-
-pub const NOT_WHOLE: u64 = 6;
-
-pub const GIVEN_TWICE: u64 = 7;
-
-pub const LONG_FILE: u64 = 8;
-
-pub const NOT_GIVEN: u64 = 9;
-
-// What a line sets: a number at a place, or its fault; NONE and no fault where it sets nothing.
+// What a line sets: a number at a place.
 #[derive(Clone, Copy)]
 pub struct Setting {
-    pub fault: u64,
-    pub place: usize,
+    pub place: Place,
     pub value: f64,
 }
 
-// The numbers, the line that gave each, and the first fault with its place and its line.
+// The fault of a line, the place that it names, and the number that it says, or 0.
+#[derive(Clone, Copy)]
+pub struct LineFault {
+    pub fault: Fault,
+    pub place: Option<Place>,
+    pub value: f64,
+}
+
+// The numbers, and the line that gave each, 0 for none: theorems of specs/ReferenceTemperature.antt speak of that number.
 #[derive(Clone, Copy)]
 pub struct Settings {
     pub values: [f64; NONE],
     pub given: [u64; NONE],
-    pub fault: u64,
-    pub place: usize,
+}
+
+// The first fault of a file with its place and its line, and what was set before it.
+// The line is 0 where no line has the fault, as the definition `faulted` has it.
+#[derive(Clone, Copy)]
+pub struct SettingsFault {
+    pub fault: Fault,
+    pub place: Option<Place>,
     pub line: u64,
+    pub settings: Settings,
 }
 
-fn number_fault(k: usize, x: f64) -> u64
-    requires { k < none }
-    ensures { result ≡ number_fault k x }
+impl From<DecimalError> for Fault {
+    ghost from_gives = { λ e f. f ≡ fault_from e };
+
+    fn from(e: DecimalError) -> Fault {
+        match e {
+            DecimalError::TooLong => Fault::TooLong,
+            DecimalError::NotDecimal => Fault::NotDecimal,
+        }
+    }
+}
+
+impl Settings {
+    // The numbers to start from, of which none is given yet.
+    pub fn fresh(values: [f64; NONE]) -> Settings
+        ensures { settings_of result ≡ fresh_settings values 0 }
+    {
+        Settings {
+            values,
+            given: [0; NONE],
+        }
+    }
+
+    fn at_fault(self, line: u64, fault: Fault, place: Option<Place>) -> SettingsFault
+        ensures { settings_answered (Err result) ≡ faulted (settings_of self) line (number_of fault) (unwrap_or place none) }
+    {
+        SettingsFault {
+            fault,
+            place,
+            line,
+            settings: self,
+        }
+    }
+
+    fn store(mut self, line: u64, a: Setting) -> Result<Settings, SettingsFault>
+        ensures { settings_answered result ≡ stored (settings_of self) line (setting_answered (Ok (Some a))) }
+    {
+        let k = a.place.index();
+        if self.given[k] != 0 {
+            return Err(self.at_fault(line, Fault::GivenTwice, Some(a.place)));
+        }
+        self.values[k] = a.value;
+        self.given[k] = line;
+        Ok(self)
+    }
+
+    // Takes a line.
+    pub fn take_line(self, line: u64, s: &[u8]) -> Result<Settings, SettingsFault>
+        ensures { settings_answered result ≡ taken_line (settings_of self) line s.now }
+    {
+        match setting_on(s) {
+            Ok(None) => Ok(self),
+            Ok(Some(a)) => self.store(line, a),
+            Err(e) => Err(self.at_fault(line, e.fault, e.place)),
+        }
+    }
+
+    // Line by line: `lines_of` cuts a text as `split_once` does.
+    fn take_lines(self, s: &[u8]) -> Result<Settings, SettingsFault>
+        requires { length s.now ≤ 4095 }
+        ensures { settings_answered result ≡ lines_taken (settings_of self) 1 (lines_of s.now) }
+    {
+        let mut st = self;
+        let mut rest = s;
+        let mut line = 1;
+        while let Some((first, others)) = plain_text::split_once(rest, b'\n') {
+            // `?` in this loop meets a bug of the check
+            match st.take_line(line, first) {
+                Ok(next) => st = next,
+                Err(e) => return Err(e),
+            }
+            rest = others;
+            line += 1;
+        }
+        st.take_line(line, rest)
+    }
+
+    // Takes a cell file, which gives both sheets; t_ref may be left out.
+    pub fn take_cell(self, s: &[u8]) -> Result<Settings, SettingsFault>
+        ensures { settings_answered result ≡ cell_taken (settings_of self) s.now }
+    {
+        if s.len() > 4095 {
+            return Err(self.at_fault(0, Fault::LongFile, None));
+        }
+        let taken = self.take_lines(plain_text::after_mark(s))?;
+        match missing(&taken.given) {
+            Some(place) => Err(taken.at_fault(0, Fault::NotGiven, Some(place))),
+            None => Ok(taken),
+        }
+    }
+}
+
+// Whether a number fits its place.
+fn check_number(k: Place, x: f64) -> Result<(), Fault>
+    ensures { fault_of result ≡ number_fault k x }
 {
-    if !setting_table::ranges::in_range(k, x) {
-        return OUT_OF_RANGE;
+    if !k.in_range(x) {
+        return Err(Fault::OutOfRange);
     }
-    if setting_table::ranges::is_count(k) & !setting_table::ranges::is_whole(x) {
-        return NOT_WHOLE;
+    if k.is_count() & !setting_table::ranges::is_whole(x) {
+        return Err(Fault::NotWhole);
     }
-    0
+    Ok(())
 }
 
-fn valued_as(k: usize, d: Decimal) -> Setting
-    requires { k < none }
-    ensures { result ≡ valued k d }
+fn valued_as(k: Place, d: Result<f64, DecimalError>) -> Result<Setting, LineFault>
+    ensures { setting_given result ≡ valued k d }
 {
     match d {
-        Decimal::Number(x) => Setting {
-            fault: number_fault(k, x),
-            place: k,
-            value: x,
+        Ok(value) => match check_number(k, value) {
+            Ok(()) => Ok(Setting { place: k, value }),
+            Err(fault) => Err(LineFault {
+                fault,
+                place: Some(k),
+                value,
+            }),
         },
-        Decimal::TooLong => Setting {
-            fault: TOO_LONG,
-            place: k,
+        Err(e) => Err(LineFault {
+            fault: Fault::from(e),
+            place: Some(k),
             value: 0.0,
-        },
-        Decimal::NotDecimal => Setting {
-            fault: NOT_DECIMAL,
-            place: k,
-            value: 0.0,
-        },
+        }),
     }
 }
 
-fn assign(name: &[u8], value: &[u8]) -> Setting
-    ensures { result ≡ assigned name.now value.now }
+fn assign(name: &[u8], value: &[u8]) -> Result<Setting, LineFault>
+    ensures { setting_given result ≡ assigned name.now value.now }
 {
-    let k = setting_table::names::place_of(plain_text::without_blanks(name));
-    if k < NONE {
-        return valued_as(k, decimal_text::read(plain_text::without_blanks(value)));
-    }
-    Setting {
-        fault: UNKNOWN_NAME,
-        place: NONE,
-        value: 0.0,
+    match place_of(plain_text::without_blanks(name)) {
+        Some(k) => valued_as(k, decimal_text::read(plain_text::without_blanks(value))),
+        None => Err(LineFault {
+            fault: Fault::UnknownName,
+            place: None,
+            value: 0.0,
+        }),
     }
 }
 
 // What a text without blanks around it sets.
-fn setting_in(t: &[u8]) -> Setting
-    ensures { result ≡ solid_setting t.now }
+fn setting_in(t: &[u8]) -> Result<Option<Setting>, LineFault>
+    ensures { setting_answered result ≡ solid_setting t.now }
 {
-    if t.len() == 0 {
-        return Setting {
-            fault: 0,
-            place: NONE,
+    if t.is_empty() {
+        return Ok(None);
+    }
+    match plain_text::split_once(t, b'=') {
+        Some((name, value)) => Ok(Some(assign(name, value)?)),
+        None => Err(LineFault {
+            fault: Fault::NoSign,
+            place: None,
             value: 0.0,
-        };
-    }
-    let sign = plain_text::find(t, 0, b'=');
-    if sign < t.len() {
-        let after = sign + 1;
-        return assign(&t[..sign], &t[after..]);
-    }
-    Setting {
-        fault: NO_SIGN,
-        place: NONE,
-        value: 0.0,
+        }),
     }
 }
 
-// What a line sets.
-pub fn setting_on(s: &[u8]) -> Setting
-    ensures { result ≡ line_setting s.now }
+// What a line sets; nothing where nothing but blanks stands before a remark.
+pub fn setting_on(s: &[u8]) -> Result<Option<Setting>, LineFault>
+    ensures { setting_answered result ≡ line_setting s.now }
 {
-    let end = plain_text::find(s, 0, b'#');
-    setting_in(plain_text::without_blanks(&s[..end]))
+    let said = match plain_text::split_once(s, b'#') {
+        Some((said, _)) => said,
+        None => s,
+    };
+    setting_in(plain_text::without_blanks(said))
 }
-
-fn with_fault(st: Settings, line: u64, fault: u64, place: usize) -> Settings
-    ensures { result ≡ faulted st line fault place }
-{
-    let values = st.values;
-    let given = st.given;
-    Settings {
-        values,
-        given,
-        fault,
-        place,
-        line,
-    }
-}
-
-fn store(st: Settings, line: u64, a: Setting) -> Settings
-    ensures { result ≡ stored st line a }
-{
-    let k = a.place;
-    if a.fault != 0 {
-        return with_fault(st, line, a.fault, k);
-    }
-    if k >= NONE {
-        return st;
-    }
-    let mut given = st.given;
-    if given[k] != 0 {
-        return with_fault(st, line, GIVEN_TWICE, k);
-    }
-    let mut values = st.values;
-    values[k] = a.value;
-    given[k] = line;
-    Settings {
-        values,
-        given,
-        fault: st.fault,
-        place: st.place,
-        line: st.line,
-    }
-}
-
-// Takes a line, unless a fault was met before.
-pub fn take_line(st: Settings, line: u64, s: &[u8]) -> Settings
-    ensures { result ≡ taken_line st line s.now }
-{
-    if st.fault != 0 {
-        return st;
-    }
-    store(st, line, setting_on(s))
-}
-
-fn take_lines(first: Settings, s: &[u8]) -> Settings
-    requires { length s.now ≤ 4095 }
-    ensures { result ≡ lines_taken first 1 (lines_of s.now) }
-{
-    let mut st = first;
-    let mut line: u64 = 1;
-    let mut from = 0;
-    while from <= s.len() {
-        let end = plain_text::find(s, from, b'\n');
-        let next = take_line(st, line, &s[from..end]);
-        st = next;
-        from = end + 1;
-        line += 1;
-    }
-    st
-}
-
-// How many numbers both sheets have, with their chemistries.
-const SHEETS: usize = NONE - ANODE;
-
-// The last place.
-const LAST: usize = NONE - 1;
 
 // The row of t_ref, which a cell file may leave out.
 const T_REF: usize = 20;
 
-// The first place of both sheets that is asked for and that no line gave, or NONE.
-fn missing(given: &[u64; NONE]) -> usize
-    ensures { result ≡ missing_by in_sheets given.now }
+// The first place of both sheets that is asked for and that no line gave.
+fn missing(given: &[u64; NONE]) -> Option<Place>
+    ensures place { unwrap_or result none ≡ missing_by in_sheets given.now }
+    ensures within { IfSome result (λ k. k < none) }
 {
-    let mut found = NONE;
-    for k in 0..SHEETS {
-        let place = LAST - k;
-        let asked = row_of(place) != T_REF;
-        found = plain_text::either(asked & (given[place] == 0), place, found);
+    for index in ANODE..NONE {
+        let place = Place::at(index);
+        if place.row() != T_REF && given[index] == 0 {
+            return Some(place);
+        }
     }
-    found
+    None
 }
 
-// Takes a cell file, which gives both sheets; t_ref may be left out.
-pub fn take_cell(st: Settings, s: &[u8]) -> Settings
-    ensures { result ≡ cell_taken st s.now }
+// The place that a line names, where it names one.
+pub fn place_on(s: &[u8]) -> Option<Place>
+    ensures { unwrap_or result none ≡ (line_setting s.now).place }
 {
-    if s.len() > 4095 {
-        return with_fault(st, 0, LONG_FILE, NONE);
+    match setting_on(s) {
+        Ok(Some(a)) => Some(a.place),
+        Ok(None) => None,
+        Err(e) => e.place,
     }
-    let taken = take_lines(st, plain_text::after_mark(s));
-    let given = taken.given;
-    let place = missing(&given);
-    if (taken.fault == 0) & (place < NONE) {
-        return with_fault(taken, 0, NOT_GIVEN, place);
-    }
-    taken
 }

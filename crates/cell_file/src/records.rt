@@ -5,7 +5,9 @@ ghost use Rattle.cell_file.specs.Records.{put_by, with_sheet, ready_with, ten_at
 
 use electrode::ElectrodeParams;
 use kinetics::SpmConfig;
-use setting_table::names::{ANODE, CATHODE, NONE};
+use setting_table::names::{
+    ANODE, CATHODE, FARADAY, N_NODES, NONE, R_GAS, RESISTANCE, V_MAX, V_MIN,
+};
 
 // Puts ten numbers from a place on.
 fn put_ten(v: [f64; NONE], base: usize, x: &[f64; 10]) -> [f64; NONE]
@@ -13,8 +15,8 @@ fn put_ten(v: [f64; NONE], base: usize, x: &[f64; 10]) -> [f64; NONE]
     ensures { result ≡ put_by 10 base x.now v }
 {
     let mut all = v;
-    for i in 0..10 {
-        all[base + i] = x[i];
+    for (i, y) in x.iter().enumerate() {
+        all[base + i] = *y;
     }
     all
 }
@@ -48,9 +50,7 @@ fn ten_at(v: &[f64; NONE], base: usize) -> [f64; 10]
     ensures { result ≡ ten_at v.now base }
 {
     let mut ten = [0.0; 10];
-    for i in 0..10 {
-        ten[i] = v[base + i];
-    }
+    ten.copy_from_slice(&v[base..base + 10]);
     ten
 }
 
@@ -67,13 +67,12 @@ pub fn sheet_at(v: &[f64; NONE], base: usize) -> ElectrodeParams
 pub fn config_of(v: &[f64; NONE]) -> SpmConfig
     ensures { result ≡ config_at v.now }
 {
-    let numbers = *v;
     SpmConfig {
-        n_nodes: min_max::ceil_count(numbers[4]) as usize,
-        v_min: numbers[5],
-        v_max: numbers[6],
-        faraday: numbers[7],
-        r_gas: numbers[8],
-        r_electrolyte_ohm_m2: numbers[9],
+        n_nodes: min_max::ceil_count(v[N_NODES]) as usize,
+        v_min: v[V_MIN],
+        v_max: v[V_MAX],
+        faraday: v[FARADAY],
+        r_gas: v[R_GAS],
+        r_electrolyte_ohm_m2: v[RESISTANCE],
     }
 }

@@ -10,14 +10,14 @@ use image_layout::{
     CELL_ANODE, CELL_ANODE_NODES, CELL_ANODE_PROFILE, CELL_CATHODE, CELL_CATHODE_NODES,
     CELL_CATHODE_PROFILE, CELL_CLOCK, CELL_CUTOFF, CELL_REPORT, CELL_SUB_STEPS,
 };
-use image_rows::{fill_64, write_places};
+use image_rows::{read_places, write_places};
 use particle::ParticleDiffusion;
 use sheet_images::{config_at, put_config, put_parts, sheet_at};
 use solver::SpmSolver;
-use solver_step::SpmParts;
-use solver_step::report::SpmState;
+use solver_step::{SpmParts, SpmReport};
 
 // The cell in the first 159 words, without its profiles.
+#[tactic(auto, unfolding(crate::specs::Images::cell_at, sheet_images::specs::Images::particle_at))]
 pub fn parts_at(s: &[u8]) -> SpmParts
     ensures { result ≡ parts_of (cell_at s.now) }
 {
@@ -35,6 +35,7 @@ pub fn parts_at(s: &[u8]) -> SpmParts
 }
 
 // The cell in the first 159 words.
+#[tactic(auto, unfolding(crate::specs::Images::cell_at, sheet_images::specs::Images::particle_at))]
 pub fn cell_at(s: &[u8]) -> SpmSolver
     ensures { result ≡ cell_at s.now }
 {
@@ -52,11 +53,12 @@ pub fn cell_at(s: &[u8]) -> SpmSolver
         },
         time_s: codec::read_f64(s, CELL_CLOCK),
     };
-    fill_64(s, CELL_ANODE_PROFILE, &mut cell.anode.c_s);
-    fill_64(s, CELL_CATHODE_PROFILE, &mut cell.cathode.c_s);
+    read_places(s, CELL_ANODE_PROFILE, &mut cell.anode.c_s);
+    read_places(s, CELL_CATHODE_PROFILE, &mut cell.cathode.c_s);
     cell
 }
 
+#[tactic(auto, unfolding(crate::specs::Images::put_cell))]
 pub fn put_cell(s: &mut [u8], cell: SpmSolver)
     ensures { s.new ≡ put_cell s.old cell }
 {
@@ -79,9 +81,11 @@ pub fn put_cell(s: &mut [u8], cell: SpmSolver)
 }
 
 // Writes a step's report and its count of sub-steps after the cell.
-pub fn put_report(s: &mut [u8], state: SpmState, sub_steps: u64)
-    ensures { s.new ≡ put_report s.old state sub_steps }
+#[tactic(auto, unfolding(crate::specs::Images::put_report))]
+pub fn put_report(s: &mut [u8], r: SpmReport)
+    ensures { s.new ≡ put_report s.old r.state r.sub_steps }
 {
+    let state = r.state;
     let x = [
         state.voltage,
         state.current,
@@ -93,5 +97,5 @@ pub fn put_report(s: &mut [u8], state: SpmState, sub_steps: u64)
     ];
     write_places(s, CELL_REPORT, &x);
     write_word(s, CELL_CUTOFF, flag(state.cutoff));
-    write_word(s, CELL_SUB_STEPS, sub_steps);
+    write_word(s, CELL_SUB_STEPS, r.sub_steps);
 }

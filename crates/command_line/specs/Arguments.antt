@@ -3,7 +3,7 @@ use Rattle.std.specs.Prelude.{ℕ, Bool, cond, ◌&&◌, ◌||◌, List, ltb, eq
 use Rattle.plain_text.specs.Text.{index_of, is_text}
 use Rattle.setting_table.specs.Names.{anode, cathode, bytes_of}
 use Rattle.cell_file.specs.Records.{config_at, sheet_at}
-use Rattle.solver.specs.declared.SpmBuildAnswer.{SpmBuildAnswer}
+use Rattle.solver.specs.Answers.{SpmBuildAnswer}
 use Rattle.solver.specs.Cell.{built}
 
 -- an argument that names a cell is not empty and has no '='

@@ -1,39 +1,52 @@
 // What was run and how it ended, in words.
+// Written by `io`, for the reason in setting_messages.
 use crate::arguments::names_cell;
 use csv_rows::OUT;
+use refusal::Refusal;
 use runs::Ending;
-use setting_messages::{ERR, entry, name, number, say, unit};
-use setting_table::names::NONE;
+use setting_messages::{ERR, name, number, say, unit};
+use setting_table::names::{NONE, Place, TEMPERATURE, V_MAX, V_MIN};
 
-// A refusal by its number and its word of docs/REFERENCE.md's table.
-fn say_refusal(fd: i32, number: u64) {
+// The word of a refusal in docs/REFERENCE.md's table.
+fn word_of(e: Refusal) -> &'static [u8] {
+    match e {
+        Refusal::Grid => b" (grid)",
+        Refusal::Sheet => b" (sheet)",
+        Refusal::Load => b" (load)",
+        Refusal::Interval => b" (interval)",
+        Refusal::Temperature => b" (temperature)",
+        Refusal::Diffusivity => b" (diffusivity)",
+        Refusal::SubSteps => b" (sub-steps)",
+        Refusal::NotFinite => b" (not finite)",
+        Refusal::Singular => b" (singular)",
+        Refusal::Length => b" (length)",
+        Refusal::Line => b" (line)",
+        Refusal::File => b" (file)",
+        Refusal::Index => b"",
+    }
+}
+
+// A refusal by its number and its word.
+fn say_refusal(fd: i32, e: Refusal) {
     say(fd, b"refusal ");
-    io::print_decimal(fd, number);
-    entry(
-        fd,
-        b"| (grid)| (sheet)| (load)| (interval)| (temperature)| (diffusivity)| (sub-steps)| (not finite)| (singular)| (length)| (line)| (file)|",
-        number as usize,
-    );
+    io::print_decimal(fd, e.number());
+    say(fd, word_of(e));
 }
 
 // A cell that was not built.
-pub fn not_built(number: u64) {
+pub fn not_built(e: Refusal) {
     say(ERR, b"the cell is not built: ");
-    say_refusal(ERR, number);
+    say_refusal(ERR, e);
     say(ERR, b"\n");
 }
 
 // The cell as it was named, which begins the line that says what was run.
 pub fn write_cell(named: &[u8]) {
     say(OUT, b"# ");
-    if names_cell(named) {
-        say(OUT, named);
-    } else {
-        say(OUT, b"nmc");
-    }
+    say(OUT, if names_cell(named) { named } else { b"nmc" });
 }
 
-pub fn write_setting(k: usize, x: f64) {
+pub fn write_setting(k: Place, x: f64) {
     say(OUT, b" ");
     name(OUT, k);
     say(OUT, b"=");
@@ -42,24 +55,23 @@ pub fn write_setting(k: usize, x: f64) {
 }
 
 // The temperature and the limits, which end that line.
-pub fn write_limits(v: [f64; NONE]) {
-    write_setting(2, v[2]);
-    write_setting(5, v[5]);
-    write_setting(6, v[6]);
+pub fn write_limits(v: &[f64; NONE]) {
+    write_setting(Place::at(TEMPERATURE), v[TEMPERATURE]);
+    write_setting(Place::at(V_MIN), v[V_MIN]);
+    write_setting(Place::at(V_MAX), v[V_MAX]);
     say(OUT, b"\n");
 }
 
 // How a run ended, which begins the last line.
 pub fn write_ending(ending: Ending) {
     say(OUT, b"# ended by ");
-    let number = runs::ending_number(ending);
-    entry(
-        OUT,
-        b"|voltage|time|a full table||done|a spent budget|",
-        number as usize,
-    );
-    if number == runs::REFUSED {
-        say_refusal(OUT, runs::ending_refusal(ending));
+    match ending {
+        Ending::Voltage => say(OUT, b"voltage"),
+        Ending::Time => say(OUT, b"time"),
+        Ending::Full => say(OUT, b"a full table"),
+        Ending::Refused(e) => say_refusal(OUT, e),
+        Ending::Done => say(OUT, b"done"),
+        Ending::Spent => say(OUT, b"a spent budget"),
     }
 }
 
@@ -67,6 +79,9 @@ pub fn write_ending(ending: Ending) {
 pub fn write_count(rows: usize) {
     say(OUT, b" after ");
     io::print_decimal(OUT, rows as u64);
-    entry(OUT, b" rows| row|", (rows == 1) as usize);
-    say(OUT, b"\n");
+    if rows == 1 {
+        say(OUT, b" row\n");
+    } else {
+        say(OUT, b" rows\n");
+    }
 }

@@ -9,6 +9,7 @@ use std::io::{Error, ErrorKind, Read, Result};
 use std::rt::Files;
 
 // Fills a text from a reader up to its end, and gives how much of it.
+// A read gives as many bytes as it likes, so that no `for` counts them.
 fn fill(reader: &mut impl Read, text: &mut [u8]) -> Result<usize>
     ensures { IfOk result (λ size. size ≤ length text.new) }
 {

@@ -1,36 +1,39 @@
 // A run's rows as lines of CSV: the time first, then the report's other fields in their order.
+// They are written by `io`: `println!` asks for a runtime and may fail, which the functions here never did.
 #![tactic(auto)]
 
-ghost use Rattle.std.specs.Prelude.{◌≡◌, ◌<◌, length};
-ghost use Rattle.decimal_spelling.specs.Spelling.{written, put_all};
+ghost use Rattle.std.specs.Prelude.{◌≡◌, ◌<◌};
+ghost use Rattle.decimal_spelling.specs.Spelling.{put_all};
 ghost use Rattle.csv_rows.specs.Row.{field_of, number_at, separator_of, columns_by};
+
+use decimal_spelling::Line;
 
 // Standard output.
 pub const OUT: i32 = 1;
+
+// How many numbers a row has.
+pub const FIELDS: usize = 8;
 
 // The field in column k.
 fn field(k: usize) -> usize
     requires { k < 8 }
     ensures { (result ≡ field_of k) × (result < 8) }
 {
-    if k == 0 {
-        return 6;
+    match k {
+        0 => 6,
+        7 => 7,
+        _ => k - 1,
     }
-    if k == 7 {
-        return 7;
-    }
-    k - 1
 }
 
-fn number_at(rows: &[f64], row: usize, k: usize) -> f64
+fn number_at(row: &[f64], k: usize) -> f64
     requires { k < 8 }
-    ensures { result ≡ number_at rows.now row k }
+    ensures { result ≡ number_at row.now 0 k }
 {
-    let f = field(k);
-    if row < rows.len() / 8 {
-        return rows[row * 8 + f];
+    if row.len() < FIELDS {
+        return 0.0;
     }
-    0.0
+    row[field(k)]
 }
 
 fn separator(k: usize, last: u8) -> u8
@@ -39,41 +42,25 @@ fn separator(k: usize, last: u8) -> u8
     if k == 7 { last } else { b',' }
 }
 
-// Puts the line of a row, with the byte behind its last column, and says how many bytes it has.
-pub fn put_row(line: &mut [u8; 4096], rows: &[f64], row: usize, last: u8) -> usize
-    ensures { written line.new result ≡ put_all (written line.old 0) (columns_by 8 rows.now row last) }
+// Puts a row, with the byte behind its last column.
+// By number: the columns are in another order than the fields.
+pub fn put_row(line: &mut Line, row: &[f64], last: u8)
+    ensures { line.new ≡ put_all line.old (columns_by 8 row.now 0 last) }
 {
-    let mut used: usize = 0;
-    for k in 0..8 {
-        let end = decimal_spelling::put_number(line, used, number_at(rows, row, k));
-        used = decimal_spelling::put(line, end, separator(k, last));
-    }
-    used
-}
-
-// A copy, of which a part can be lent.
-fn copied(text: &[u8; 4096]) -> [u8; 4096]
-    ensures { 4096 ≡ length result }
-{
-    let mut copy = [0u8; 4096];
-    for i in 0..4096 {
-        copy[i] = text[i];
-    }
-    copy
-}
-
-// Writes the first bytes of a line.
-pub fn write_line(fd: i32, line: &[u8; 4096], used: usize) {
-    let copy = copied(line);
-    if used <= 4096 {
-        io::write_all(fd, &copy[..used]);
+    for k in 0..FIELDS {
+        line.put_number(number_at(row, k));
+        line.put(separator(k, last));
     }
 }
 
-fn write_row(rows: &[f64], row: usize) {
-    let mut line = [0u8; 4096];
-    let used = put_row(&mut line, rows, row, b'\n');
-    write_line(OUT, &line, used);
+pub fn write_line(fd: i32, line: &Line) {
+    io::write_all(fd, line.bytes());
+}
+
+fn write_row(row: &[f64]) {
+    let mut line = Line::new();
+    put_row(&mut line, row, b'\n');
+    write_line(OUT, &line);
 }
 
 // Writes the names of the columns with their units, and what follows in that line, to standard output.
@@ -85,10 +72,11 @@ pub fn write_header(end: &[u8]) {
     io::write_all(OUT, end);
 }
 
-// Writes the names of the columns, and a line for each row.
+// Writes the names of the columns, and a line for each of the first rows.
+// The slice may have room for more rows than there are: docs/CLAIMS.md names this function.
 pub fn write_rows(rows: &[f64], count: usize) {
     write_header(b"\n");
-    for i in 0..count {
-        write_row(rows, i);
+    for row in rows.chunks_exact(FIELDS).take(count) {
+        write_row(row);
     }
 }

@@ -1,5 +1,5 @@
 // The open-circuit curves of the three chemistries, and their slope: of oxigrid's src/battery/p2d/electrode.rs, changed.
-#![tactic(auto)]
+#![tactic(auto, unfolding(crate::specs::Curves::graphite_curve, crate::specs::Curves::lfp_curve, crate::specs::Curves::nmc_curve, crate::specs::Curves::chemistry_curve, crate::specs::Curves::chemistry_slope))]
 
 ghost use Rattle.std.specs.Prelude.{◌≡◌};
 ghost use Rattle.curves.specs.Curves.{graphite_curve, lfp_curve, nmc_curve, chemistry_curve, chemistry_slope};
@@ -35,7 +35,7 @@ fn ocp_nmc(x0: f64) -> f64
         + 0.08 / (1.0 + elementary::exp(30.0 * (x - 0.85)))
 }
 
-// The open-circuit potential at a stoichiometry, by the chemistry's curve; +0 where no chemistry has the number.
+// The open-circuit potential at a stoichiometry, by the curve of the chemistry's number, as a sheet from C has it; +0 where no chemistry has the number.
 pub fn open_circuit(chemistry: u64, theta: f64) -> f64
     ensures { result ≡ chemistry_curve chemistry theta }
 {

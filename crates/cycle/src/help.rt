@@ -1,6 +1,6 @@
 // What the program takes: the phases, the two counts and the list of names, with units, ranges and what a run starts from.
 use csv_rows::OUT;
-use setting_messages::say;
+use setting_messages::{Instead, say};
 
 pub(crate) fn write_help() {
     say(
@@ -23,7 +23,7 @@ pub(crate) fn write_help() {
         OUT,
         b"\nThe other names, what each starts from for nmc, and its range; dt is the time between rows:\n\n",
     );
-    setting_messages::write_names(false, true);
+    setting_messages::write_names(Instead::Phases);
     say(
         OUT,
         b"What it sets for current or time is taken and has no effect: the phases have them.\n",

@@ -5,14 +5,14 @@ use Rattle.binary64.specs.Literals.{«0·0»}
 use Rattle.runs.specs.Endings.{ending_of, going_on_of, by_refusal, by_done, by_spent}
 use Rattle.runs.specs.Rows.{run_after, rows_after}
 use Rattle.solver.specs.declared.SpmSolver.{SpmSolver}
-use Rattle.solver.specs.declared.SpmStepAnswer.{SpmStepAnswer}
+use Rattle.solver.specs.Answers.{SpmStepAnswer}
 use Rattle.solver.specs.Step.{stepped}
 use Rattle.solver_step.specs.Report.{no_state}
 use Rattle.discharge_run.specs.Discharge.{RunOutcome, row_of}
 use Rattle.cycle_run.specs.declared.phases.Phase.{Phase}
 use Rattle.cycle_run.specs.declared.CycleSettings.{CycleSettings}
 use Rattle.cycle_run.specs.declared.Position.{Position}
-use Rattle.cycle_run.specs.declared.CycleState.{CycleState}
+use Rattle.cycle_run.specs.States.{CycleState}
 use Rattle.cycle_run.specs.Phases.{phase_at, current_of, phase_over}
 
 -- ---- positions

@@ -8,7 +8,7 @@ use Rattle.refusal.specs.Ranges.{count_in_range, interval_fits, temperature_fits
 use Rattle.runs.specs.Endings.{ending_of, going_on_of, by_refusal, by_done, by_spent}
 use Rattle.runs.specs.Rows.{run_after, rows_after}
 use Rattle.solver.specs.declared.SpmSolver.{SpmSolver}
-use Rattle.solver.specs.declared.SpmStepAnswer.{SpmStepAnswer}
+use Rattle.solver.specs.Answers.{SpmStepAnswer}
 use Rattle.solver.specs.Cell.{grid_fits, cell_fits}
 use Rattle.solver.specs.Step.{stepped}
 use Rattle.solver_step.specs.declared.report.SpmState.{SpmState}

@@ -11,15 +11,15 @@ use Rattle.binary64.specs.Literals.{«0·0»}
 use Rattle.runs.specs.Endings.{going_on_of, by_refusal}
 use Rattle.runs.specs.Simulation.{Simulates, after_seen, rows_seen}
 use Rattle.solver.specs.declared.SpmSolver.{SpmSolver}
-use Rattle.solver.specs.declared.SpmStepAnswer.{SpmStepAnswer}
+use Rattle.solver.specs.Answers.{SpmStepAnswer}
 use Rattle.solver.specs.Step.{stepped}
 use Rattle.cycle_run.specs.declared.phases.Phase.{Phase}
 use Rattle.cycle_run.specs.declared.CycleSettings.{CycleSettings}
 use Rattle.cycle_run.specs.declared.Position.{Position}
-use Rattle.cycle_run.specs.declared.CycleState.{CycleState}
+use Rattle.cycle_run.specs.States.{CycleState}
 use Rattle.cycle_run.specs.Phases.{phase_at, current_of, phase_over, phases_from, repeated}
 use Rattle.cycle_run.specs.Cycle.{Progress, Cycling, progress_after, none_left_of, over_after, accepted, refused, followed, turned_by_of, turned, over_of, last_row_of, finished_cycle, all_turns, all_rows, started, start_of}
-use Rattle.cycle_run.specs.Counters.{moved_on, next_position, over_by, started_at, AcceptedAt, refused_at, followed_at, turned_at, over_at, row_at, finished_at, all_turns_at, all_rows_at}
+use Rattle.cycle_run.specs.Counters.{Inside, moved_on, next_position, over_by, started_at, AcceptedAt, refused_at, followed_at, turned_at, over_at, row_at, finished_at, all_turns_at, all_rows_at}
 
 -- ---- a turn writes one row, and stays among the phases
 followed_rows : (l : List Phase) (g : CycleSettings) (c : CycleState) (t : SpmStepAnswer) (b : Bool) → eqb t.refusal 0 ≡ b → ((followed_at l g c t).over ≡ by_refusal → ⊥)
@@ -184,3 +184,10 @@ module _ (l : List Phase) (g : CycleSettings) where
     pub rows_walked : (out : List Float) → all_rows_at l g (started_at g s) out ≡ all_rows g (start_of l g s) out
     unfolding all_rows_at all_rows
     rows_walked out = rw (← seen_started) (rows_seen over_at (turned_at l g) row_at over_of (turned g) last_row_of seen Walking walks g.budget (started_at g s) out start_walking)
+
+-- after i turns, while the cycle goes on, there are i rows and a phase is under way
+pub keeps : (l : List Phase) (g : CycleSettings) (i : ℕ) (c : CycleState) → (c.rows ≡ i) × Inside g c.position → (turned_at l g c).over ≡ going_on_of
+    → ((turned_at l g c).rows ≡ i + 1) × Inside g (turned_at l g c).position
+keeps l g i c h z =
+    let w = turned_walking l g c h.1.0 in
+    (turned_rows l g c (λ e. absurd (omega (arith, z, e))) ∙ ap (λ (k : ℕ). k + 1) h.0, (w.0, (h.1.1.0, w.1 z)))

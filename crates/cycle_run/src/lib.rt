@@ -1,16 +1,23 @@
 // A charger's phases on the single-particle cell, one row a step, into a lent slice: a list of phases, repeated, under a budget of steps.
-#![tactic(auto)]
+#![tactic(auto, unfolding(crate::specs::Counters::over_by, crate::specs::Counters::started_at, crate::specs::Counters::AcceptedAt, crate::specs::Counters::refused_at, crate::specs::Counters::followed_at, crate::specs::Counters::turned_at))]
 
 pub mod phases;
 
 ghost use Rattle.std.specs.Prelude.{◌≡◌, ◌<◌, ◌≤◌, ◌^◌, ◌*◌, length};
+ghost use Rattle.refusal.specs.Refusals.{refusal_of};
+ghost use Rattle.runs.specs.Endings.{over_number};
 ghost use Rattle.discharge_run.specs.Discharge.{run_outcome};
+ghost use Rattle.cycle_run.specs.States.{state_of};
+ghost use Rattle.cycle_run.specs.States as States;
+ghost use Rattle.cycle_run.specs.Walk.{keeps};
 ghost use Rattle.cycle_run.specs.Cycle.{counts_refusal, cycle_refusal, cycled, cycled_rows, cycle_settings};
-ghost use Rattle.cycle_run.specs.Counters.{Inside, first_position, moved_on, next_position, over_by, started_at, turned_at, finished_at, all_turns_at, all_rows_at};
+ghost use Rattle.cycle_run.specs.Counters.{Inside, first_position, moved_on, next_position, over_at, row_at, over_by, started_at, turned_at, finished_at};
 
 use discharge_run::{CellRun, row_of};
-use phases::{Phase, current_of, phase_over};
-use runs::{DONE, Ending, GOING, REFUSED, SPENT, ending_of, put_row};
+use phases::{Phase, current_of, loads_fit, phase_over, times_fit};
+use refusal::{Refusal, interval_fits, refuse_unless, temperature_fits};
+use runs::Ending;
+use runs::turns::{Turns, run_turns};
 use solver::SpmSolver;
 use solver_step::report::SpmState;
 
@@ -24,6 +31,14 @@ pub struct CycleSettings {
     pub temp_k: f64,
 }
 
+// The eight phases, and how they are gone through.
+// Eight, of which `count` are meant: C lends as many, and no heap holds them.
+#[derive(Clone, Copy)]
+pub struct Charger {
+    pub phases: [Phase; 8],
+    pub settings: CycleSettings,
+}
+
 // Where a cycle stands: the place of the phase under way, the repeats that are left with this one, 0 where the last phase has ended, and the phase's clock.
 #[derive(Clone, Copy)]
 pub struct Position {
@@ -32,14 +47,13 @@ pub struct Position {
     pub clock: f64,
 }
 
-// A cycle on its way: the cell, where it stands, the rows so far, what has ended it, a refusal's number, the last report.
+// A cycle on its way: the cell, where it stands, the rows so far, what has ended it, full where nothing has, the last report.
 #[derive(Clone, Copy)]
 pub struct CycleState {
     pub solver: SpmSolver,
     pub position: Position,
     pub rows: usize,
-    pub over: u64,
-    pub refusal: u64,
+    pub ending: Ending,
     pub state: SpmState,
 }
 
@@ -76,6 +90,7 @@ fn moved_on(g: CycleSettings, q: Position) -> Position
 }
 
 // The position after a step with this cutoff: the phase goes on, or the next one begins.
+// It takes what it always took: docs/DECISIONS.md names it.
 pub fn next_position(phases: [Phase; 8], g: CycleSettings, q: Position, cutoff: bool) -> Position
     requires { Inside g q }
     ensures { result ≡ next_position phases g q cutoff }
@@ -93,129 +108,121 @@ pub fn next_position(phases: [Phase; 8], g: CycleSettings, q: Position, cutoff: 
 }
 
 // What ends the cycle after a row: done, then spent.
-fn over_after(g: CycleSettings, q: Position, rows: usize) -> u64
-    ensures { result ≡ over_by g q rows }
+fn ending_after(g: CycleSettings, q: Position, rows: usize) -> Ending
+    ensures { over_number result ≡ over_by g q rows }
 {
     if q.repeats_left == 0 {
-        return DONE;
+        return Ending::Done;
     }
     if g.budget <= rows {
-        return SPENT;
+        return Ending::Spent;
     }
-    GOING
+    Ending::Full
 }
 
 // The cycle before its first step.
 fn start(g: CycleSettings, s: SpmSolver) -> CycleState
-    ensures { result ≡ started_at g s }
+    ensures { state_of result ≡ started_at g s }
 {
-    let state = solver_step::report::no_state();
     CycleState {
         solver: s,
         position: first_position(g),
         rows: 0,
-        over: GOING,
-        refusal: 0,
-        state,
+        ending: Ending::Full,
+        state: solver_step::report::no_state(),
     }
 }
 
-// One turn of a cycle that goes on: a step with the current of the phase under way.
-fn turn(phases: [Phase; 8], g: CycleSettings, s: CycleState) -> CycleState
-    requires { (s.rows < 2 ^ 61) × Inside g s.position }
-    ensures { result ≡ turned_at phases g s }
-{
-    let q = s.position;
-    let place = q.place;
-    let t = s.solver.step(current_of(phases[place]), g.dt, g.temp_k);
-    let cell = t.solver;
-    if t.refusal != 0 {
-        let last = s.state;
-        return CycleState {
-            solver: cell,
-            position: q,
-            rows: s.rows,
-            over: REFUSED,
-            refusal: t.refusal,
-            state: last,
-        };
+impl Turns for Charger {
+    type State = CycleState;
+
+    ghost View = { States.CycleState };
+
+    ghost see = { state_of };
+
+    ghost over = { over_at };
+
+    ghost turned = { λ w. turned_at w.phases w.settings };
+
+    ghost row_of = { row_at };
+
+    ghost ready = { λ w i r. (r.rows ≡ i) × Inside w.settings r.position };
+
+    ghost keeps = { λ w i r h z. keeps w.phases w.settings i r h z };
+
+    // A step with the current of the phase under way.
+    fn turn(&self, s: CycleState) -> CycleState {
+        let g = self.settings;
+        let phase = self.phases[s.position.place];
+        match s.solver.step(current_of(phase), g.dt, g.temp_k) {
+            Ok(t) => {
+                let position = next_position(self.phases, g, s.position, t.state.cutoff);
+                let rows = s.rows + 1;
+                CycleState {
+                    solver: t.solver,
+                    position,
+                    rows,
+                    ending: ending_after(g, position, rows),
+                    state: t.state,
+                }
+            }
+            Err(e) => CycleState {
+                ending: Ending::Refused(e),
+                ..s
+            },
+        }
     }
-    let state = t.state;
-    let position = next_position(phases, g, q, state.cutoff);
-    let rows = s.rows + 1;
-    let over = over_after(g, position, rows);
-    CycleState {
-        solver: cell,
-        position,
-        rows,
-        over,
-        refusal: 0,
-        state,
+
+    fn row(&self, s: &CycleState) -> [f64; 8] {
+        row_of(s.state)
+    }
+
+    fn ending(&self, s: &CycleState) -> Ending {
+        s.ending
     }
 }
 
 // What a cycle that has stopped gives.
+// Each kind of run has its own: a trait for the three fields is no plainer.
 fn finished(s: CycleState) -> CellRun
-    ensures { run_outcome result ≡ finished_at s }
+    ensures { run_outcome result ≡ finished_at (state_of s) }
 {
-    let cell = s.solver;
     CellRun {
-        ending: ending_of(s.over, s.refusal),
+        ending: s.ending,
         rows: s.rows,
-        solver: cell,
+        solver: s.solver,
     }
 }
 
 // 1 for the cell's grid and the three counts, then 10 for a slice with fewer than eight places for each step of the budget.
-pub fn counts_refusal(g: CycleSettings, s: SpmSolver, places: usize) -> u64
-    ensures { result ≡ counts_refusal g s places }
+#[tactic(auto, unfolding(refusal::specs::Numbers::refusal_unless, refusal::specs::Numbers::first_refusal, crate::specs::Cycle::counts_refusal))]
+pub fn check_counts(g: CycleSettings, s: SpmSolver, places: usize) -> Result<(), Refusal>
+    ensures { refusal_of result ≡ counts_refusal g s places }
 {
     let counts = (1 <= g.count)
         & (g.count <= 8)
         & ((1 <= g.repeats) & (g.repeats <= 1000))
         & ((1 <= g.budget) & (g.budget <= 100000));
-    let grid = refusal::refusal_unless(s.grid_fits() & counts, refusal::GRID);
-    let length = refusal::refusal_unless(g.budget <= places / 8, refusal::LENGTH);
-    refusal::first_refusal(grid, length)
+    refuse_unless(s.grid_fits() & counts, Refusal::Grid)?;
+    refuse_unless(g.budget <= places / 8, Refusal::Length)
 }
 
-// The number that refuses the whole cycle: 1, 10, 2, 3, 4, 5.
-fn cycle_refusal(phases: [Phase; 8], g: CycleSettings, s: SpmSolver, places: usize) -> u64
-    ensures { result ≡ cycle_refusal phases g s places }
+// What refuses the whole cycle: 1, 10, 2, 3, 4, 5.
+#[tactic(auto, unfolding(refusal::specs::Numbers::refusal_unless, refusal::specs::Numbers::first_refusal, solver::specs::Cell::cell_refusal, crate::specs::Cycle::counts_refusal, crate::specs::Cycle::cycle_refusal))]
+fn check_cycle(
+    phases: [Phase; 8],
+    g: CycleSettings,
+    s: SpmSolver,
+    places: usize,
+) -> Result<(), Refusal>
+    ensures { refusal_of result ≡ cycle_refusal phases g s places }
 {
-    let counts = counts_refusal(g, s, places);
-    let cell = s.refusal();
-    let load = refusal::refusal_unless(phases::loads_fit(phases, g.count), refusal::LOAD);
-    let times = refusal::interval_fits(g.dt) & phases::times_fit(phases, g.count);
-    let interval = refusal::refusal_unless(times, refusal::INTERVAL);
-    let temperature = refusal::refusal_unless(
-        refusal::temperature_fits(g.temp_k),
-        refusal::TEMPERATURE,
-    );
-    let late = refusal::first_refusal(load, refusal::first_refusal(interval, temperature));
-    refusal::first_refusal(counts, refusal::first_refusal(cell, late))
-}
-
-// The turns of a cycle, each step with its row.
-fn cycle_rows(phases: [Phase; 8], g: CycleSettings, first: CycleState, out: &mut [f64]) -> CellRun
-    requires { ((first.rows ≡ 0) × ((first.over ≡ 0) × Inside g first.position)) × ((g.budget < 2 ^ 61) × (g.budget * 8 ≤ length out.old)) }
-    ensures result { run_outcome result ≡ all_turns_at phases g first }
-    ensures rows { out.new ≡ all_rows_at phases g first out.old }
-{
-    let mut run = first;
-    let mut i = 0;
-    while i < g.budget {
-        run = turn(phases, g, run);
-        if run.over == REFUSED {
-            return finished(run);
-        }
-        put_row(out, i * 8, row_of(run.state));
-        i += 1;
-        if run.over != GOING {
-            return finished(run);
-        }
-    }
-    finished(run)
+    check_counts(g, s, places)?;
+    s.check()?;
+    refuse_unless(loads_fit(phases, g.count), Refusal::Load)?;
+    let times = interval_fits(g.dt) & times_fit(phases, g.count);
+    refuse_unless(times, Refusal::Interval)?;
+    refuse_unless(temperature_fits(g.temp_k), Refusal::Temperature)
 }
 
 // The first `count` phases, `repeats` times: a charge or a discharge until its first row beyond the voltage window, a rest for its time. It ends as done when the last
@@ -241,13 +248,18 @@ pub fn cycle(
         dt,
         temp_k,
     };
-    let number = cycle_refusal(phases, g, s, out.len());
-    if number != 0 {
+    if let Err(e) = check_cycle(phases, g, s, out.len()) {
         return CellRun {
-            ending: Ending::Refused(number),
+            ending: Ending::Refused(e),
             rows: 0,
             solver: s,
         };
     }
-    cycle_rows(phases, g, start(g, s), out)
+    let charger = Charger {
+        phases,
+        settings: g,
+    };
+    let mut run = start(g, s);
+    run_turns(&charger, &mut run, budget, out);
+    finished(run)
 }

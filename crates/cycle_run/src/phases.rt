@@ -58,20 +58,12 @@ pub fn time_fits(p: Phase) -> bool
 pub(crate) fn loads_fit(phases: [Phase; 8], count: usize) -> bool
     ensures { result ≡ loads_fit phases count }
 {
-    let mut fit = true;
-    for k in 0..8 {
-        fit = fit & ((count <= k) | load_fits(phases[k]));
-    }
-    fit
+    phases.iter().take(count).all(|p| load_fits(*p))
 }
 
 // Whether the times of the first `count` phases are fit.
 pub(crate) fn times_fit(phases: [Phase; 8], count: usize) -> bool
     ensures { result ≡ times_fit phases count }
 {
-    let mut fit = true;
-    for k in 0..8 {
-        fit = fit & ((count <= k) | time_fits(phases[k]));
-    }
-    fit
+    phases.iter().take(count).all(|p| time_fits(*p))
 }

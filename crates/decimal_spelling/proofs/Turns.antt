@@ -1,17 +1,19 @@
 -- The text grows byte by byte, digit by digit. Assumes nothing.
-use Prim.Native.Nat.{ℕ, zero, suc, ◌+◌, ◌*◌, ◌-◌, ◌/◌, ◌^◌, ◌≤◌, ◌<◌}
+use Prim.Native.Nat.{ℕ, suc, ◌+◌, ◌*◌, ◌-◌, ◌/◌, ◌^◌, ◌≤◌, ◌<◌}
 use mathlib.Core.Path.{◌≡◌, refl, sym, ap, ◌∙◌}
 use mathlib.Core.Bool.{Bool, true, false, cond, not, ◌&&◌, ◌||◌}
 use mathlib.Core.List.{List, [], ◌∷◌, ◌++◌}
 use lib.Pow.{pow-add}
-use native.Mathlib.Nat.{pow-suc, mul-lt-mul_of_pos_right, one-le-pow, zero-lt-suc, not-suc-le-zero}
+use native.Mathlib.Nat.{mul-lt-mul_of_pos_right, one-le-pow, zero-lt-suc}
 use native.Mathlib.Omega.{arith}
-use borrow.Author.Tests.{eqb-true}
 use lib.Dec.{leb, eqb}
-use lib.ListN.{get_or}
+use lib.ListN.{length, drop, get_or, drop_of_length-le}
+use lib.Seq.{drop-cons}
+use native.Mathlib.Numerals.{add-one}
+use Rattle.std.proofs.lemmas.Bool.{false≢true, true≢false}
 use Rattle.decimal_spelling.specs.Limbs.{ten_by, sum_by, below_by_of, placed_at, whole_part_of, behind}
 use Rattle.decimal_spelling.specs.Spelling.{Written, put_byte, put_all, Turn, turn_from, turn_with, turn_of, glyph, digits_by}
-use Rattle.decimal_spelling.specs.Spelling.{Passed, passed, pass_zeros, whole_text, more_text, tiny_text, plain_text}
+use Rattle.decimal_spelling.specs.Spelling.{passed, pass_zeros, whole_text, more_text, tiny_text, plain_text}
 
 pub put_append : (w : Written) (s t : List ℕ) → put_all w (s ++ t) ≡ put_all (put_all w s) t
 unfolding put_all
@@ -19,23 +21,10 @@ put_append w [] t = refl
 put_append w (b ∷ s) t = put_append (put_byte w b) s t
 
 -- ---- a whole number
-pub power_before : (l : ℕ) → 10 ^ suc l / 10 ≡ 10 ^ l
-power_before l = rw (pow-suc 10 l) (omega arith)
-
-pub power_is : (left : ℕ) → 0 < left → 10 ^ left / 10 ≡ 10 ^ (left - 1)
-power_is zero h = absurd (not-suc-le-zero h)
-power_is (suc l) h = let e : suc l - 1 ≡ l = omega arith in rw e (power_before l)
-
-pub power_pos : (left : ℕ) → 0 < left → 0 < 10 ^ left / 10
-power_pos left h = rw (power_is left h) (one-le-pow (left - 1) 10 (zero-lt-suc 9))
-
-pub whole_turn : (w : Written) (n l : ℕ) → put_all (cond (leb (10 ^ l) n || eqb l 0) (put_byte w (glyph (n / 10 ^ l))) w) (whole_text l n) ≡ put_all w (whole_text (suc l) n)
+pub whole_turn : (w : Written) (n l : ℕ) (t : Bool) → t ≡ leb (10 ^ l) n || eqb l 0 → put_all (cond t (put_byte w (glyph (n / 10 ^ l))) w) (whole_text l n) ≡ put_all w (whole_text (suc l) n)
 unfolding put_all whole_text
-whole_turn w n l = go (leb (10 ^ l) n || eqb l 0)
-  where
-    go : (t : Bool) → put_all (cond t (put_byte w (glyph (n / 10 ^ l))) w) (whole_text l n) ≡ put_all w (cond t (glyph (n / 10 ^ l) ∷ whole_text l n) (whole_text l n))
-    go true = refl
-    go false = refl
+whole_turn w n l true e = rw (← e)
+whole_turn w n l false e = rw (← e)
 
 -- ---- a digit
 module _ (ten gap : List ℕ) (value : ℕ) (low high : Bool) (e : low ≡ below_by_of 20 (behind ten) gap) (f : high ≡ below_by_of 20 (placed_at 1 1080) (sum_by 20 (behind ten) gap).limbs) where
@@ -71,43 +60,50 @@ module _ (rest gap ten g a one reach : List ℕ) (v : ℕ) (low high : Bool)
     pub next_plain : high && (not low || leb 0x800_0000_0000_0000 (get_or a 17 0)) ≡ false → turn_from a g v low ≡ turn_of rest gap
     next_plain t = rw e-rest (turn_plain ten g v low high is_low is_high (rw e-rest at t) ∙ is_turn)
 
-pub digits-turn :
-    (w : Written) (rest gap : List ℕ) (l : ℕ) (t : Turn) → t ≡ turn_of rest gap
-    → put_all (put_byte w (glyph t.value)) (digits_by (cond t.last 0 l) t.rest t.gap) ≡ put_all w (digits_by (suc l) rest gap)
-unfolding put_all digits_by
-digits-turn w rest gap l t e = rw (← e) (go t.last)
-  where
-    go : (b : Bool)
-        → put_all (put_byte w (glyph t.value)) (digits_by (cond b 0 l) t.rest t.gap) ≡ put_all (put_byte w (glyph t.value)) (cond b [] (digits_by l t.rest t.gap))
-    go true = refl
-    go false = refl
+-- the last digit, or one more
+module _ (w : Written) (rest gap : List ℕ) (n : ℕ) (t : Turn) (e : t ≡ turn_of rest gap) where
+  pub digits_stop : t.last ≡ true → put_byte w (glyph t.value) ≡ put_all w (digits_by (suc n) rest gap)
+  unfolding put_all digits_by
+  digits_stop h = rw (← e, h)
 
--- ---- zeros at the start: what is known after some turns
-unfoldable pub after : ℕ → ℕ → List ℕ → List ℕ → ℕ → Bool → Passed
-after zero z rest gap value last = passed z rest gap value last
-after (suc n) z rest gap value last = pass_zeros (suc n) z rest gap
+  pub digits-turn : t.last ≡ false → put_all (put_byte w (glyph t.value)) (digits_by n t.rest t.gap) ≡ put_all w (digits_by (suc n) rest gap)
+  unfolding put_all digits_by
+  digits-turn h = rw (← e, h)
 
-after_zero : (n z : ℕ) (rest gap : List ℕ) → after n z rest gap 0 false ≡ pass_zeros n z rest gap
-unfolding after pass_zeros
-after_zero zero z rest gap = refl
-after_zero (suc n) z rest gap = refl
+-- the first digit that is no zero, or one zero more
+module _ (n z : ℕ) (rest gap : List ℕ) (t : Turn) (e : t ≡ turn_of rest gap) where
+  either_way : not (eqb t.value 0) || t.last ≡ false → (eqb t.value 0 && not t.last) ≡ true
+  either_way h = go (eqb t.value 0) t.last h
+    where
+      go : (u v : Bool) → not u || v ≡ false → (u && not v) ≡ true
+      go true true h = absurd (true≢false h)
+      go true false h = refl
+      go false v h = absurd (true≢false h)
 
-pub after_some : (n z : ℕ) (rest gap : List ℕ) (value : ℕ) (last : Bool) → 0 < n → pass_zeros n z rest gap ≡ after n z rest gap value last
-unfolding after
-after_some zero z rest gap value last h = absurd (not-suc-le-zero h)
-after_some (suc n) z rest gap value last h = refl
+  other_way : not (eqb t.value 0) || t.last ≡ true → (eqb t.value 0 && not t.last) ≡ false
+  other_way h = go (eqb t.value 0) t.last h
+    where
+      go : (u v : Bool) → not u || v ≡ true → (u && not v) ≡ false
+      go true true h = refl
+      go true false h = absurd (false≢true h)
+      go false v h = refl
 
-pub zeros-turn :
-    (n z : ℕ) (rest gap : List ℕ) (t : Turn) → t ≡ turn_of rest gap
-    → after (cond (not (eqb t.value 0) || t.last) 0 n) (z + 1) t.rest t.gap t.value t.last ≡ pass_zeros (suc n) z rest gap
-unfolding after pass_zeros
-zeros-turn n z rest gap t e = rw (← e) (go t.value t.last (eqb t.value 0) refl)
-  where
-    go : (v : ℕ) (l : Bool) (q : Bool) → eqb v 0 ≡ q
-        → after (cond (not q || l) 0 n) (z + 1) t.rest t.gap v l ≡ cond (q && not l) (pass_zeros n (z + 1) t.rest t.gap) (passed (z + 1) t.rest t.gap v l)
-    go v true true h = refl
-    go v false true h = rw (eqb-true v 0 h) (after_zero n (z + 1) t.rest t.gap)
-    go v l false h = refl
+  pub zeros-turn : not (eqb t.value 0) || t.last ≡ false → pass_zeros n (z + 1) t.rest t.gap ≡ pass_zeros (suc n) z rest gap
+  unfolding pass_zeros
+  zeros-turn h = rw (← e, either_way h)
+
+  pub zeros_stop : not (eqb t.value 0) || t.last ≡ true → passed (z + 1) t.rest t.gap t.value t.last ≡ pass_zeros (suc n) z rest gap
+  unfolding pass_zeros
+  zeros_stop h = rw (← e, other_way h)
+
+-- a byte more of a text
+pub text-turn : (w : Written) (s : List ℕ) (i : ℕ) → i < length s → put_all (put_byte w (get_or s i 0)) (drop (i + 1) s) ≡ put_all w (drop i s)
+unfolding put_all
+text-turn w s i h = rw (add-one i, drop-cons s i 0 h)
+
+pub text_over : (w : Written) (s : List ℕ) (i : ℕ) → length s ≤ i → put_all w (drop i s) ≡ w
+unfolding put_all
+text_over w s i h = rw (drop_of_length-le s h)
 
 -- a limb of m * 2^at
 pub product_below : (x s : ℕ) → s ≤ 60 → x < 2 ^ (60 - s) → x * 2 ^ s < 2 ^ 60

@@ -3,10 +3,12 @@
 // left is within half the gap to the neighbours. A number stands in 1,200 bits, 60 to a limb, the lowest limb first; limbs 18 and 19 are its whole part.
 #![tactic(auto)]
 
-ghost use Rattle.std.specs.Prelude.{◌≡◌, cond, ◌^◌, ◌-◌, ◌≤◌, ◌<◌};
+ghost use Rattle.std.specs.Prelude.{◌≡◌, cond, ◌+◌, ◌-◌, ◌≤◌, ◌<◌, ◌^◌, take, replicate};
 ghost use Rattle.decimal_spelling.specs.Limbs.{ten_by, sum_by, below_by_of, placed_at, whole_part_of, behind};
-ghost use Rattle.decimal_spelling.specs.Spelling.{written, put_byte, put_all, parts_of, gap_of, turn_of, turn_from, glyph, digits_by, passed, pass_zeros};
+ghost use Rattle.decimal_spelling.specs.Spelling.{Written, written, put_byte, put_all, parts_of, gap_of, turn_of, turn_from, glyph, digits_by, passed, pass_zeros};
 ghost use Rattle.decimal_spelling.specs.Spelling.{whole_text, more_text, tiny_text, plain_text, size_text, spelling};
+
+use std::marker::Model;
 
 const LIMB: u64 = 0x1000_0000_0000_0000;
 
@@ -29,29 +31,29 @@ pub struct Digit {
 #[derive(Clone, Copy)]
 pub struct First {
     pub zeros: u64,
-    pub value: u64,
-    pub last: bool,
+    pub digit: Digit,
 }
 
-// Puts b after the bytes of a line that is written, where there is room, and says how many are then.
-pub fn put(line: &mut [u8; 4096], used: usize, b: u8) -> usize
-    ensures { written line.new result ≡ put_byte (written line.old used) b }
-{
-    if used < 4096 {
-        line[used] = b;
-        return used + 1;
-    }
-    used
+// What is left of a number, and half the gap to its nearer neighbour.
+#[derive(Clone, Copy)]
+pub struct Left {
+    pub rest: [u64; 20],
+    pub gap: [u64; 20],
 }
 
-// Puts b, or nothing.
-fn put_if(line: &mut [u8; 4096], used: usize, test: bool, b: u8) -> usize
-    ensures { written line.new result ≡ cond test (put_byte (written line.old used) b) (written line.old used) }
-{
-    if test {
-        return put(line, used, b);
-    }
-    used
+// A line that is written, of at most 4,096 bytes: those that are there, and room behind them. No heap holds it, since the library has none.
+#[derive(Drop)]
+pub struct Line {
+    bytes: [u8; 4096],
+    used: usize,
+}
+
+impl Model for Line {
+    ghost Value = { Written };
+
+    ghost view = { λ l. written l.bytes l.used };
+
+    ghost invariant = { λ l. l.used ≤ 4096 };
 }
 
 fn glyph_of(digit: u64) -> u8
@@ -60,19 +62,129 @@ fn glyph_of(digit: u64) -> u8
     (48 + digit % 10) as u8
 }
 
-// Puts a whole number in its decimal digits.
-pub fn put_whole(line: &mut [u8; 4096], used: usize, n: u64) -> usize
-    ensures { written line.new result ≡ put_all (written line.old used) (whole_text 20 n) }
-{
-    let mut power: u64 = 10000000000000000000;
-    let mut at = used;
-    let mut left: usize = 20;
-    while left > 0 {
-        left -= 1;
-        at = put_if(line, at, (power <= n) | (left == 0), glyph_of(n / power));
-        power = power / 10;
+impl Line {
+    pub fn new() -> Line
+        ensures { result ≡ written (replicate 4096 0) 0 }
+    {
+        Line {
+            bytes: [0; 4096],
+            used: 0,
+        }
     }
-    at
+
+    // The bytes that are there.
+    pub fn bytes(&self) -> &[u8]
+        ensures { result.now ≡ take self.now.used self.now.line }
+    {
+        &self.bytes[..self.used]
+    }
+
+    // Puts b after them, where there is room.
+    pub fn put(&mut self, b: u8)
+        ensures { self.new ≡ put_byte self.old b }
+    {
+        if self.used < 4096 {
+            self.bytes[self.used] = b;
+            self.used += 1;
+        }
+    }
+
+    // Puts a text after them.
+    pub fn put_text(&mut self, text: &[u8])
+        ensures { self.new ≡ put_all self.old text.now }
+    {
+        for b in text {
+            self.put(*b);
+        }
+    }
+
+    // Puts a whole number in its decimal digits.
+    pub fn put_whole(&mut self, n: u64)
+        ensures { self.new ≡ put_all self.old (whole_text 20 n) }
+    {
+        for k in (0u32..20).rev() {
+            let power = 10u64.pow(k);
+            if (power <= n) | (k == 0) {
+                self.put(glyph_of(n / power));
+            }
+        }
+    }
+
+    // Puts digits up to the last one.
+    fn put_digits(&mut self, left: &mut Left)
+        ensures { self.new ≡ put_all self.old (digits_by 1100 left.old.rest left.old.gap) }
+    {
+        for _ in 0..1100usize {
+            let d = left.next_digit();
+            self.put(glyph_of(d.value));
+            if d.last {
+                return;
+            }
+        }
+    }
+
+    // Puts what stands behind a point, where the digit before was not the last.
+    fn put_more(&mut self, last: bool, left: &mut Left)
+        ensures { self.new ≡ put_all self.old (more_text last left.old.rest left.old.gap) }
+    {
+        if !last {
+            self.put(b'.');
+            self.put_digits(left);
+        }
+    }
+
+    // A number below 1e-4, with its exponent.
+    fn put_tiny(&mut self, left: &mut Left)
+        ensures { self.new ≡ put_all self.old (tiny_text (pass_zeros 1100 0 left.old.rest left.old.gap)) }
+    {
+        let first = left.first_digit();
+        self.put(glyph_of(first.digit.value));
+        self.put_more(first.digit.last, left);
+        self.put(b'e');
+        self.put(b'-');
+        self.put_whole(first.zeros);
+    }
+
+    // A number without an exponent.
+    fn put_plain(&mut self, left: &mut Left)
+        ensures { self.new ≡ put_all self.old (plain_text left.old.rest left.old.gap) }
+    {
+        let whole = take_whole(&mut left.rest);
+        self.put_whole(whole);
+        let none = is_below(&left.rest, &left.gap);
+        self.put_more(none, left);
+    }
+
+    // A number that is not below 0.
+    fn put_size(&mut self, x: f64)
+        ensures { self.new ≡ put_all self.old (size_text x) }
+    {
+        let p = parts_of(words::to_bits(x));
+        let mut left = Left {
+            rest: placed(p.m, p.at),
+            gap: half_gap(p),
+        };
+        if (0.0 < x) & (x < 1e-4) {
+            self.put_tiny(&mut left);
+        } else {
+            self.put_plain(&mut left);
+        }
+    }
+
+    // Puts x after the bytes that are there; '?' for what is not below 2^63 in size.
+    pub fn put_number(&mut self, x: f64)
+        ensures { self.new ≡ put_all self.old (spelling x) }
+    {
+        let size = min_max::abs(x);
+        if size < 9223372036854775808.0 {
+            if min_max::is_negative(x) {
+                self.put(b'-');
+            }
+            self.put_size(size);
+        } else {
+            self.put(b'?');
+        }
+    }
 }
 
 fn parts_of(bits: u64) -> Parts
@@ -98,10 +210,10 @@ fn parts_of(bits: u64) -> Parts
 fn times_ten(a: &mut [u64; 20])
     ensures { a.new ≡ (ten_by 20 a.old).limbs }
 {
-    let mut carry: u64 = 0;
-    for i in 0..20 {
-        let v = a[i] % LIMB * 10 + carry;
-        a[i] = v % LIMB;
+    let mut carry = 0;
+    for limb in a.iter_mut() {
+        let v = *limb % LIMB * 10 + carry;
+        *limb = v % LIMB;
         carry = v / LIMB;
     }
 }
@@ -110,11 +222,10 @@ fn is_below(a: &[u64; 20], b: &[u64; 20]) -> bool
     ensures { result ≡ below_by_of 20 a.now b.now }
 {
     let mut below = false;
-    for i in 0..20 {
-        let x = a[i];
+    for (i, x) in a.iter().enumerate() {
         let y = b[i];
-        if x != y {
-            below = x < y;
+        if *x != y {
+            below = *x < y;
         }
     }
     below
@@ -124,7 +235,8 @@ fn sum_of(a: &[u64; 20], b: &[u64; 20]) -> [u64; 20]
     ensures { result ≡ (sum_by 20 a.now b.now).limbs }
 {
     let mut sum = [0u64; 20];
-    let mut carry: u64 = 0;
+    let mut carry = 0;
+    // three arrays in step, by their place
     for i in 0..20 {
         let v = a[i] % LIMB + b[i] % LIMB + carry;
         sum[i] = v % LIMB;
@@ -133,26 +245,15 @@ fn sum_of(a: &[u64; 20], b: &[u64; 20]) -> [u64; 20]
     sum
 }
 
-fn two_to(k: usize) -> u64
-    requires { k ≤ 60 }
-    ensures { result ≡ 2 ^ k }
-{
-    let mut p: u64 = 1;
-    for i in 0..k {
-        p = p * 2;
-    }
-    p
-}
-
 // m * 2^at.
 fn placed(m: u64, at: usize) -> [u64; 20]
     ensures { result ≡ placed_at m at }
 {
     let mut a = [0u64; 20];
     let limb = at / 60;
-    let shift = at % 60;
-    let up = two_to(shift);
-    let over = two_to(60 - shift);
+    let shift = (at % 60) as u32;
+    let up = 2u64.pow(shift);
+    let over = 2u64.pow(60 - shift);
     if limb < 19 {
         a[limb] = m % over * up;
         a[limb + 1] = m / over;
@@ -170,110 +271,46 @@ fn take_whole(a: &mut [u64; 20]) -> u64
     whole
 }
 
-// The next digit.
-fn next_digit(rest: &mut [u64; 20], gap: &mut [u64; 20]) -> Digit
-    ensures { turn_from rest.new gap.new result.value result.last ≡ turn_of rest.old gap.old }
-{
-    times_ten(rest);
-    times_ten(gap);
-    let value = take_whole(rest);
-    let behind: &[u64; 20] = rest;
-    let half: &[u64; 20] = gap;
-    let low = is_below(behind, half);
-    let one = placed(1, 1080);
-    let reach = sum_of(behind, half);
-    let high = is_below(&one, &reach);
-    if high & (!low | (0x800_0000_0000_0000 <= behind[17])) {
-        return Digit {
-            value: value + 1,
-            last: true,
+impl Left {
+    // The next digit.
+    fn next_digit(&mut self) -> Digit
+        ensures { turn_from self.new.rest self.new.gap result.value result.last ≡ turn_of self.old.rest self.old.gap }
+    {
+        times_ten(&mut self.rest);
+        times_ten(&mut self.gap);
+        let value = take_whole(&mut self.rest);
+        let low = is_below(&self.rest, &self.gap);
+        let one = placed(1, 1080);
+        let reach = sum_of(&self.rest, &self.gap);
+        let high = is_below(&one, &reach);
+        if high & (!low | (0x800_0000_0000_0000 <= self.rest[17])) {
+            return Digit {
+                value: value + 1,
+                last: true,
+            };
+        }
+        Digit { value, last: low }
+    }
+
+    // Passes the zeros at the start.
+    fn first_digit(&mut self) -> First
+        ensures { passed result.zeros self.new.rest self.new.gap result.digit.value result.digit.last ≡ pass_zeros 1100 0 self.old.rest self.old.gap }
+    {
+        for passed in 0..1100 {
+            let digit = self.next_digit();
+            if (digit.value != 0) | digit.last {
+                return First {
+                    zeros: passed + 1,
+                    digit,
+                };
+            }
+        }
+        let digit = Digit {
+            value: 0,
+            last: false,
         };
+        First { zeros: 1100, digit }
     }
-    Digit { value, last: low }
-}
-
-// Puts digits up to the last one.
-fn put_digits(
-    line: &mut [u8; 4096],
-    used: usize,
-    rest: &mut [u64; 20],
-    gap: &mut [u64; 20],
-) -> usize
-    ensures { written line.new result ≡ put_all (written line.old used) (digits_by 1100 rest.old gap.old) }
-{
-    let mut at = used;
-    let mut left: usize = 1100;
-    while left > 0 {
-        let d = next_digit(rest, gap);
-        at = put(line, at, glyph_of(d.value));
-        left = next_left(d.last, left);
-    }
-    at
-}
-
-// How many turns are left after one more; none where it was the last.
-fn next_left(last: bool, left: usize) -> usize
-    requires { 0 < left }
-    ensures { (result ≡ cond last 0 (left - 1)) × (result < left) }
-{
-    if last { 0 } else { left - 1 }
-}
-
-// Passes the zeros at the start.
-fn first_digit(rest: &mut [u64; 20], gap: &mut [u64; 20]) -> First
-    ensures { passed result.zeros rest.new gap.new result.value result.last ≡ pass_zeros 1100 0 rest.old gap.old }
-{
-    let mut value: u64 = 0;
-    let mut last = false;
-    let mut zeros: u64 = 0;
-    let mut left: usize = 1100;
-    while left > 0 {
-        let d = next_digit(rest, gap);
-        value = d.value;
-        last = d.last;
-        zeros += 1;
-        left = next_left((d.value != 0) | d.last, left);
-    }
-    First { zeros, value, last }
-}
-
-// Puts what stands behind a point, where the digit before was not the last.
-fn put_more(
-    line: &mut [u8; 4096],
-    used: usize,
-    last: bool,
-    rest: &mut [u64; 20],
-    gap: &mut [u64; 20],
-) -> usize
-    ensures { written line.new result ≡ put_all (written line.old used) (more_text last rest.old gap.old) }
-{
-    if last {
-        return used;
-    }
-    let at = put(line, used, b'.');
-    put_digits(line, at, rest, gap)
-}
-
-// A number below 1e-4, with its exponent.
-fn put_tiny(line: &mut [u8; 4096], used: usize, rest: &mut [u64; 20], gap: &mut [u64; 20]) -> usize
-    ensures { written line.new result ≡ put_all (written line.old used) (tiny_text (pass_zeros 1100 0 rest.old gap.old)) }
-{
-    let first = first_digit(rest, gap);
-    let a = put(line, used, glyph_of(first.value));
-    let b = put_more(line, a, first.last, rest, gap);
-    let c = put(line, b, b'e');
-    let d = put(line, c, b'-');
-    put_whole(line, d, first.zeros)
-}
-
-// A number without an exponent.
-fn put_plain(line: &mut [u8; 4096], used: usize, rest: &mut [u64; 20], gap: &mut [u64; 20]) -> usize
-    ensures { written line.new result ≡ put_all (written line.old used) (plain_text rest.old gap.old) }
-{
-    let whole = take_whole(rest);
-    let end = put_whole(line, used, whole);
-    let none = is_below(rest, gap);
-    put_more(line, end, none, rest, gap)
 }
 
 // Half the gap to the nearer neighbour.
@@ -285,29 +322,4 @@ fn half_gap(p: Parts) -> [u64; 20]
         return placed(1, p.at - 2);
     }
     placed(1, p.at - 1)
-}
-
-// A number that is not below 0.
-fn put_size(line: &mut [u8; 4096], used: usize, x: f64) -> usize
-    ensures { written line.new result ≡ put_all (written line.old used) (size_text x) }
-{
-    let p = parts_of(words::to_bits(x));
-    let mut rest = placed(p.m, p.at);
-    let mut gap = half_gap(p);
-    if (0.0 < x) & (x < 1e-4) {
-        return put_tiny(line, used, &mut rest, &mut gap);
-    }
-    put_plain(line, used, &mut rest, &mut gap)
-}
-
-// Puts x after the bytes that a line has so far; '?' for what is not below 2^63 in size.
-pub fn put_number(line: &mut [u8; 4096], used: usize, x: f64) -> usize
-    ensures { written line.new result ≡ put_all (written line.old used) (spelling x) }
-{
-    let size = min_max::abs(x);
-    if size < 9223372036854775808.0 {
-        let at = put_if(line, used, min_max::is_negative(x), b'-');
-        return put_size(line, at, size);
-    }
-    put(line, used, b'?')
 }

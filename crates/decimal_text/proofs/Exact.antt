@@ -1,6 +1,5 @@
 -- Digits and power of ten are exact, so their quotient is the decimal rounded once. Assumes nothing.
-use Rattle.std.proofs.Common.{◌≡◌, ℕ, ◌*◌, ◌^◌, ◌<◌, ◌≤◌, Bool, true, false, ◌&&◌, T, eqb, leb, pos, sym, ap, ◌∙◌, zero-lt-suc, mul_assoc, mul_comm, mul-pos, mul-one, mul_left_comm, arith, eqb→eq, leb-true}
-use mathlib.Core.Bool.{and-eq-true_iff}
+use Rattle.std.proofs.Common.{◌≡◌, ℕ, ◌*◌, ◌^◌, ◌<◌, ◌≤◌, Bool, false, ◌&&◌, T, eqb, pos, sym, ap, ◌∙◌, zero-lt-suc, mul_assoc, mul_comm, mul-pos, mul-one, mul_left_comm, arith, eqb→eq}
 use native.Mathlib.Nat.{one-le-pow}
 use lib.Ieee.{Float, binary64, unlike, round, mul, of_bits}
 use lib.Ieee.Fits.{and_l, and_r}
@@ -50,9 +49,3 @@ module _ (x y : Float) (m p : ℕ) (hx : HasValue x false m 1) (hy : T (whole y 
 
 pub quotient_is : (m k : ℕ) → m ≤ 2 ^ 53 → k ≤ 22 → count m ⊘ tens k ≡ decimal m k
 quotient_is m k h l = once (count m) (tens k) m (10 ^ k) (int_value (pos m) h) (all_at (λ j. whole (tens j) (10 ^ j)) 23 k (omega arith) tens_whole) (one-le-pow k 10 (zero-lt-suc 9))
-
--- the same from the test of both bounds
-pub quotient_within : (m k : ℕ) → leb m (2 ^ 53) && leb k 22 ≡ true → count m ⊘ tens k ≡ decimal m k
-quotient_within m k h =
-    let both = (and-eq-true_iff (leb m (2 ^ 53)) (leb k 22)).0 h in
-    quotient_is m k (leb-true m (2 ^ 53) both.0) (leb-true k 22 both.1)

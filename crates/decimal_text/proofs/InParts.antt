@@ -62,7 +62,7 @@ module _ (s : List ℕ) (from point sign exponent : ℕ) (whole fraction power :
     abbrev has : Bool
     has = (ltb fraction.end sign && ltb exponent power.end) || (not (ltb fraction.end sign) && eqb fraction.end power.end)
 
-    is_decimal_lem : (eqb power.end (length s) && (ltb from whole.end || ltb point fraction.end)) && has ≡ is_decimal s
+    pub is_decimal_lem : (eqb power.end (length s) && (ltb from whole.end || ltb point fraction.end)) && has ≡ is_decimal s
     unfolding is_decimal
     is_decimal_lem = rw (either_way (ltb fraction.end sign) (ltb exponent power.end) (eqb fraction.end power.end), is_from, is_point, is_fraction, is_mark, is_sign, is_exponent, is_end)
 
@@ -74,8 +74,7 @@ module _ (s : List ℕ) (from point sign exponent : ℕ) (whole fraction power :
           exponent = power.value;
           negative = negative;
           down = down;
-          whole = (eqb power.end (length s) && (ltb from whole.end || ltb point fraction.end)) && has;
         })
         (parts_of s)
     unfolding parts_of
-    split-is = rw (is_decimal_lem, is_digits, is_power, is_mark, is_fraction, e-negative, e-down, is_sign)
+    split-is = rw (is_digits, is_power, is_mark, is_fraction, e-negative, e-down, is_sign)

@@ -1,6 +1,7 @@
 -- A run of digits, digit by digit, with its number cut where it cannot be read. Assumes nothing.
-use Rattle.std.proofs.Common.{◌≡◌, ℕ, suc, ◌+◌, ◌-◌, ◌*◌, ◌^◌, ◌<◌, ◌≤◌, min, Bool, true, false, cond, ◌||◌, eqb, ltb, leb, List, [], ◌∷◌, length, get_or, drop, sym, ◌∙◌, le_trans, le_refl, mul_assoc, mul_comm, pow-suc, mul_left_comm, add-one, arith, drop_of_length-le, drop-cons, ltb-true, leb-true}
+use Rattle.std.proofs.Common.{◌≡◌, ℕ, ◌+◌, ◌-◌, ◌*◌, ◌<◌, ◌≤◌, min, max, Bool, true, false, cond, ◌||◌, eqb, ltb, leb, List, [], ◌∷◌, length, get_or, drop, refl, sym, ◌∙◌, le_trans, le_refl, add-one, arith, drop_of_length-le, drop-cons, ltb-true, leb-true}
 use mathlib.Core.Bool.{and-eq-true_iff}
+use Rattle.std.proofs.lemmas.Bool.{ltb-false}
 use native.Mathlib.Nat.{min-eq_right}
 use native.Mathlib.Omega.{min_cases}
 use Rattle.decimal_text.specs.Digits.{most, is_digit, is_at, digits_ahead, value_with}
@@ -58,9 +59,12 @@ pub over_end : (s : List ℕ) (at : ℕ) → length s ≤ at → digits_ahead (d
 unfolding digits_ahead
 over_end s at h = rw (drop_of_length-le s h)
 
--- n * 10^k, a zero at a time
-pub raise_turn : (n i : ℕ) → min (10 * min (n * 10 ^ i) most + (48 - 48)) most ≡ min (n * 10 ^ (i + 1)) most
-raise_turn n i = rw (add-one i) (one (n * 10 ^ i) (n * 10 ^ suc i) (rw (pow-suc 10 i) (simp (mul_assoc, mul_comm, mul_left_comm))))
+-- where a run from a place on has ended with the text, or has not begun
+pub run_end :
+    (s : List ℕ) (from at : ℕ) → from ≤ at → (from ≤ length s → at ≤ length s) → length s ≤ at → at + digits_ahead (drop at s) ≡ from + digits_ahead (drop from s)
+    → max from (length s) ≡ from + digits_ahead (drop from s)
+run_end s from at f within h e = go (ltb (length s) from) refl
   where
-    one : (a b : ℕ) → b ≡ 10 * a → min (10 * min a most + (48 - 48)) most ≡ min b most
-    one a b e = omega arith
+    go : (t : Bool) → ltb (length s) from ≡ t → max from (length s) ≡ from + digits_ahead (drop from s)
+    go true q = let k : length s < from = ltb-true (length s) from q in omega (arith, over_end s from (omega arith))
+    go false q = let k : from ≤ length s = ltb-false (length s) from q in omega (arith, within k, over_end s at h)

@@ -1,12 +1,10 @@
 -- The parts of a decimal's text, in their order, and the number that it says. Definitions only.
-use Rattle.std.specs.Prelude.{ℕ, ◌+◌, ◌-◌, ◌*◌, ◌^◌, min, Bool, true, false, cond, ◌&&◌, ◌||◌, List, length, drop, ◌==◌, nat_le, nat_lt}
+use Rattle.std.specs.Prelude.{ℕ, ◌+◌, ◌-◌, ◌*◌, ◌^◌, min, Bool, true, false, cond, ◌&&◌, ◌||◌, List, length, drop, ◌==◌, nat_le, nat_lt, Float, Option, Some, None, Result, Ok, Err}
 use Rattle.std.specs.Float.Ieee.{neg}
-use Rattle.decimal_text.specs.declared.nearest.Reading.{Reading}
-use Rattle.decimal_text.specs.declared.nearest.Reading.TheVariants.{Value, TooLong as PastReading}
 use Rattle.decimal_text.specs.Nearest.{nearest_to}
 use Rattle.decimal_text.specs.Digits.{most, value_with, digits_end, is_at, past_either}
-use Rattle.decimal_text.specs.declared.Decimal.{Decimal}
-use Rattle.decimal_text.specs.declared.Decimal.TheVariants.{Number, TooLong, NotDecimal}
+use Rattle.decimal_text.specs.declared.DecimalError.{DecimalError}
+use Rattle.decimal_text.specs.declared.DecimalError.TheVariants.{TooLong, NotDecimal}
 use Rattle.decimal_text.specs.declared.Parts.{Parts}
 
 -- ---- a sign, digits, a point, digits, an 'e', a sign, digits: each where it stands, and each may be missing
@@ -52,24 +50,26 @@ parts_of s = record {
   exponent = min (exponent_of s) most;
   negative = is_at s 0 45 45;
   down = is_at s (exponent_sign s) 45 45;
-  whole = is_decimal s;
 }
 
+unfoldable pub split_of : List ℕ → Result Parts DecimalError
+split_of s = cond (is_decimal s) (Ok (parts_of s)) (Err NotDecimal)
+
 -- digits / 10^places * 10^exponent, or / 10^exponent where it goes down
-unfoldable pub scaled_by : ℕ → ℕ → ℕ → Bool → Reading
+unfoldable pub scaled_by : ℕ → ℕ → ℕ → Bool → Option Float
 scaled_by digits places exponent true = nearest_to digits (places + exponent)
 scaled_by digits places exponent false = nearest_to (digits * 10 ^ (exponent - places)) (places - exponent)
 
-unfoldable pub signed : Bool → Reading → Decimal
-signed true (Value x) = Number (neg x)
-signed false (Value x) = Number x
-signed negative PastReading = TooLong
+unfoldable pub signed : Bool → Option Float → Result Float DecimalError
+signed true (Some x) = Ok (neg x)
+signed false (Some x) = Ok x
+signed negative None = Err TooLong
 
 -- what a text says: the binary64 nearest to its decimal, where it is one that can be read
-unfoldable pub number_of : List ℕ → Decimal
+unfoldable pub number_of : List ℕ → Result Float DecimalError
 number_of s =
     cond (is_decimal s)
     (cond (nat_le (exponent_of s) 999)
     (signed (is_at s 0 45 45) (scaled_by (digits_of s) (fraction_end s - fraction_from s) (exponent_of s) (is_at s (exponent_sign s) 45 45)))
-    TooLong)
-    NotDecimal
+    (Err TooLong))
+    (Err NotDecimal)

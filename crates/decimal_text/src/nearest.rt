@@ -3,29 +3,23 @@
 ghost use Rattle.std.specs.Prelude.{◌≡◌};
 ghost use Rattle.decimal_text.specs.Nearest.{tens, nearest_to};
 
-#[derive(Clone, Copy)]
-pub enum Reading {
-    Value(f64),
-    TooLong,
-}
-
 // 10^k, multiplied up from 1.
 fn power_of_ten(k: usize) -> f64
     ensures { result ≡ tens k }
 {
     let mut p = 1.0;
-    for i in 0..k {
-        p = p * 10.0;
+    for _ in 0..k {
+        p *= 10.0;
     }
     p
 }
 
-// The binary64 nearest to digits / 10^places.
-pub fn nearest(digits: u64, places: usize) -> Reading
+// The binary64 nearest to digits / 10^places, where it is read.
+pub fn nearest(digits: u64, places: usize) -> Option<f64>
     ensures { result ≡ nearest_to digits places }
 {
-    if (digits <= 9007199254740992) & (places <= 22) {
-        return Reading::Value(std::num::nearest_u64_to_f64(digits) / power_of_ten(places));
+    if digits <= 9007199254740992 && places <= 22 {
+        return Some(std::num::nearest_u64_to_f64(digits) / power_of_ten(places));
     }
-    Reading::TooLong
+    None
 }

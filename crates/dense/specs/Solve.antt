@@ -9,7 +9,7 @@ use Rattle.matrix_rows.specs.Places.{place, zeros}
 use Rattle.matrix_columns.specs.Columns.{System, system}
 use Rattle.dense_elimination.specs.Elimination.{eliminated}
 use Rattle.dense.specs.Substitution.{substituted}
-use Rattle.dense.specs.declared.Solved.{Solved}
+use Rattle.dense.specs.Answers.{Solved}
 
 -- ---- the copies
 

@@ -9,7 +9,7 @@ use Rattle.dfn_parameters.specs.declared.DfnConfig.{DfnConfig}
 use Rattle.arrays.specs.Places.{filled}
 use Rattle.dfn.specs.Checks.{used_neg, used_pos, used_electrolyte}
 use Rattle.dfn.specs.declared.DfnSolver.{DfnSolver}
-use Rattle.dfn.specs.declared.DfnBuildAnswer.{DfnBuildAnswer}
+use Rattle.dfn.specs.Answers.{DfnBuildAnswer}
 
 -- a build checks 1 and 2
 unfoldable pub new_refusal : DfnParams → DfnConfig → ℕ

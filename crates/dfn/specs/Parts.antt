@@ -10,8 +10,7 @@ use Rattle.dfn.specs.Checks.{step_refusal}
 use Rattle.dfn.specs.Step.{Moved, moved_by, report_of, cell_with, all_numbers, refused_with, answered, followed, advanced, stepped}
 use Rattle.dfn.specs.declared.DfnSolver.{DfnSolver}
 use Rattle.dfn.specs.declared.DfnStep.{DfnStep}
-use Rattle.dfn.specs.declared.DfnReported.{DfnReported}
-use Rattle.dfn.specs.declared.DfnStepAnswer.{DfnStepAnswer}
+use Rattle.dfn.specs.Answers.{DfnReported, DfnStepAnswer}
 
 -- a cell by its parts; the last four are what a step only overwrites
 abbrev pub cell_of : DfnParams → DfnConfig → Float → List Float → List Float → List Float → Float → Float → Float → Float → DfnSolver

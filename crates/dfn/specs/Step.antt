@@ -4,7 +4,7 @@ use Rattle.std.specs.Float.{nan}
 use Rattle.std.specs.Float.Ieee.{lt, neg}
 use Rattle.binary64.specs.Operators.{◌⊕◌, ◌⊘◌, count}
 use Rattle.binary64.specs.Literals.{«0·0»}
-use Rattle.refusal.specs.Numbers.{first_refusal, refusal_unless, not_finite_of}
+use Rattle.refusal.specs.Numbers.{not_finite_of}
 use Rattle.refusal.specs.Ranges.{finite}
 use Rattle.dfn_parameters.specs.Sides.{anode_of, cathode_of, pore_flux}
 use Rattle.dfn_parameters.specs.declared.DfnParams.{DfnParams}
@@ -19,7 +19,7 @@ use Rattle.dfn_voltage.specs.Voltage.{voltage_of}
 use Rattle.dfn.specs.Checks.{used_neg, used_pos, used_electrolyte, step_refusal}
 use Rattle.dfn.specs.declared.DfnSolver.{DfnSolver}
 use Rattle.dfn.specs.declared.DfnStep.{DfnStep}
-use Rattle.dfn.specs.declared.DfnStepAnswer.{DfnStepAnswer}
+use Rattle.dfn.specs.Answers.{DfnStepAnswer}
 
 -- n nodes in each particle: dr = r / (n - 1)
 abbrev pub particle_params : DfnParams → Side → ℕ → Float → Float → ParticleParams
@@ -94,11 +94,9 @@ parts_finite g neg pos c_e_of r =
     && finite r.theta_pos
     && finite r.delta_c_e_max
 
--- the same as a number: by those of both electrodes, whose mean stoichiometries the report has, and by the electrolyte and the rest of the report
-abbrev pub outcome_refusal : DfnConfig → ℕ → ℕ → List Float → DfnStep → ℕ
-outcome_refusal g neg pos c_e_of r =
-    first_refusal (first_refusal neg pos)
-    (refusal_unless (all_finite c_e_of (used_electrolyte g) && finite r.voltage && finite r.current && finite r.time_s && finite r.delta_c_e_max) not_finite_of)
+-- of these, what is not tested with an electrode's particles: their mean stoichiometries are
+abbrev pub rest_finite : DfnConfig → List Float → DfnStep → Bool
+rest_finite g c_e_of r = all_finite c_e_of (used_electrolyte g) && finite r.voltage && finite r.current && finite r.time_s && finite r.delta_c_e_max
 
 unfoldable pub all_numbers : DfnSolver → DfnStep → Bool
 all_numbers d r = parts_finite d.config d.c_s_neg d.c_s_pos d.c_e r

@@ -6,8 +6,7 @@ use lib.Ieee.{Float}
 use Rattle.codec.specs.Words.{float_at, places_at}
 use Rattle.dfn_parameters.specs.declared.DfnParams.{DfnParams}
 use Rattle.dfn_parameters.specs.declared.DfnConfig.{DfnConfig}
-use Rattle.dfn.specs.declared.DfnReported.{DfnReported}
-use Rattle.dfn.specs.declared.DfnStepAnswer.{DfnStepAnswer}
+use Rattle.dfn.specs.Answers.{DfnReported, DfnStepAnswer}
 use Rattle.dfn.specs.Step.{stepped}
 use Rattle.dfn.specs.Parts.{Agrees, StepOf, cell_by, answer_of, answer_kept, answer_made}
 use Rattle.parameter_images.specs.Images.{params_at, config_at}

@@ -1,12 +1,12 @@
 -- What a step of an electrolyte or of a Doyle-Fuller-Newman cell returns, and what it leaves in its answer. Definitions only.
 use Rattle.std.specs.Prelude.{ℕ, List, Float}
 use Rattle.image_rows.specs.Written.{written}
-use Rattle.electrolyte.specs.declared.ElectrolyteAnswer.{ElectrolyteAnswer}
+use Rattle.electrolyte.specs.Answers.{ElectrolyteAnswer}
 use Rattle.electrolyte.specs.Calls as E
 use Rattle.dfn_parameters.specs.declared.DfnParams.{DfnParams}
 use Rattle.dfn_parameters.specs.declared.DfnConfig.{DfnConfig}
 use Rattle.dfn.specs.declared.DfnStep.{DfnStep}
-use Rattle.dfn.specs.declared.DfnStepAnswer.{DfnStepAnswer}
+use Rattle.dfn.specs.Answers.{DfnStepAnswer}
 use Rattle.dfn.specs.Step as D
 use Rattle.electrolyte_images.specs.Images.{electrolyte_at, put_electrolyte}
 use Rattle.dfn_images.specs.Images.{cell_at, put_cell_places, put_last, put_cell, put_report}

@@ -1,8 +1,9 @@
-// Steps of an electrolyte, steps and runs of a Doyle-Fuller-Newman cell on their images: each writes its answer's image and
-// returns 0 or the number of a refusal.
+// Steps of an electrolyte, steps and runs of a Doyle-Fuller-Newman cell on their images: each writes its answer's image or
+// is refused.
 #![tactic(auto)]
 
 ghost use Rattle.std.specs.Prelude.{◌≡◌, length};
+ghost use Rattle.refusal.specs.Refusals.{refusal_of};
 ghost use Rattle.dfn_calls.specs.Steps.{electrolyte_return, electrolyte_after, put_stepped, dfn_return, dfn_after};
 ghost use Rattle.runs.specs.Lowest.{room_of};
 ghost use Rattle.dfn_calls.specs.Runs.{galvanostatic_return, galvanostatic_rows, galvanostatic_lowest, galvanostatic_after};
@@ -11,9 +12,11 @@ use dfn::DfnStep;
 use dfn_images::{put_last, put_places};
 use dfn_parameters::{DfnConfig, DfnParams};
 use image_layout::{DFN_ANODE, DFN_CATHODE, DFN_CLOCK, DFN_ELECTROLYTE, DFN_ENDING};
-use image_rows::{fill_33, fill_512, put_ending};
+use image_rows::{put_ending, read_places};
+use refusal::Refusal;
 
 // A step of an electrolyte.
+#[tactic(auto, unfolding(crate::specs::Steps::electrolyte_return, crate::specs::Steps::electrolyte_after, image_rows::specs::Written::written))]
 pub fn electrolyte_step(
     electrolyte: &[u8],
     j_n_neg: f64,
@@ -21,19 +24,15 @@ pub fn electrolyte_step(
     dt: f64,
     temp_k: f64,
     answer: &mut [u8],
-) -> u64
-    ensures number { result ≡ electrolyte_return electrolyte.now j_n_neg j_n_pos dt temp_k }
+) -> Result<(), Refusal>
+    ensures number { refusal_of result ≡ electrolyte_return electrolyte.now j_n_neg j_n_pos dt temp_k }
     ensures written { answer.new ≡ electrolyte_after electrolyte.now j_n_neg j_n_pos dt temp_k answer.old }
 {
-    let out = electrolyte_images::electrolyte_at(electrolyte).step_concentration(
+    let new = electrolyte_images::electrolyte_at(electrolyte).step_concentration(
         j_n_neg, j_n_pos, dt, temp_k,
-    );
-    let refusal = out.refusal;
-    if refusal == 0 {
-        let new = out.state;
-        electrolyte_images::put_electrolyte(answer, new);
-    }
-    refusal
+    )?;
+    electrolyte_images::put_electrolyte(answer, new);
+    Ok(())
 }
 
 // Writes a cell by its parts after the step that r reports, and after it the report.
@@ -61,29 +60,27 @@ fn put_stepped<'a>(
 }
 
 // A step of a Doyle-Fuller-Newman cell, on its parts: the record of the cell is not built.
-pub fn dfn_step(cell: &[u8], current_a: f64, dt_s: f64, answer: &mut [u8]) -> u64
-    ensures number { result ≡ dfn_return cell.now current_a dt_s }
+pub fn dfn_step(cell: &[u8], current_a: f64, dt_s: f64, answer: &mut [u8]) -> Result<(), Refusal>
+    ensures number { refusal_of result ≡ dfn_return cell.now current_a dt_s }
     ensures written { answer.new ≡ dfn_after cell.now current_a dt_s answer.old }
 {
     let p = parameter_images::params_at(cell);
     let g = parameter_images::config_at(cell);
     let t = codec::read_f64(cell, DFN_CLOCK);
     let mut neg = [0.0; 512];
-    fill_512(cell, DFN_ANODE, &mut neg);
+    read_places(cell, DFN_ANODE, &mut neg);
     let mut pos = [0.0; 512];
-    fill_512(cell, DFN_CATHODE, &mut pos);
+    read_places(cell, DFN_CATHODE, &mut pos);
     let mut c_e = [0.0; 33];
-    fill_33(cell, DFN_ELECTROLYTE, &mut c_e);
-    let out = dfn::step_in_place(p, g, t, &mut neg, &mut pos, &mut c_e, current_a, dt_s);
-    let refusal = out.refusal;
-    if refusal == 0 {
-        let r = out.report;
-        put_stepped(answer, p, g, &neg, &pos, &c_e, r);
-    }
-    refusal
+    read_places(cell, DFN_ELECTROLYTE, &mut c_e);
+    let r = dfn::step_in_place(p, g, t, &mut neg, &mut pos, &mut c_e, current_a, dt_s)?;
+    put_stepped(answer, p, g, &neg, &pos, &c_e, r);
+    Ok(())
 }
 
 // A run of a Doyle-Fuller-Newman cell. The answer is written unless the run is refused before its first row.
+// Its end is that of `cell_calls::put_run` for another record: a trait for both is no plainer.
+#[tactic(auto, unfolding(crate::specs::Runs::galvanostatic_return, crate::specs::Runs::galvanostatic_rows, crate::specs::Runs::galvanostatic_lowest, crate::specs::Runs::galvanostatic_after))]
 pub fn run_galvanostatic(
     cell: &[u8],
     current_a: f64,
@@ -92,8 +89,8 @@ pub fn run_galvanostatic(
     rows: &mut [f64],
     lowest: &mut [f64],
     answer: &mut [u8],
-) -> u64
-    ensures number { result ≡ galvanostatic_return cell.now current_a dt_s max_time_s (room_of (length rows.old) (length lowest.old)) }
+) -> Result<(), Refusal>
+    ensures number { refusal_of result ≡ galvanostatic_return cell.now current_a dt_s max_time_s (room_of (length rows.old) (length lowest.old)) }
     ensures rows { rows.new ≡ galvanostatic_rows cell.now current_a dt_s max_time_s rows.old lowest.old }
     ensures lowest { lowest.new ≡ galvanostatic_lowest cell.now current_a dt_s max_time_s rows.old lowest.old }
     ensures written { answer.new ≡ galvanostatic_after cell.now current_a dt_s max_time_s (room_of (length rows.old) (length lowest.old)) answer.old }
@@ -107,12 +104,12 @@ pub fn run_galvanostatic(
         lowest,
     );
     let ending = run.ending;
-    let refusal = runs::ending_refusal(ending);
+    let tested = ending.check();
     let made = run.rows;
-    if (refusal == 0) | (made != 0) {
+    if tested.is_ok() | (made != 0) {
         let after = run.cell;
         dfn_images::put_cell(answer, after);
         put_ending(answer, DFN_ENDING, runs::ending_number(ending), made);
     }
-    refusal
+    tested
 }

@@ -22,7 +22,7 @@ use Rattle.dfn.specs.Checks.{Fields, used_neg, used_pos, used_electrolyte, field
 use Rattle.dfn.specs.Step.{particle_params, moved_by, report_of, cell_with, all_numbers, no_report, refused_with, answered, followed, advanced, stepped}
 use Rattle.dfn.specs.declared.DfnSolver.{DfnSolver}
 use Rattle.dfn.specs.declared.DfnStep.{DfnStep}
-use Rattle.dfn.specs.declared.DfnStepAnswer.{DfnStepAnswer}
+use Rattle.dfn.specs.Answers.{DfnStepAnswer}
 use Rattle.dfn_closure.specs.Clamped.{le_chain, clock_on}
 use Rattle.dfn_closure.specs.Tests.{unit, top, max_neg, max_pos}
 use Rattle.dfn_closure.specs.Arrays.{solid_closed, electrolyte_closed}

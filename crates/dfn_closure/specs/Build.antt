@@ -31,7 +31,7 @@ use Rattle.dfn_places.specs.Places.{solid_fits, electrolyte_fits}
 use Rattle.dfn_solid.specs.Room.{room}
 use Rattle.dfn.specs.Checks.{used_neg, used_pos, used_electrolyte, cell_refusal, grid_valid}
 use Rattle.dfn.specs.Build.{new_refusal, fresh, no_cell, made}
-use Rattle.dfn.specs.declared.DfnBuildAnswer.{DfnBuildAnswer}
+use Rattle.dfn.specs.Answers.{DfnBuildAnswer}
 use Rattle.dfn_closure.specs.Tests.{unit, top, electrolyte_most, max_neg, max_pos, theta_neg_lem, theta_pos_lem, c_e_of}
 use Rattle.dfn_closure.specs.Closure.{zero_finite, one_finite, max_finite, max_above, cell_passes}
 

@@ -8,7 +8,7 @@ use Rattle.dfn_voltage.specs.LowRates.{voltage_by_log, NoSmallArgument, voltage_
 use Rattle.dfn.specs.Checks.{step_refusal}
 use Rattle.dfn.specs.declared.DfnSolver.{DfnSolver}
 use Rattle.dfn.specs.declared.DfnStep.{DfnStep}
-use Rattle.dfn.specs.declared.DfnStepAnswer.{DfnStepAnswer}
+use Rattle.dfn.specs.Answers.{DfnStepAnswer}
 use Rattle.dfn.specs.Step.{Moved, moved_by, report_at, report_of, refused_with, followed, advanced, stepped}
 
 abbrev reported_with : DfnSolver → Moved → Float → Float → Float → DfnStep

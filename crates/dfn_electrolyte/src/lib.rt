@@ -19,6 +19,7 @@ pub struct DiffusivityParams {
 // What the nodes in one electrode work with: how many they are, their distance, dt / (eps * dx) and dt * source / eps.
 #[derive(Clone, Copy)]
 pub struct Region {
+    // A number, so that `update_electrolyte` takes what it always took.
     pub n: usize,
     pub dx: f64,
     pub rate: f64,
@@ -63,6 +64,7 @@ fn diffusivities(s: DiffusivityParams, c: &[f64; 33], n: usize) -> [f64; 33]
     ensures { result ≡ d_effs s c.now n }
 {
     let mut d = [0.0; 33];
+    // By index: `d[..n].iter_mut().zip(c)` is no plainer.
     for i in 0..n {
         d[i] = d_eff_e(s, c[i]);
     }
@@ -107,6 +109,7 @@ fn nodes(neg: Region, pos: Region, c: &[f64; 33], d: &[f64; 33]) -> [f64; 33]
 {
     let n = neg.n + 1 + pos.n;
     let mut out = *c;
+    // By index: a node is known by its number.
     for i in 0..n {
         out[i] = min_max::clamp(node(neg, pos, c, d, i), 100.0, 3000.0);
     }

@@ -11,7 +11,7 @@ use image_layout::{
     DFN_ANODE, DFN_CATHODE, DFN_CLOCK, DFN_CURRENT, DFN_CUTOFF, DFN_ELECTROLYTE, DFN_NEWTON,
     DFN_REPORT, DFN_THETA_NEG, DFN_THETA_POS, DFN_VOLTAGE,
 };
-use image_rows::{fill_33, fill_512, write_places};
+use image_rows::{read_places, write_places};
 use parameter_images::{config_at, params_at, put_config, put_params};
 
 // The cell in the first 1126 words.
@@ -34,9 +34,9 @@ pub fn cell_at(s: &[u8]) -> DfnSolver
         theta_neg_surf: codec::read_f64(s, DFN_THETA_NEG),
         theta_pos_surf: codec::read_f64(s, DFN_THETA_POS),
     };
-    fill_512(s, DFN_ANODE, &mut cell.c_s_neg);
-    fill_512(s, DFN_CATHODE, &mut cell.c_s_pos);
-    fill_33(s, DFN_ELECTROLYTE, &mut cell.c_e);
+    read_places(s, DFN_ANODE, &mut cell.c_s_neg);
+    read_places(s, DFN_CATHODE, &mut cell.c_s_pos);
+    read_places(s, DFN_ELECTROLYTE, &mut cell.c_e);
     cell
 }
 
@@ -73,6 +73,7 @@ pub fn put_last(
     write_places(s, DFN_CLOCK, &x);
 }
 
+#[tactic(auto, unfolding(crate::specs::Images::put_cell))]
 pub fn put_cell(s: &mut [u8], d: DfnSolver)
     ensures { s.new ≡ put_cell s.old d }
 {
@@ -88,6 +89,7 @@ pub fn put_cell(s: &mut [u8], d: DfnSolver)
 }
 
 // Writes a step's report after the cell.
+#[tactic(auto, unfolding(crate::specs::Images::put_report))]
 pub fn put_report(s: &mut [u8], r: DfnStep)
     ensures { s.new ≡ put_report s.old r }
 {

@@ -2,12 +2,17 @@
 // the Newton settings are left out, and a polynomial's coefficients stand in an array with their count beside it.
 #![tactic(auto)]
 
-ghost use Rattle.std.specs.Prelude.{◌≡◌, ◌≤◌};
+pub mod fit;
+
+ghost use Rattle.std.specs.Prelude.{◌≡◌, ◌≤◌, IfOk};
+ghost use Rattle.refusal.specs.Numbers.{refusal_unless, sheet};
+ghost use Rattle.refusal.specs.Refusals.{refusal_of};
 ghost use Rattle.dfn_parameters.specs.Ranges.{side_fits, numbers_fit, coefficients_fit, parameters_fit, grid_fits, limits_fit};
 ghost use Rattle.dfn_parameters.specs.Ready.{nmc_graphite, lfp_graphite};
 ghost use Rattle.dfn_parameters.specs.Sides.{anode_of, cathode_of, area_of, pore_flux, horner};
 
-use refusal::{count_within, within};
+pub use fit::FitParams;
+use refusal::{Refusal, count_within, refuse_unless, within};
 
 #[derive(Clone, Copy)]
 pub struct DfnParams {
@@ -120,39 +125,14 @@ impl DfnParams {
         ensures { result ≡ lfp_graphite }
     {
         DfnParams {
-            l_neg: 88e-6,
-            l_sep: 25e-6,
-            l_pos: 80e-6,
-            area: 1.0,
-            r_neg: 12.5e-6,
             d_s_neg_ref: 2.0e-14,
-            c_s_neg_max: 31833.0,
-            eps_neg: 0.3,
-            theta_neg_0: 0.8,
-            k_neg: 1e-5,
-            r_pos: 8.5e-6,
             d_s_pos_ref: 5.9e-18,
             c_s_pos_max: 26390.0,
-            eps_pos: 0.3,
-            theta_pos_0: 0.5,
             k_pos: 1e-6,
-            c_e0: 1200.0,
-            d_e0: 2.6e-10,
-            gamma_e: 0.5,
-            t_plus: 0.38,
-            kappa0: 1.0,
-            eps_e_elec: 0.3,
-            eps_e_sep: 0.4,
-            brugg: 1.5,
-            temperature_k: 298.15,
-            ocv_neg_count: 2,
-            ocv_neg_coeffs: [
-                -1.5, 1.2, 0.0, 0.0, 0.0, 0.0, 0.0, 0.0, 0.0, 0.0, 0.0, 0.0, 0.0, 0.0, 0.0, 0.0,
-            ],
-            ocv_pos_count: 2,
             ocv_pos_coeffs: [
                 -0.1, 3.45, 0.0, 0.0, 0.0, 0.0, 0.0, 0.0, 0.0, 0.0, 0.0, 0.0, 0.0, 0.0, 0.0, 0.0,
             ],
+            ..DfnParams::nmc_graphite()
         }
     }
 
@@ -175,17 +155,21 @@ impl DfnParams {
             & refusal::temperature_fits(self.temperature_k)
     }
 
-    // Whether every field is in its range.
-    pub fn fit(self) -> bool
-        ensures { result ≡ parameters_fit self }
+    // The set, or the refusal of one with a field out of its range.
+    pub fn check(self) -> Result<FitParams, Refusal>
+        ensures refused { refusal_of result ≡ refusal_unless (parameters_fit self) sheet }
+        ensures same { IfOk result (λ f. f.params ≡ self) }
     {
         let neg = self.ocv_neg_coeffs;
         let pos = self.ocv_pos_coeffs;
-        self.numbers_fit()
+        let fits = self.numbers_fit()
             & coefficients_fit(&neg, self.ocv_neg_count)
-            & coefficients_fit(&pos, self.ocv_pos_count)
+            & coefficients_fit(&pos, self.ocv_pos_count);
+        refuse_unless(fits, Refusal::Sheet)?;
+        Ok(FitParams { params: self })
     }
 
+    // This and `cathode` stay two: each names seven fields of its own, which are flat as the images have them.
     pub fn anode(self) -> Side
         ensures { result ≡ anode_of self }
     {
@@ -275,8 +259,8 @@ pub fn ocv(coeffs: &[f64; 16], n: usize, theta: f64) -> f64
     ensures { result ≡ horner coeffs.now theta n }
 {
     let mut acc = 0.0;
-    for i in 0..n {
-        acc = acc * theta + coeffs[i];
+    for c in &coeffs[..n] {
+        acc = acc * theta + *c;
     }
     acc
 }

@@ -10,7 +10,7 @@ use Rattle.refusal.specs.Numbers.{refusal_unless, not_finite_of}
 use Rattle.refusal.specs.Ranges.{finite}
 use Rattle.arrays.specs.Places.{at, all_finite}
 use Rattle.dfn_solid.specs.declared.ParticleParams.{ParticleParams}
-use Rattle.dfn_solid.specs.declared.SolidUpdate.{SolidUpdate}
+use Rattle.dfn_solid.specs.Answers.{SolidUpdate}
 
 abbrev half : Float
 half = «0·5»

@@ -3,27 +3,21 @@
 #![tactic(auto)]
 
 ghost use Rattle.std.specs.Prelude.{◌≡◌, ◌+◌, ◌<◌, ◌≤◌};
-ghost use Rattle.dfn_solid.specs.Solid.{d_solid, d_solids, inner_with, surface_with, centre_with, particle_with, at_least_one, solid_update};
+ghost use Rattle.dfn_solid.specs.Solid.{d_solid, d_solids, inner_with, surface_with, centre_with, particle_with, at_least_one, solid_after, solid_update};
+ghost use Rattle.dfn_solid.specs.Answers.{solid_answered};
 
-use dfn_places::solid_finite;
+use refusal::{Refusal, refuse_unless};
 
 // What the particles of one electrode work with: nodes of each, their distance, diffusivity, largest concentration, flux, interval.
 #[derive(Clone, Copy)]
 pub struct ParticleParams {
+    // A number, so that `d_s` and `update_solid` take what they always took.
     pub n: usize,
     pub dr: f64,
     pub d_ref: f64,
     pub c_max: f64,
     pub flux: f64,
     pub dt: f64,
-}
-
-// The particles after a step and the mean of their surface stoichiometries; 0, or 8 where one of these numbers is not finite.
-#[derive(Clone, Copy)]
-pub struct SolidUpdate {
-    pub refusal: u64,
-    pub c_s: [f64; 512],
-    pub theta: f64,
 }
 
 // The diffusivity at a concentration.
@@ -40,6 +34,7 @@ fn diffusivities(v: ParticleParams, c: &[f64; 512], n: usize) -> [f64; 512]
     ensures { result ≡ d_solids v c.now n }
 {
     let mut d = [0.0; 512];
+    // By index: `d[..n].iter_mut().zip(c)` is no plainer.
     for k in 0..n {
         d[k] = d_s(v, c[k]);
     }
@@ -92,6 +87,7 @@ fn move_particle(
 {
     let last = v.n - 1;
     out[base] = min_max::clamp(centre_node(v, c, d, base), 0.0, v.c_max);
+    // By index: a node's number is in its radius.
     for i in 1..last {
         out[base + i] = min_max::clamp(inner_node(v, c, d, base + i, i), 0.0, v.c_max);
     }
@@ -105,26 +101,30 @@ fn at_least_one(n: usize) -> u64
     if n == 0 { 1 } else { n as u64 }
 }
 
-// The first `count` particles after a step, each node from the old ones; the other places as they were.
-// Inlined for the stack of the calls from C (docs/DECISIONS.md, 68).
+// Puts the first `count` particles after a step into `new`, each node from the old ones, the other places as they were, and gives the mean of their surface
+// stoichiometries. Refused where one of these numbers is not finite. Lent and inlined for the stack of the calls from C (docs/DECISIONS.md, 68).
 #[inline(always)]
-pub fn update_solid(v: ParticleParams, c: &[f64; 512], count: usize) -> SolidUpdate
+pub fn update_solid(
+    v: ParticleParams,
+    c: &[f64; 512],
+    count: usize,
+    new: &mut [f64; 512],
+) -> Result<f64, Refusal>
     requires { (2 ≤ v.n) × ((v.n ≤ 32) × (count ≤ 16)) }
-    ensures { result ≡ solid_update v c.now count }
+    ensures { solid_answered new.new (solid_after v c.now count).theta result ≡ solid_update v c.now count }
 {
     let n = v.n;
-    let d = diffusivities(v, c, count * n);
-    let mut c_s = *c;
+    let used = count * n;
+    let d = diffusivities(v, c, used);
+    *new = *c;
     let mut sum = 0.0;
+    // By index: a particle starts at i * n in three arrays, whose chunks side by side are no plainer.
     for i in 0..count {
-        move_particle(v, c, &d, i * n, &mut c_s);
-        sum = sum + c_s[i * n + (n - 1)] / v.c_max;
+        move_particle(v, c, &d, i * n, new);
+        sum = sum + new[i * n + (n - 1)] / v.c_max;
     }
     let theta = sum / std::num::nearest_u64_to_f64(at_least_one(count));
-    let finite = solid_finite(&c_s, count * n) & refusal::is_finite(theta);
-    SolidUpdate {
-        refusal: refusal::refusal_unless(finite, refusal::NOT_FINITE),
-        c_s,
-        theta,
-    }
+    let finite = arrays::all_finite(new, used) & refusal::is_finite(theta);
+    refuse_unless(finite, Refusal::NotFinite)?;
+    Ok(theta)
 }

@@ -2,10 +2,10 @@
 // factor of Faraday, its signs are the Rust's.
 #![tactic(auto)]
 
-ghost use Rattle.std.specs.Prelude.{◌≡◌, ◌≤◌};
+ghost use Rattle.std.specs.Prelude.{◌≡◌};
 ghost use Rattle.dfn_voltage.specs.Voltage.{layer_of, resistance_of, exchange_of, over_of, side_of, open_of, voltage_of};
 
-use dfn_parameters::{DfnParams, Side, ocv};
+use dfn_parameters::{DfnParams, FitParams, Side, ocv};
 
 // A layer's thickness by its conductivity, at a concentration by the reference one.
 fn layer(p: DfnParams, l: f64, eps: f64, ratio: f64) -> f64
@@ -61,10 +61,10 @@ fn side_overpotential(
 }
 
 // The open-circuit voltage, with the stoichiometries held to 0.001 to 0.999.
-fn open_voltage(p: DfnParams, theta_neg: f64, theta_pos: f64) -> f64
-    requires { (p.ocv_neg_count ≤ 16) × (p.ocv_pos_count ≤ 16) }
-    ensures { result ≡ open_of p theta_neg theta_pos }
+fn open_voltage(f: FitParams, theta_neg: f64, theta_pos: f64) -> f64
+    ensures { result ≡ open_of f.params theta_neg theta_pos }
 {
+    let p = f.params;
     let neg = p.ocv_neg_coeffs;
     let pos = p.ocv_pos_coeffs;
     let u_neg = ocv(
@@ -82,17 +82,17 @@ fn open_voltage(p: DfnParams, theta_neg: f64, theta_pos: f64) -> f64
 
 // The terminal voltage from the mean stoichiometries of the surfaces and the electrolyte's concentration in the middle of the anode.
 pub fn compute_voltage(
-    p: DfnParams,
+    f: FitParams,
     theta_neg: f64,
     theta_pos: f64,
     c_e_mid: f64,
     current: f64,
 ) -> f64
-    requires { (p.ocv_neg_count ≤ 16) × (p.ocv_pos_count ≤ 16) }
-    ensures { result ≡ voltage_of p theta_neg theta_pos c_e_mid current }
+    ensures { result ≡ voltage_of f.params theta_neg theta_pos c_e_mid current }
 {
+    let p = f.params;
     let rt_f = 8.314 * p.temperature_k / 96485.0;
-    let ocv = open_voltage(p, theta_neg, theta_pos);
+    let ocv = open_voltage(f, theta_neg, theta_pos);
     let r_ion = resistance(p, c_e_mid);
     let eta_conc = 2.0
         * rt_f

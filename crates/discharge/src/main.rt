@@ -6,59 +6,58 @@
 mod help;
 
 use cell_file::Settings;
+use command_line::arguments::Said;
 use command_line::{arguments, ending};
-use setting_table::names::NONE;
+use setting_table::names::{CURRENT, DT, NONE, Place, TEMPERATURE, TIME};
 use solver::SpmSolver;
 use std::env::Env;
 use std::rt::Files;
 
-fn take(rt: &impl Env, st: Settings, i: usize, program: &[u8]) -> Settings {
+fn take(rt: &impl Env, st: Settings, i: usize, program: &[u8]) -> Result<Settings, Said> {
     let mut text = io::buffer();
-    let size = arguments::argument(rt, i, &mut text);
-    arguments::take_argument(st, i, &text[..size], program)
+    arguments::take_argument(st, i, arguments::argument(rt, i, &mut text), program)
 }
 
-// The numbers after all arguments, of which the first is at hand, or after the first that is wrong.
-fn given(rt: &(impl Env + Files), first: &[u8], program: &[u8]) -> Settings {
-    let mut st = arguments::first_settings(rt, first, program);
-    let n = arguments::argument_count(rt);
-    let mut i = arguments::first_place(first);
-    while i < n {
-        let next = take(rt, st, i, program);
-        st = next;
-        i += 1;
+// The numbers after all arguments, of which the first is at hand.
+fn given(rt: &(impl Env + Files), first: &[u8], program: &[u8]) -> Result<Settings, Said> {
+    let mut st = arguments::first_settings(rt, first, program)?;
+    for i in arguments::first_place(first)..arguments::argument_count(rt) {
+        st = take(rt, st, i, program)?;
     }
-    st
+    Ok(st)
 }
 
-fn run(v: [f64; NONE], cell: SpmSolver, named: &[u8]) {
+fn run(v: &[f64; NONE], cell: SpmSolver, named: &[u8]) {
     let mut rows = [0.0; 80000];
     let mut lowest = [0.0; 157];
-    let r = discharge_run::simulate_discharge(cell, v[0], v[1], v[2], v[3], &mut rows, &mut lowest);
-    let e = r.ending;
+    let r = discharge_run::simulate_discharge(
+        cell,
+        v[CURRENT],
+        v[DT],
+        v[TEMPERATURE],
+        v[TIME],
+        &mut rows,
+        &mut lowest,
+    );
     csv_rows::write_rows(&rows, r.rows);
     ending::write_cell(named);
-    ending::write_setting(0, v[0]);
+    ending::write_setting(Place::at(CURRENT), v[CURRENT]);
     ending::write_limits(v);
-    ending::write_ending(e);
+    ending::write_ending(r.ending);
     ending::write_count(r.rows);
 }
 
 fn main(rt: HostRuntime) {
     let mut text = io::buffer();
-    let size = arguments::argument(&rt, 1, &mut text);
-    let first = &text[..size];
+    let first = arguments::argument(&rt, 1, &mut text);
     if arguments::asks_help(first) {
         help::write_help();
         return;
     }
-    let s = given(&rt, first, b"discharge");
-    if s.fault != 0 {
+    let Ok(st) = given(&rt, first, b"discharge") else {
         return;
-    }
-    let values = s.values;
-    let built = command_line::build(&values);
-    if built.refusal == 0 {
-        run(values, built.solver, first);
+    };
+    if let Ok(cell) = command_line::build(&st.values) {
+        run(&st.values, cell, first);
     }
 }

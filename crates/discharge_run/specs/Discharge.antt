@@ -11,11 +11,11 @@ use Rattle.runs.specs.Lowest.{Room, room_of, room_fits_of, summary}
 use Rattle.solver.specs.declared.SpmSolver.{SpmSolver}
 use Rattle.solver_step.specs.declared.report.SpmState.{SpmState}
 use Rattle.solver_step.specs.Report.{no_state}
-use Rattle.solver.specs.declared.SpmStepAnswer.{SpmStepAnswer}
+use Rattle.solver.specs.Answers.{SpmStepAnswer}
 use Rattle.solver.specs.Cell.{grid_fits, cell_fits}
 use Rattle.solver.specs.Step.{stepped}
 use Rattle.discharge_run.specs.declared.RunSettings.{RunSettings}
-use Rattle.discharge_run.specs.declared.RunState.{RunState}
+use Rattle.discharge_run.specs.States.{RunState}
 use Rattle.discharge_run.specs.declared.CellRun.{CellRun}
 
 abbrev pub run_settings : Float → Float → Float → Float → RunSettings

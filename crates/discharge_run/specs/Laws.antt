@@ -7,9 +7,9 @@ use Rattle.runs.specs.Endings.{by_refusal}
 use Rattle.runs.specs.Lowest.{Room, group_count}
 use Rattle.runs.specs.LowestLaws.{room_groups}
 use Rattle.solver.specs.declared.SpmSolver.{SpmSolver}
-use Rattle.solver.specs.declared.SpmStepAnswer.{SpmStepAnswer}
+use Rattle.solver.specs.Answers.{SpmStepAnswer}
 use Rattle.discharge_run.specs.declared.RunSettings.{RunSettings}
-use Rattle.discharge_run.specs.declared.RunState.{RunState}
+use Rattle.discharge_run.specs.States.{RunState}
 use Rattle.discharge_run.specs.Discharge.{time_over, over_after, followed, turned, run_refusal}
 
 followed_rows : (w : RunSettings) (r : RunState) (t : SpmStepAnswer) (b : Bool) → eqb t.refusal 0 ≡ b → ((followed w r t).over ≡ by_refusal → ⊥) → (followed w r t).rows ≡ r.rows + 1

@@ -1,13 +1,17 @@
 // A constant-current run of the single-particle cell into a lent slice. A changed translation of src/battery/p2d/solver.rs
 // (`SpmSolver::simulate_discharge`).
-#![tactic(auto)]
+#![tactic(auto, unfolding(crate::specs::Discharge::over_after, crate::specs::Discharge::started, crate::specs::Discharge::followed, crate::specs::Discharge::turned, crate::specs::Discharge::finished_run))]
 
 ghost use Rattle.std.specs.Prelude.{◌≡◌, ◌<◌, ◌≤◌, ◌^◌, ◌*◌, length};
+ghost use Rattle.refusal.specs.Refusals.{refusal_of};
+ghost use Rattle.runs.specs.Endings.{over_number};
 ghost use Rattle.runs.specs.Lowest.{group_count, summary, room_of};
+ghost use Rattle.discharge_run.specs.States.{state_of};
 ghost use Rattle.discharge_run.specs.Discharge.{time_over, over_after, started, turned, row_of, run_outcome, finished_run, all_turns, all_rows, run_refusal, discharged, discharged_rows, discharged_lowest, run_settings};
 
+use refusal::{Refusal, interval_fits, is_finite, load_fits, refuse_unless, temperature_fits};
 use runs::lowest::{room_fits, update_lowest};
-use runs::{Ending, GOING, REFUSED, TIME, VOLTAGE, ending_of, put_row};
+use runs::{Ending, put_row};
 use solver::SpmSolver;
 use solver_step::report::SpmState;
 
@@ -20,14 +24,13 @@ pub struct RunSettings {
     pub max_time_s: f64,
 }
 
-// A run on its way: the cell, the run's own clock, the rows so far, what has ended it, a refusal's number, the last report.
+// A run on its way: the cell, the run's own clock, the rows so far, what has ended it, full where nothing has, the last report.
 #[derive(Clone, Copy)]
 pub struct RunState {
     pub solver: SpmSolver,
     pub clock: f64,
     pub rows: usize,
-    pub over: u64,
-    pub refusal: u64,
+    pub ending: Ending,
     pub state: SpmState,
 }
 
@@ -47,62 +50,51 @@ fn time_over(w: RunSettings, clock: f64) -> bool
 }
 
 // What ends the run after a row: the voltage, then the time.
-fn over_after(w: RunSettings, cutoff: bool, clock: f64) -> u64
-    ensures { result ≡ over_after w cutoff clock }
+fn ending_after(w: RunSettings, cutoff: bool, clock: f64) -> Ending
+    ensures { over_number result ≡ over_after w cutoff clock }
 {
     if cutoff {
-        return VOLTAGE;
+        return Ending::Voltage;
     }
     if time_over(w, clock) {
-        return TIME;
+        return Ending::Time;
     }
-    GOING
+    Ending::Full
 }
 
 // The run before its first step.
 fn start(w: RunSettings, s: SpmSolver) -> RunState
-    ensures { result ≡ started w s }
+    ensures { state_of result ≡ started w s }
 {
-    let over = over_after(w, false, 0.0);
-    let state = solver_step::report::no_state();
     RunState {
         solver: s,
         clock: 0.0,
         rows: 0,
-        over,
-        refusal: 0,
-        state,
+        ending: ending_after(w, false, 0.0),
+        state: solver_step::report::no_state(),
     }
 }
 
 // One turn of a run that goes on.
 fn turn(w: RunSettings, s: RunState) -> RunState
     requires { s.rows < 2 ^ 61 }
-    ensures { result ≡ turned w s }
+    ensures { state_of result ≡ turned w (state_of s) }
 {
-    let t = s.solver.step(w.current_a, w.dt, w.temp_k);
-    let cell = t.solver;
-    let state = t.state;
-    if t.refusal != 0 {
-        let last = s.state;
-        return RunState {
-            solver: cell,
-            clock: s.clock,
-            rows: s.rows,
-            over: REFUSED,
-            refusal: t.refusal,
-            state: last,
-        };
-    }
-    let clock = s.clock + w.dt;
-    let over = over_after(w, state.cutoff, clock);
-    RunState {
-        solver: cell,
-        clock,
-        rows: s.rows + 1,
-        over,
-        refusal: 0,
-        state,
+    match s.solver.step(w.current_a, w.dt, w.temp_k) {
+        Ok(t) => {
+            let clock = s.clock + w.dt;
+            RunState {
+                solver: t.solver,
+                clock,
+                rows: s.rows + 1,
+                ending: ending_after(w, t.state.cutoff, clock),
+                state: t.state,
+            }
+        }
+        Err(e) => RunState {
+            ending: Ending::Refused(e),
+            ..s
+        },
     }
 }
 
@@ -110,10 +102,6 @@ fn turn(w: RunSettings, s: RunState) -> RunState
 pub fn row_of(s: SpmState) -> [f64; 8]
     ensures { result ≡ row_of s }
 {
-    let mut cutoff = 0.0;
-    if s.cutoff {
-        cutoff = 1.0;
-    }
     [
         s.voltage,
         s.current,
@@ -122,44 +110,38 @@ pub fn row_of(s: SpmState) -> [f64; 8]
         s.theta_neg_avg,
         s.theta_pos_avg,
         s.time_s,
-        cutoff,
+        f64::from(s.cutoff),
     ]
 }
 
 // What a run that has stopped gives.
+// Each kind of run has its own: a trait for the three fields is no plainer.
 fn finished(s: RunState) -> CellRun
-    ensures { run_outcome result ≡ finished_run s }
+    ensures { run_outcome result ≡ finished_run (state_of s) }
 {
-    let cell = s.solver;
     CellRun {
-        ending: ending_of(s.over, s.refusal),
+        ending: s.ending,
         rows: s.rows,
-        solver: cell,
+        solver: s.solver,
     }
 }
 
-// The number that refuses the whole run: 1, 10, 2, 3, 4, 5.
-fn run_refusal(w: RunSettings, s: SpmSolver, rows: usize, lowest: usize) -> u64
-    ensures { result ≡ run_refusal w s (room_of rows lowest) }
+// What refuses the whole run: 1, 10, 2, 3, 4, 5.
+#[tactic(auto, unfolding(refusal::specs::Numbers::refusal_unless, refusal::specs::Numbers::first_refusal, solver::specs::Cell::cell_refusal, crate::specs::Discharge::run_refusal))]
+fn check_run(w: RunSettings, s: SpmSolver, rows: usize, lowest: usize) -> Result<(), Refusal>
+    ensures { refusal_of result ≡ run_refusal w s (room_of rows lowest) }
 {
-    let grid = refusal::refusal_unless(s.grid_fits(), refusal::GRID);
-    let length = refusal::refusal_unless(room_fits(rows, lowest), refusal::LENGTH);
-    let cell = s.refusal();
-    let load = refusal::refusal_unless(refusal::load_fits(w.current_a, 1e6), refusal::LOAD);
-    let times = refusal::interval_fits(w.dt) & refusal::is_finite(w.max_time_s);
-    let interval = refusal::refusal_unless(times, refusal::INTERVAL);
-    let temperature = refusal::refusal_unless(
-        refusal::temperature_fits(w.temp_k),
-        refusal::TEMPERATURE,
-    );
-    let late = refusal::first_refusal(load, refusal::first_refusal(interval, temperature));
-    refusal::first_refusal(
-        grid,
-        refusal::first_refusal(length, refusal::first_refusal(cell, late)),
-    )
+    refuse_unless(s.grid_fits(), Refusal::Grid)?;
+    refuse_unless(room_fits(rows, lowest), Refusal::Length)?;
+    s.check()?;
+    refuse_unless(load_fits(w.current_a, 1e6), Refusal::Load)?;
+    let times = interval_fits(w.dt) & is_finite(w.max_time_s);
+    refuse_unless(times, Refusal::Interval)?;
+    refuse_unless(temperature_fits(w.temp_k), Refusal::Temperature)
 }
 
 // At most `total` turns of a run, each step with its row and the lowest voltage of its group.
+// A loop of its own, and not `runs::turns::run_turns`: the paper has the summary updated as each row is written.
 fn run_rows(
     w: RunSettings,
     first: RunState,
@@ -168,25 +150,23 @@ fn run_rows(
     total: usize,
 ) -> CellRun
     requires { (first.rows ≡ 0) × ((total < 2 ^ 61) × ((total * 8 ≤ length out.old) × (group_count total ≤ length lowest.old))) }
-    ensures result { run_outcome result ≡ all_turns w first total }
-    ensures rows { out.new ≡ all_rows w first total out.old }
-    ensures lowest { lowest.new ≡ summary (all_turns w first total).rows (all_rows w first total out.old) lowest.old }
+    ensures result { run_outcome result ≡ all_turns w (state_of first) total }
+    ensures rows { out.new ≡ all_rows w (state_of first) total out.old }
+    ensures lowest { lowest.new ≡ summary (all_turns w (state_of first) total).rows (all_rows w (state_of first) total out.old) lowest.old }
 {
     let mut run = first;
-    if run.over != GOING {
+    if !run.ending.goes_on() {
         return finished(run);
     }
-    let mut i = 0;
-    while i < total {
+    for i in 0..total {
         run = turn(w, run);
-        if run.over == REFUSED {
+        if run.ending.is_refused() {
             return finished(run);
         }
         let row = row_of(run.state);
         put_row(out, i * 8, row);
         update_lowest(lowest, i, row[0]);
-        i += 1;
-        if run.over != GOING {
+        if !run.ending.goes_on() {
             return finished(run);
         }
     }
@@ -215,10 +195,9 @@ pub fn simulate_discharge(
         temp_k,
         max_time_s,
     };
-    let number = run_refusal(w, s, out.len(), lowest.len());
-    if number != 0 {
+    if let Err(e) = check_run(w, s, out.len(), lowest.len()) {
         return CellRun {
-            ending: Ending::Refused(number),
+            ending: Ending::Refused(e),
             rows: 0,
             solver: s,
         };

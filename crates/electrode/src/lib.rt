@@ -1,20 +1,21 @@
 // The electrode sheet: a chemistry and ten numbers, and what is worked out from them.
 // A changed translation of src/battery/p2d/electrode.rs (without its particle).
-#![tactic(auto)]
+#![tactic(auto, unfolding(crate::specs::Numbers::sheet_of, crate::specs::Sheet::graphite_anode, crate::specs::Sheet::lfp_cathode, crate::specs::Sheet::nmc_cathode, crate::specs::Sheet::diffusivity_at, crate::specs::Sheet::specific_area, crate::specs::Curves::open_circuit, crate::specs::Curves::open_circuit_slope, crate::specs::Calls::sheet_refusal, crate::specs::Calls::theta_refusal, crate::specs::Calls::d_s_of, crate::specs::Calls::specific_area_call, crate::specs::Calls::ocp_call, crate::specs::Calls::slope_call, crate::specs::Calls::volume_call, refusal::specs::Numbers::refusal_unless, refusal::specs::Numbers::first_refusal, refusal::specs::Answers::outcome))]
 
 ghost use Rattle.std.specs.Prelude.{◌≡◌};
-ghost use Rattle.refusal.specs.Numbers.{refusal_unless, sheet};
 ghost use Rattle.refusal.specs.Answers.{outcome_of};
 ghost use Rattle.electrode.specs.Numbers.{sheet_of, sheet_numbers};
 ghost use Rattle.electrode.specs.Sheet.{chemistry_fits, sheet_fits, graphite_anode, lfp_cathode, nmc_cathode, diffusivity_at, specific_area};
 ghost use Rattle.electrode.specs.Curves.{open_circuit, open_circuit_slope};
 ghost use Rattle.electrode.specs.Calls.{d_s_of, specific_area_call, ocp_call, slope_call, volume_call};
 
-use refusal::within;
+use refusal::{
+    Refusal, answered, finite_or_refused, is_finite, refuse_unless, temperature_fits, within,
+};
 
 #[derive(Clone, Copy)]
 pub struct ElectrodeParams {
-    // The chemistry: 1 graphite, 2 LFP, 3 NMC.
+    // The chemistry: 1 graphite, 2 LFP, 3 NMC. A number, as in C: an unknown one is refused with the sheet.
     pub electrode_type: u64,
     // Particle radius, m.
     pub r_particle: f64,
@@ -38,20 +39,16 @@ pub struct ElectrodeParams {
     pub t_ref: f64,
 }
 
-// The chemistry by its number: 0 where it is known, and every other number falls to refusal 2.
-fn chemistry_refusal(electrode_type: u64) -> u64
-    ensures { result ≡ refusal_unless (chemistry_fits electrode_type) sheet }
+// Whether a chemistry has the number.
+fn is_chemistry(electrode_type: u64) -> bool
+    ensures { result ≡ chemistry_fits electrode_type }
 {
-    match electrode_type {
-        1 => 0,
-        2 => 0,
-        3 => 0,
-        _ => refusal::SHEET,
-    }
+    matches!(electrode_type, 1..=3)
 }
 
 impl ElectrodeParams {
     // Graphite anode of a cell of about 3 Ah.
+    // The three ready sheets stay three: docs/REFERENCE.md names each, with its numbers.
     pub fn graphite_anode() -> ElectrodeParams
         ensures { result ≡ graphite_anode }
     {
@@ -108,7 +105,7 @@ impl ElectrodeParams {
         }
     }
 
-    // The sheet of a chemistry and ten numbers, in the order of the record.
+    // The sheet of a chemistry and ten numbers, in the order of the record. No `From`: it would take the two as a pair without names.
     pub fn of_numbers(electrode_type: u64, x: &[f64; 10]) -> ElectrodeParams
         ensures { result ≡ sheet_of electrode_type x.now }
     {
@@ -149,7 +146,7 @@ impl ElectrodeParams {
     pub fn fits(self) -> bool
         ensures { result ≡ sheet_fits self }
     {
-        (chemistry_refusal(self.electrode_type) == 0)
+        is_chemistry(self.electrode_type)
             & within(self.r_particle, 1e-8, 1e-3)
             & within(self.d_s_ref, 1e-20, 1e-8)
             & within(self.c_s_max, 1.0, 131072.0)
@@ -191,52 +188,45 @@ impl ElectrodeParams {
     }
 
     // The diffusivity corrected for the temperature, m^2/s.
-    pub fn d_s(self, temp_k: f64) -> refusal::Answer
+    pub fn d_s(self, temp_k: f64) -> Result<f64, Refusal>
         ensures { outcome_of result ≡ d_s_of self temp_k }
     {
-        let unfit = refusal::refusal_unless(self.fits(), refusal::SHEET);
-        let out = refusal::refusal_unless(refusal::temperature_fits(temp_k), refusal::TEMPERATURE);
-        refusal::answered(
-            refusal::first_refusal(unfit, out),
-            self.diffusivity_at(temp_k),
-        )
+        refuse_unless(self.fits(), Refusal::Sheet)?;
+        refuse_unless(temperature_fits(temp_k), Refusal::Temperature)?;
+        finite_or_refused(self.diffusivity_at(temp_k))
     }
 
     // Interfacial area of a volume of electrode, 1/m.
-    pub fn specific_area(self) -> refusal::Answer
+    pub fn specific_area(self) -> Result<f64, Refusal>
         ensures { outcome_of result ≡ specific_area_call self }
     {
-        let unfit = refusal::refusal_unless(self.fits(), refusal::SHEET);
-        refusal::answered(unfit, self.area_per_volume())
+        answered(
+            refuse_unless(self.fits(), Refusal::Sheet),
+            self.area_per_volume(),
+        )
     }
 
     // Open-circuit potential at a stoichiometry, V.
-    pub fn ocp(self, theta: f64) -> refusal::Answer
+    pub fn ocp(self, theta: f64) -> Result<f64, Refusal>
         ensures { outcome_of result ≡ ocp_call self theta }
     {
-        let unfit = refusal::refusal_unless(
-            self.fits() & refusal::is_finite(theta),
-            refusal::SHEET,
-        );
-        refusal::answered(unfit, self.open_circuit(theta))
+        refuse_unless(self.fits() & is_finite(theta), Refusal::Sheet)?;
+        finite_or_refused(self.open_circuit(theta))
     }
 
     // Slope of the open-circuit potential, V.
-    pub fn docp_dtheta(self, theta: f64) -> refusal::Answer
+    pub fn docp_dtheta(self, theta: f64) -> Result<f64, Refusal>
         ensures { outcome_of result ≡ slope_call self theta }
     {
-        let unfit = refusal::refusal_unless(
-            self.fits() & refusal::is_finite(theta),
-            refusal::SHEET,
-        );
-        refusal::answered(unfit, self.open_circuit_slope(theta))
+        refuse_unless(self.fits() & is_finite(theta), Refusal::Sheet)?;
+        finite_or_refused(self.open_circuit_slope(theta))
     }
 }
 
 // Volume of a sphere of a particle's radius, m^3.
-pub fn sphere_volume(r: f64) -> refusal::Answer
+pub fn sphere_volume(r: f64) -> Result<f64, Refusal>
     ensures { outcome_of result ≡ volume_call r }
 {
-    let unfit = refusal::refusal_unless(within(r, 1e-8, 1e-3), refusal::SHEET);
-    refusal::answered(unfit, 4.0 / 3.0 * 3.141592653589793 * r * r * r)
+    refuse_unless(within(r, 1e-8, 1e-3), Refusal::Sheet)?;
+    finite_or_refused(4.0 / 3.0 * 3.141592653589793 * r * r * r)
 }

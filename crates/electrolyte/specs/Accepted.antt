@@ -1,6 +1,7 @@
 -- What a call that nothing refuses has met. Assumes nothing.
-use Rattle.std.specs.Prelude.{◌≡◌, ℕ, ◌+◌, ◌≤◌, ◌&&◌, T, Float}
-use Rattle.std.proofs.Common.{arith}
+use Rattle.std.specs.Prelude.{◌≡◌, ℕ, zero, suc, ◌+◌, ◌≤◌, ◌&&◌, cond, T, [], ◌∷◌, ◌==◌, get_or, refl, Float, Ok}
+use Rattle.std.proofs.Common.{ap, arith}
+use Rattle.std.proofs.Math.Dec.{eqb-suc-zero}
 use Rattle.std.specs.Float.Ieee.Fits.{and_l, and_r}
 use Rattle.refusal.specs.Numbers.{neither_refused, passed, grid, sheet}
 use Rattle.refusal.specs.Ranges.{count_in_range}
@@ -9,7 +10,8 @@ use Rattle.electrolyte.specs.declared.ElectrolyteState.{ElectrolyteState}
 use Rattle.electrolyte_parameters.specs.Params.{params_fit}
 use Rattle.electrolyte_profile.specs.Places.{profile_fits}
 use Rattle.electrolyte.specs.State.{total, counts_fit, regions_fit}
-use Rattle.electrolyte.specs.Calls.{build_refusal, state_refusal, step_refusal}
+use Rattle.electrolyte.specs.Answers.{Counted, counted}
+use Rattle.electrolyte.specs.Calls.{build_refusal, state_refusal, n_total_of, step_refusal}
 
 -- three counts of at most 32 are at most 96 together
 at_most : (a b c : ℕ) → T (count_in_range a 1 32 && count_in_range b 1 32 && count_in_range c 1 32) → a + b + c ≤ 96
@@ -49,3 +51,12 @@ module _ (e : ElectrolyteState) where
 
   pub step_total : (j_neg j_pos dt t : Float) → step_refusal e j_neg j_pos dt t ≡ 0 → total e ≤ 96
   step_total j_neg j_pos dt t h = state_total (step_state j_neg j_pos dt t h)
+
+  -- a count that is answered
+  pub counted_total : (n : ℕ) → counted (Ok n) ≡ n_total_of e → (state_refusal e ≡ 0) × (n ≡ total e)
+  unfolding n_total_of
+  counted_total n h = by_refusal (state_refusal e) h
+    where
+      by_refusal : (r : ℕ) → counted (Ok n) ≡ cond (r == 0) (record { refusal = 0; values = total e ∷ [] }) (record { refusal = r; values = [] }) → (r ≡ 0) × (n ≡ total e)
+      by_refusal zero k = (refl, ap (λ (c : Counted). get_or c.values 0 0) k)
+      by_refusal (suc r) k = absurd (omega (arith, rw eqb-suc-zero at (ap (λ (c : Counted). c.refusal) k)))

@@ -20,7 +20,7 @@ use Rattle.electrolyte_profile.specs.Step.{profile_new}
 use Rattle.electrolyte_profile.specs.Again.{uniform_fits}
 use Rattle.electrolyte_profile.proofs.Again.{profile_again}
 use Rattle.electrolyte.specs.declared.ElectrolyteState.{ElectrolyteState}
-use Rattle.electrolyte.specs.declared.ElectrolyteAnswer.{ElectrolyteAnswer}
+use Rattle.electrolyte.specs.Answers.{ElectrolyteAnswer}
 use Rattle.electrolyte.specs.State.{total, no_state, with_profile, step_params}
 use Rattle.electrolyte.specs.Calls.{build_refusal, state_refusal, step_refusal, answer, built, accepted, stepped}
 use Rattle.electrolyte.specs.Accepted.{build_total, build_params, state_build, state_profile, state_total, step_state}

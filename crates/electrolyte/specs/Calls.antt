@@ -4,9 +4,7 @@ use Rattle.refusal.specs.Numbers.{first_refusal, refusal_unless, grid, sheet, lo
 use Rattle.refusal.specs.Ranges.{load_fits_of, interval_fits, temperature_fits}
 use Rattle.refusal.specs.Answers.{Outcome, finite_outcome}
 use Rattle.electrolyte.specs.declared.ElectrolyteState.{ElectrolyteState}
-use Rattle.electrolyte.specs.declared.ElectrolyteAnswer.{ElectrolyteAnswer}
-use Rattle.electrolyte.specs.declared.Count.{Count}
-use Rattle.electrolyte.specs.declared.Count.TheVariants.{Value, Refused}
+use Rattle.electrolyte.specs.Answers.{ElectrolyteAnswer, Counted}
 use Rattle.electrolyte_parameters.specs.Params.{params_fit}
 use Rattle.arrays.specs.Places.{all_finite, filled}
 use Rattle.electrolyte_profile.specs.Places.{profile_fits}
@@ -31,16 +29,6 @@ unfoldable pub built : ElectrolyteState → ElectrolyteAnswer
 built e = cond (build_refusal e == 0) (answer 0 (with_profile e (filled 96 e.params.c_e_init (total e)))) (answer (build_refusal e) no_state)
 
 -- ---- whole numbers
--- what a call that gives a whole number says: the number of the refusal and no value, or 0 and the value
-pub record Counted : Type 0 where
-  pub refusal : ℕ
-  pub values : List ℕ
-
--- each case of the enum
-abbrev pub counted : Count → Counted
-counted (Value n) = record { refusal = 0; values = n ∷ [] }
-counted (Refused k) = record { refusal = k; values = [] }
-
 unfoldable pub n_total_of : ElectrolyteState → Counted
 n_total_of e = cond (state_refusal e == 0) (record { refusal = 0; values = total e ∷ [] }) (record { refusal = state_refusal e; values = [] })
 

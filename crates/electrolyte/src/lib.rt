@@ -5,15 +5,16 @@
 ghost use Rattle.std.specs.Prelude.{◌≡◌, ◌≤◌};
 ghost use Rattle.binary64.specs.Operators.{◌⊘◌, count};
 ghost use Rattle.refusal.specs.Answers.{outcome_of};
-ghost use Rattle.electrolyte.specs.State.{total, counts_fit, regions_fit, unfilled, no_state, with_profile, average_of, least_of, stable_interval, region_of, step_params};
-ghost use Rattle.electrolyte.specs.Calls.{counted, build_refusal, state_refusal, built, n_total_of, c_avg_of, step_refusal, stepped, dt_stable};
+ghost use Rattle.refusal.specs.Refusals.{refusal_of};
+ghost use Rattle.electrolyte.specs.State.{total, counts_fit, regions_fit, unfilled, no_state, with_profile, least_of, stable_interval, region_of, step_params};
+ghost use Rattle.electrolyte.specs.Answers.{electrolyte_answered, counted};
+ghost use Rattle.electrolyte.specs.Calls.{build_refusal, built, n_total_of, c_avg_of, step_refusal, stepped, dt_stable};
 
 use electrolyte_parameters::ElectrolyteParams;
-use electrolyte_profile::{
-    ElectrolyteStepParams, Region, advanced, all_finite, profile_fits, sum, uniform,
-};
-use refusal::{count_within, within};
+use electrolyte_profile::{ElectrolyteStepParams, Region, advanced, profile_fits, sum};
+use refusal::{Refusal, count_within, finite_or_refused, refuse_unless, within};
 
+// The fields are those of docs/REFERENCE.md, so the numbers of a region stand one by one.
 // A profile over the three regions, by value: the first n_neg + n_sep + n_pos places of c_e are used, the others +0.
 #[derive(Clone, Copy)]
 pub struct ElectrolyteState {
@@ -34,20 +35,6 @@ pub struct ElectrolyteState {
     pub c_e: [f64; 96],
 }
 
-// A refusal's number, 0 for none, and the state: the new one; of a refused step the one given, of a refused build all zeros.
-#[derive(Clone, Copy)]
-pub struct ElectrolyteAnswer {
-    pub refusal: u64,
-    pub state: ElectrolyteState,
-}
-
-// What a call that gives a whole number answers.
-#[derive(Clone, Copy)]
-pub enum Count {
-    Value(usize),
-    Refused(u64),
-}
-
 // x over a number of nodes.
 fn per_node(x: f64, n: usize) -> f64
     ensures { result ≡ x ⊘ count n }
@@ -63,6 +50,7 @@ fn least(a: f64, b: f64, c: f64) -> f64
 }
 
 // What a step works with in a region of the length l with n nodes.
+#[tactic(auto, unfolding(crate::specs::State::region_of))]
 fn region(p: ElectrolyteParams, eps: f64, l: f64, n: usize, src: f64, temp_k: f64) -> Region
     ensures { result ≡ region_of p eps l n src temp_k }
 {
@@ -71,36 +59,6 @@ fn region(p: ElectrolyteParams, eps: f64, l: f64, n: usize, src: f64, temp_k: f6
         dx: per_node(l, n),
         d_eff: p.diffusivity_eff(eps, temp_k),
         src,
-    }
-}
-
-// What a refused build gives: every number +0.
-fn no_state() -> ElectrolyteState
-    ensures { result ≡ no_state }
-{
-    let c_e = [0.0; 96];
-    let params = ElectrolyteParams {
-        d_e_ref: 0.0,
-        kappa_ref: 0.0,
-        t_plus: 0.0,
-        bruggeman: 0.0,
-        c_e_init: 0.0,
-        e_a_de: 0.0,
-        e_a_kappa: 0.0,
-        t_ref: 0.0,
-    };
-    ElectrolyteState {
-        params,
-        l_neg: 0.0,
-        l_sep: 0.0,
-        l_pos: 0.0,
-        eps_neg: 0.0,
-        eps_sep: 0.0,
-        eps_pos: 0.0,
-        n_neg: 0,
-        n_sep: 0,
-        n_pos: 0,
-        c_e,
     }
 }
 
@@ -126,16 +84,13 @@ impl ElectrolyteState {
             & within(self.eps_pos, 0.01, 1.0)
     }
 
-    // The number that a build meets: the counts, then the other fields.
-    fn build_refusal(self) -> u64
-        ensures { result ≡ build_refusal self }
+    // Refuses a build: for the counts, then for the other fields.
+    #[tactic(auto, unfolding(crate::specs::Calls::build_refusal, refusal::specs::Numbers::refusal_unless, refusal::specs::Numbers::first_refusal))]
+    fn check_build(self) -> Result<(), Refusal>
+        ensures { refusal_of result ≡ build_refusal self }
     {
-        let params = self.params;
-        let grid = refusal::refusal_unless(self.counts_fit(), refusal::GRID);
-        refusal::first_refusal(
-            grid,
-            refusal::refusal_unless(params.fits() & self.regions_fit(), refusal::SHEET),
-        )
+        refuse_unless(self.counts_fit(), Refusal::Grid)?;
+        refuse_unless(self.params.fits() & self.regions_fit(), Refusal::Sheet)
     }
 
     // How many places are used.
@@ -146,47 +101,20 @@ impl ElectrolyteState {
         self.n_neg + self.n_sep + self.n_pos
     }
 
-    // The number that a state handed in meets: those of a build, then its profile.
-    fn refusal(self) -> u64
-        ensures { result ≡ state_refusal self }
+    // Refuses a step before it is made: for the state, then for the arguments.
+    #[tactic(auto, unfolding(crate::specs::Calls::step_refusal, crate::specs::Calls::n_total_of, refusal::specs::Numbers::refusal_unless, refusal::specs::Numbers::first_refusal))]
+    fn check_step(self, j_n_neg: f64, j_n_pos: f64, dt: f64, temp_k: f64) -> Result<(), Refusal>
+        ensures { refusal_of result ≡ step_refusal self j_n_neg j_n_pos dt temp_k }
     {
-        let unfit = self.build_refusal();
-        if unfit != 0 {
-            return unfit;
-        }
-        let c = self.c_e;
-        refusal::refusal_unless(profile_fits(c, self.nodes()), refusal::SHEET)
-    }
-
-    // The number that a step meets before it is made.
-    fn step_refusal(self, j_n_neg: f64, j_n_pos: f64, dt: f64, temp_k: f64) -> u64
-        ensures { result ≡ step_refusal self j_n_neg j_n_pos dt temp_k }
-    {
+        self.n_total()?;
         let sources = refusal::load_fits(j_n_neg, 1e9) & refusal::load_fits(j_n_pos, 1e9);
-        let load = refusal::refusal_unless(sources, refusal::LOAD);
-        let interval = refusal::refusal_unless(refusal::interval_fits(dt), refusal::INTERVAL);
-        let temperature = refusal::refusal_unless(
-            refusal::temperature_fits(temp_k),
-            refusal::TEMPERATURE,
-        );
-        let unfit = self.refusal();
-        refusal::first_refusal(
-            unfit,
-            refusal::first_refusal(load, refusal::first_refusal(interval, temperature)),
-        )
-    }
-
-    // The mean over the nodes.
-    fn average(self) -> f64
-        requires { total self ≤ 96 }
-        ensures { result ≡ average_of self }
-    {
-        let c = self.c_e;
-        let n = self.nodes();
-        per_node(sum(c, n), n)
+        refuse_unless(sources, Refusal::Load)?;
+        refuse_unless(refusal::interval_fits(dt), Refusal::Interval)?;
+        refuse_unless(refusal::temperature_fits(temp_k), Refusal::Temperature)
     }
 
     // What a step works with. The effective diffusivities are worked out here, once.
+    #[tactic(auto, unfolding(crate::specs::State::step_params))]
     fn step_params(self, j_n_neg: f64, j_n_pos: f64, dt: f64, temp_k: f64) -> ElectrolyteStepParams
         requires { total self ≤ 96 }
         ensures { result ≡ step_params self j_n_neg j_n_pos dt temp_k }
@@ -225,23 +153,11 @@ impl ElectrolyteState {
     fn with_profile(self, c_e: [f64; 96]) -> ElectrolyteState
         ensures { result ≡ with_profile self c_e }
     {
-        let params = self.params;
-        ElectrolyteState {
-            params,
-            l_neg: self.l_neg,
-            l_sep: self.l_sep,
-            l_pos: self.l_pos,
-            eps_neg: self.eps_neg,
-            eps_sep: self.eps_sep,
-            eps_pos: self.eps_pos,
-            n_neg: self.n_neg,
-            n_sep: self.n_sep,
-            n_pos: self.n_pos,
-            c_e,
-        }
+        ElectrolyteState { c_e, ..self }
     }
 
     // The largest stable interval of the explicit step, by the least porosity and the least width.
+    #[tactic(auto, unfolding(crate::specs::State::stable_interval))]
     fn stable_interval(self, temp_k: f64) -> f64
         ensures { result ≡ stable_interval self temp_k }
     {
@@ -256,6 +172,7 @@ impl ElectrolyteState {
     }
 
     // A state with the concentration c_e_init at every node.
+    #[tactic(auto, unfolding(crate::specs::Calls::built))]
     pub fn new(
         params: ElectrolyteParams,
         l_neg: f64,
@@ -267,10 +184,9 @@ impl ElectrolyteState {
         n_neg: usize,
         n_sep: usize,
         n_pos: usize,
-    ) -> ElectrolyteAnswer
-        ensures { result ≡ built (unfilled params l_neg l_sep l_pos eps_neg eps_sep eps_pos n_neg n_sep n_pos) }
+    ) -> Result<ElectrolyteState, Refusal>
+        ensures { electrolyte_answered no_state result ≡ built (unfilled params l_neg l_sep l_pos eps_neg eps_sep eps_pos n_neg n_sep n_pos) }
     {
-        let c_e = [0.0; 96];
         let given = ElectrolyteState {
             params,
             l_neg,
@@ -282,84 +198,58 @@ impl ElectrolyteState {
             n_neg,
             n_sep,
             n_pos,
-            c_e,
+            c_e: [0.0; 96],
         };
-        let refusal = given.build_refusal();
-        if refusal != 0 {
-            return ElectrolyteAnswer {
-                refusal,
-                state: no_state(),
-            };
-        }
-        let filled = uniform(params.c_e_init, given.nodes());
-        ElectrolyteAnswer {
-            refusal: 0,
-            state: given.with_profile(filled),
-        }
+        given.check_build()?;
+        let c_e = arrays::uniform::<96>(params.c_e_init, given.nodes());
+        Ok(given.with_profile(c_e))
     }
 
-    // How many nodes there are.
-    pub fn n_total(self) -> Count
+    // How many nodes there are: what a state that passes its checks answers.
+    #[tactic(auto, unfolding(crate::specs::Calls::n_total_of, crate::specs::Calls::state_refusal, refusal::specs::Numbers::refusal_unless, refusal::specs::Numbers::first_refusal))]
+    pub fn n_total(self) -> Result<usize, Refusal>
         ensures { counted result ≡ n_total_of self }
     {
-        let refusal = self.refusal();
-        if refusal != 0 {
-            return Count::Refused(refusal);
-        }
-        Count::Value(self.nodes())
+        self.check_build()?;
+        let n = self.nodes();
+        refuse_unless(profile_fits(&self.c_e, n), Refusal::Sheet)?;
+        Ok(n)
     }
 
     // The mean concentration, mol/m^3.
-    pub fn c_avg(self) -> refusal::Answer
+    #[tactic(auto, unfolding(crate::specs::Calls::c_avg_of, crate::specs::State::average_of, crate::specs::Calls::n_total_of, refusal::specs::Answers::outcome, refusal::specs::Numbers::refusal_unless, refusal::specs::Numbers::first_refusal))]
+    pub fn c_avg(self) -> Result<f64, Refusal>
         ensures { outcome_of result ≡ c_avg_of self }
     {
-        let refusal = self.refusal();
-        if refusal != 0 {
-            return refusal::Answer::Refused(refusal);
-        }
-        refusal::answered(refusal, self.average())
+        let n = self.n_total()?;
+        finite_or_refused(per_node(sum(&self.c_e, n), n))
     }
 
     // The state after one explicit step of dt seconds. j_n_neg and j_n_pos are the reactions in anode and cathode, mol/(m^3 s).
     // WARNING: salt is not conserved where two regions meet, and what would fall below 1e-10 becomes 1e-10.
+    #[tactic(auto, unfolding(crate::specs::Calls::stepped, crate::specs::Calls::accepted, refusal::specs::Numbers::refusal_unless, refusal::specs::Numbers::first_refusal))]
     pub fn step_concentration(
         self,
         j_n_neg: f64,
         j_n_pos: f64,
         dt: f64,
         temp_k: f64,
-    ) -> ElectrolyteAnswer
-        ensures { result ≡ stepped self j_n_neg j_n_pos dt temp_k }
+    ) -> Result<ElectrolyteState, Refusal>
+        ensures { electrolyte_answered self result ≡ stepped self j_n_neg j_n_pos dt temp_k }
     {
-        let refusal = self.step_refusal(j_n_neg, j_n_pos, dt, temp_k);
-        if refusal != 0 {
-            return ElectrolyteAnswer {
-                refusal,
-                state: self,
-            };
-        }
-        let old = self.c_e;
-        let new = advanced(self.step_params(j_n_neg, j_n_pos, dt, temp_k), old);
-        if !all_finite(new) {
-            return ElectrolyteAnswer {
-                refusal: refusal::NOT_FINITE,
-                state: self,
-            };
-        }
-        ElectrolyteAnswer {
-            refusal: 0,
-            state: self.with_profile(new),
-        }
+        self.check_step(j_n_neg, j_n_pos, dt, temp_k)?;
+        let new = advanced(self.step_params(j_n_neg, j_n_pos, dt, temp_k), &self.c_e);
+        refuse_unless(arrays::all_finite(&new, 96), Refusal::NotFinite)?;
+        Ok(self.with_profile(new))
     }
 
     // The largest stable interval, s. WARNING: too long where porosities differ.
-    pub fn dt_stable(self, temp_k: f64) -> refusal::Answer
+    #[tactic(auto, unfolding(crate::specs::Calls::dt_stable, crate::specs::Calls::n_total_of, refusal::specs::Answers::outcome, refusal::specs::Numbers::refusal_unless, refusal::specs::Numbers::first_refusal))]
+    pub fn dt_stable(self, temp_k: f64) -> Result<f64, Refusal>
         ensures { outcome_of result ≡ dt_stable self temp_k }
     {
-        let out = refusal::refusal_unless(refusal::temperature_fits(temp_k), refusal::TEMPERATURE);
-        refusal::answered(
-            refusal::first_refusal(self.refusal(), out),
-            self.stable_interval(temp_k),
-        )
+        self.n_total()?;
+        refuse_unless(refusal::temperature_fits(temp_k), Refusal::Temperature)?;
+        finite_or_refused(self.stable_interval(temp_k))
     }
 }

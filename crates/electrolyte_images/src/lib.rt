@@ -14,6 +14,7 @@ use image_layout::{
 use image_rows::{read_places, write_places};
 
 // The electrolyte's parameters in the first eight words.
+#[tactic(auto, unfolding(crate::specs::Images::electrolyte_params_at, iterate::specs::Iterate::first_by))]
 pub fn electrolyte_params_at(s: &[u8]) -> ElectrolyteParams
     ensures { result ≡ electrolyte_params_at s.now }
 {
@@ -31,6 +32,7 @@ pub fn electrolyte_params_at(s: &[u8]) -> ElectrolyteParams
     }
 }
 
+#[tactic(auto, unfolding(crate::specs::Images::put_electrolyte_params))]
 pub fn put_electrolyte_params(s: &mut [u8], p: ElectrolyteParams)
     ensures { s.new ≡ put_electrolyte_params s.old p }
 {
@@ -48,6 +50,7 @@ pub fn put_electrolyte_params(s: &mut [u8], p: ElectrolyteParams)
 }
 
 // The electrolyte in the first 113 words.
+#[tactic(auto, unfolding(crate::specs::Images::electrolyte_at, iterate::specs::Iterate::first_by))]
 pub fn electrolyte_at(s: &[u8]) -> ElectrolyteState
     ensures { result ≡ electrolyte_at s.now }
 {
@@ -72,6 +75,7 @@ pub fn electrolyte_at(s: &[u8]) -> ElectrolyteState
 }
 
 // Writes the lengths and porosities of the three regions, then their counts of nodes.
+#[tactic(auto, unfolding(crate::specs::Images::put_regions))]
 fn put_regions(s: &mut [u8], x: [f64; 6], n_neg: usize, n_sep: usize, n_pos: usize)
     ensures { s.new ≡ put_regions s.old x n_neg n_sep n_pos }
 {
@@ -81,6 +85,7 @@ fn put_regions(s: &mut [u8], x: [f64; 6], n_neg: usize, n_sep: usize, n_pos: usi
     write_word(s, ELECTROLYTE_NODES_POS, n_pos as u64);
 }
 
+#[tactic(auto, unfolding(crate::specs::Images::put_electrolyte))]
 pub fn put_electrolyte(s: &mut [u8], e: ElectrolyteState)
     ensures { s.new ≡ put_electrolyte s.old e }
 {

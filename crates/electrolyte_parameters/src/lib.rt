@@ -1,13 +1,14 @@
 // The electrolyte's eight numbers and the rates that are worked out from them. A changed translation of src/battery/p2d/electrolyte.rs
 // (`ElectrolyteParams`).
-#![tactic(auto)]
+#![tactic(auto, unfolding(crate::specs::Params::lipf6_ec_dmc, crate::specs::Params::at_temperature, crate::specs::Params::diffusivity_eff, crate::specs::Params::conductivity_eff, crate::specs::Calls::rate_refusal, crate::specs::Calls::d_e_of, crate::specs::Calls::kappa_call, crate::specs::Calls::d_e_eff_of, crate::specs::Calls::kappa_eff_of, refusal::specs::Numbers::refusal_unless, refusal::specs::Numbers::first_refusal, refusal::specs::Answers::outcome))]
 
 ghost use Rattle.std.specs.Prelude.{◌≡◌};
 ghost use Rattle.refusal.specs.Answers.{outcome_of};
+ghost use Rattle.refusal.specs.Refusals.{refusal_of};
 ghost use Rattle.electrolyte_parameters.specs.Params.{params_fit, lipf6_ec_dmc, at_temperature, diffusivity_eff, conductivity_eff};
 ghost use Rattle.electrolyte_parameters.specs.Calls.{rate_refusal, d_e_of, kappa_call, d_e_eff_of, kappa_eff_of};
 
-use refusal::within;
+use refusal::{Refusal, finite_or_refused, refuse_unless, temperature_fits, within};
 
 #[derive(Clone, Copy)]
 pub struct ElectrolyteParams {
@@ -36,13 +37,12 @@ fn at_temperature(at_ref: f64, e_a: f64, t_ref: f64, temp_k: f64) -> f64
     at_ref * elementary::arrhenius(e_a, t_ref, temp_k)
 }
 
-// The number that a rate meets: 2 where the numbers that it is worked out from do not fit, then 5.
-fn rate_refusal(fits: bool, temp_k: f64) -> u64
-    ensures { result ≡ rate_refusal fits temp_k }
+// Refuses a rate: by 2 where the numbers that it is worked out from do not fit, then by 5.
+fn check_rate(fits: bool, temp_k: f64) -> Result<(), Refusal>
+    ensures { refusal_of result ≡ rate_refusal fits temp_k }
 {
-    let unfit = refusal::refusal_unless(fits, refusal::SHEET);
-    let out = refusal::refusal_unless(refusal::temperature_fits(temp_k), refusal::TEMPERATURE);
-    refusal::first_refusal(unfit, out)
+    refuse_unless(fits, Refusal::Sheet)?;
+    refuse_unless(temperature_fits(temp_k), Refusal::Temperature)
 }
 
 impl ElectrolyteParams {
@@ -76,6 +76,7 @@ impl ElectrolyteParams {
             & within(self.t_ref, 200.0, 400.0)
     }
 
+    // The rates of diffusion and conduction read different fields, and docs/REFERENCE.md names each: so each is a method.
     // The diffusivity in a medium of that porosity.
     pub fn diffusivity_eff(self, porosity: f64, temp_k: f64) -> f64
         ensures { result ≡ diffusivity_eff self porosity temp_k }
@@ -93,44 +94,34 @@ impl ElectrolyteParams {
     }
 
     // The diffusivity corrected for the temperature, m^2/s.
-    pub fn d_e(self, temp_k: f64) -> refusal::Answer
+    pub fn d_e(self, temp_k: f64) -> Result<f64, Refusal>
         ensures { outcome_of result ≡ d_e_of self temp_k }
     {
-        refusal::answered(
-            rate_refusal(self.fits(), temp_k),
-            at_temperature(self.d_e_ref, self.e_a_de, self.t_ref, temp_k),
-        )
+        check_rate(self.fits(), temp_k)?;
+        finite_or_refused(at_temperature(self.d_e_ref, self.e_a_de, self.t_ref, temp_k))
     }
 
     // The conductivity corrected for the temperature, S/m.
-    pub fn kappa(self, temp_k: f64) -> refusal::Answer
+    pub fn kappa(self, temp_k: f64) -> Result<f64, Refusal>
         ensures { outcome_of result ≡ kappa_call self temp_k }
     {
-        refusal::answered(
-            rate_refusal(self.fits(), temp_k),
-            at_temperature(self.kappa_ref, self.e_a_kappa, self.t_ref, temp_k),
-        )
+        check_rate(self.fits(), temp_k)?;
+        finite_or_refused(at_temperature(self.kappa_ref, self.e_a_kappa, self.t_ref, temp_k))
     }
 
     // The effective diffusivity in a porous medium, m^2/s.
-    pub fn d_e_eff(self, porosity: f64, temp_k: f64) -> refusal::Answer
+    pub fn d_e_eff(self, porosity: f64, temp_k: f64) -> Result<f64, Refusal>
         ensures { outcome_of result ≡ d_e_eff_of self porosity temp_k }
     {
-        let fits = self.fits() & within(porosity, 0.01, 1.0);
-        refusal::answered(
-            rate_refusal(fits, temp_k),
-            self.diffusivity_eff(porosity, temp_k),
-        )
+        check_rate(self.fits() & within(porosity, 0.01, 1.0), temp_k)?;
+        finite_or_refused(self.diffusivity_eff(porosity, temp_k))
     }
 
     // The effective conductivity in a porous medium, S/m.
-    pub fn kappa_eff(self, porosity: f64, temp_k: f64) -> refusal::Answer
+    pub fn kappa_eff(self, porosity: f64, temp_k: f64) -> Result<f64, Refusal>
         ensures { outcome_of result ≡ kappa_eff_of self porosity temp_k }
     {
-        let fits = self.fits() & within(porosity, 0.01, 1.0);
-        refusal::answered(
-            rate_refusal(fits, temp_k),
-            self.conductivity_eff(porosity, temp_k),
-        )
+        check_rate(self.fits() & within(porosity, 0.01, 1.0), temp_k)?;
+        finite_or_refused(self.conductivity_eff(porosity, temp_k))
     }
 }

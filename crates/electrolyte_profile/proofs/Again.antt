@@ -1,18 +1,15 @@
 -- A profile that fits, after a step whose every place is finite, fits again; a uniform one fits. Assumes nothing.
-use Rattle.std.specs.Prelude.{ℕ, ◌≤◌, ◌<◌, ◌≡◌, refl, Bool, true, false, cond, List, T, Float}
+use Rattle.std.specs.Prelude.{ℕ, ◌≤◌, ◌<◌, ◌≡◌, List, T, Float}
 use Rattle.std.proofs.Common.{le_trans}
-use Rattle.std.specs.Float.Ieee.{nan, le, lt, is_nan, of_bits}
-use Rattle.std.specs.Float.{inf, fin}
+use Rattle.std.specs.Float.Ieee.{nan, le}
 use Rattle.std.specs.Float.Ieee.Fits.{and_i}
-use Rattle.binary64.specs.Order.{not→lt}
-use Rattle.min_max.specs.MinMax.{max_of}
 use Rattle.refusal.specs.Ranges.{finite}
 use Rattle.iterate.specs.Iterate.{first_below, first_above, all_at}
-use Rattle.arrays.specs.Places.{at, all_finite, places_fit, filled}
-use Rattle.arrays.specs.Laws.{place_unused, places_long, places_fit_lem, filled_fits}
+use Rattle.arrays.specs.Places.{at, all_finite, places_fit}
+use Rattle.arrays.specs.Laws.{place_unused, places_long, places_fit_lem}
 use Rattle.electrolyte_profile.specs.declared.ElectrolyteStepParams.{ElectrolyteStepParams}
 use Rattle.electrolyte_profile.specs.Places.{floor, above_floor, profile_fits}
-use Rattle.electrolyte_profile.specs.Step.{node_from, node_new, profile_new}
+use Rattle.electrolyte_profile.specs.Step.{node_new, profile_new}
 use Rattle.electrolyte_profile.specs.Again.{node_floor}
 
 -- ---- the profile after a step

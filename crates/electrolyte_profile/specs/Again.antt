@@ -5,7 +5,7 @@ use Rattle.std.specs.Float.{inf, fin}
 use Rattle.binary64.specs.Order.{not→lt}
 use Rattle.min_max.specs.MinMax.{max_of}
 use Rattle.refusal.specs.Ranges.{finite}
-use Rattle.arrays.specs.Places.{at, filled}
+use Rattle.arrays.specs.Places.{filled}
 use Rattle.arrays.specs.Laws.{filled_fits}
 use Rattle.electrolyte_profile.specs.declared.ElectrolyteStepParams.{ElectrolyteStepParams}
 use Rattle.electrolyte_profile.specs.Places.{floor, above_floor, profile_fits}

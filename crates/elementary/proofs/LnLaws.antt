@@ -1,4 +1,4 @@
--- What `ln` and its parts meet their contracts by: the series, the exponent as a float, and the two branches. Assumes nothing.
+-- What `ln` and its parts meet their contracts by: the series and the two branches. Assumes nothing.
 use mathlib.Core.Path.{◌≡◌, sym, ap, ◌∙◌}
 use mathlib.Core.Bool.{Bool, true, false, cond}
 use Prim.Native.Nat.{ℕ, zero, suc, ◌+◌, ◌-◌, ◌*◌, ◌≤◌, ◌<◌}
@@ -6,9 +6,8 @@ use native.Mathlib.Nat.{lt_irrefl, lt_of_not-le}
 use native.Mathlib.Decide.{dec_le}
 use native.Mathlib.Omega.{arith}
 use lib.IntN.{ℤ, pos, negsuc}
-use lib.Ieee.{Float, binary64, minus, round, le, neg, of_int}
+use lib.Ieee.{Float, binary64, minus, le, of_int}
 use Rattle.binary64.specs.Operators.{◌⊕◌, ◌⊖◌, ◌⊗◌, ◌⊘◌, count}
-use Rattle.binary64.specs.Sign.{round_neg}
 use Rattle.elementary.specs.Exp.{one}
 use Rattle.elementary.specs.Ln.{two, ln2, terms, ln_parts, raise, ln_split, three_halves, twenty_three}
 use Rattle.min_max.proofs.Format.{minus_up, minus_down}
@@ -26,16 +25,6 @@ terms_step (suc j) q a h = let e : suc j - 1 ≡ j = omega arith in ap (λ (i : 
 pub parts_is : (m k s : Float) → s ≡ (m ⊖ one) ⊘ (m ⊕ one) → (k ⊗ ln2) ⊕ ((two ⊗ s) ⊗ terms 11 (s ⊗ s) (one ⊘ twenty_three)) ≡ ln_parts m k
 unfolding ln_parts
 parts_is m k s e = ap (λ (z : Float). (k ⊗ ln2) ⊕ ((two ⊗ z) ⊗ terms 11 (z ⊗ z) (one ⊘ twenty_three))) e
-
--- ---- the exponent as a float
-pub exponent_up : (w : ℕ) → 1074 ≤ w → of_int binary64 (pos (w - 1074)) ≡ of_int binary64 (minus w 1074)
-exponent_up w h = ap (of_int binary64) (sym (minus_up w 1074 h))
-
-pub exponent_down : (w : ℕ) → w < 1074 → neg (of_int binary64 (pos (1074 - w))) ≡ of_int binary64 (minus w 1074)
-unfolding of_int
-exponent_down w h =
-    let e : 1074 - w ≡ suc (1074 - suc w) = omega arith in
-    sym (round_neg binary64 (1074 - w) 1) ∙ ap (λ (n : ℕ). round binary64 true n 1) e ∙ ap (of_int binary64) (sym (minus_down w 1074 h))
 
 -- ---- the difference of two exponents
 pub minus_same : (a b c d : ℕ) → a + d ≡ c + b → minus a b ≡ minus c d

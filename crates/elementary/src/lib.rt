@@ -1,6 +1,6 @@
 // The elementary functions of the cell models, each with a result for every f64. They stand in for the library's, to
 // the last bit: each operation rounds once, in the order of the definitions in specs/. The square root and what does
-// not round have crates of their own, square_root and choice.
+// not round have crates of their own, square_root and min_max.
 #![tactic(auto)]
 
 ghost use Rattle.std.specs.Prelude.{◌≡◌, ◌≤◌};
@@ -17,11 +17,9 @@ ghost use Rattle.elementary.specs.Power.{powf_of, square_of, cube_of, fourth_of}
 fn exp_series(y: f64) -> f64
     ensures { result ≡ series 18 y one }
 {
-    let mut a: f64 = 1.0;
-    let mut k: u32 = 18;
-    while k > 0 {
+    let mut a = 1.0;
+    for k in (1..=18u32).rev() {
         a = 1.0 + (a * y) / (k as f64);
-        k -= 1;
     }
     a
 }
@@ -37,14 +35,12 @@ struct Bracket {
 fn last_terms(y: f64, terms: u32) -> Bracket
     ensures { result ≡ last_terms terms y }
 {
-    let mut low: f64 = 0.75;
-    let mut high: f64 = 1.25;
-    let mut k = terms;
-    while k > 0 {
+    let mut low = 0.75;
+    let mut high = 1.25;
+    for k in (1..=terms).rev() {
         let d = k as f64;
         low = 1.0 + (low * y) / d;
         high = 1.0 + (high * y) / d;
-        k -= 1;
     }
     Bracket { low, high }
 }
@@ -83,10 +79,8 @@ fn exp_squarings(a: f64) -> f64
     ensures { result ≡ squarings 10 a }
 {
     let mut p = a;
-    let mut n: u32 = 10;
-    while n > 0 {
+    for _ in 0..10u32 {
         p = p * p;
-        n -= 1;
     }
     p
 }
@@ -100,7 +94,7 @@ pub fn exp(t: f64) -> f64
         return 1.0;
     }
     if t > 709.0 {
-        return f64::from_bits(0x7ff0_0000_0000_0000);
+        return f64::INFINITY;
     }
     if t < -708.0 {
         return 0.0;
@@ -120,10 +114,7 @@ fn exponent(w: u64) -> f64
     requires { w ≤ 2098 }
     ensures { result ≡ of_int binary64 (minus w 1074) }
 {
-    if w >= 1074 {
-        return (w - 1074) as f64;
-    }
-    -((1074 - w) as f64)
+    (w as i64 - 1074) as f64
 }
 
 // The logarithm of m * 2 ^ k, for an m near 1.
@@ -133,42 +124,34 @@ fn ln_parts(m: f64, k: f64) -> f64
     let s = (m - 1.0) / (m + 1.0);
     let q = s * s;
     let mut a = 1.0 / 23.0;
-    let mut j: u32 = 11;
-    while j > 0 {
-        a = 1.0 / ((2 * (j - 1) + 1) as f64) + q * a;
-        j -= 1;
+    for j in (0..11u32).rev() {
+        a = 1.0 / ((2 * j + 1) as f64) + q * a;
     }
-    k * f64::from_bits(0x3FE6_2E42_FEFA_39EF) + (2.0 * s) * a
+    k * std::f64::consts::LN_2 + (2.0 * s) * a
 }
 
 // L, the natural logarithm of x: of a zero -infinity, below zero a NaN.
 pub fn ln(x: f64) -> f64
     ensures { result ≡ ln_of x }
 {
-    if x != x {
+    if x.is_nan() {
         return x;
     }
-    let b = f64::to_bits(x);
+    if x == 0.0 {
+        return f64::NEG_INFINITY;
+    }
+    let b = x.to_bits();
     if b >= 0x8000_0000_0000_0000 {
-        if b == 0x8000_0000_0000_0000 {
-            return f64::from_bits(0xfff0_0000_0000_0000);
-        }
-        let z: f64 = 0.0;
-        return z / z;
+        return f64::NAN;
     }
-    if b == 0 {
-        return f64::from_bits(0xfff0_0000_0000_0000);
-    }
-    if b >= 0x7ff0_0000_0000_0000 {
+    let Some(p) = square_root::parts_of(b) else {
         return x;
-    }
-    let p = square_root::parts_of(b);
-    let w = p.w;
+    };
     let m = f64::from_bits(0x3fe0_0000_0000_0000 + p.c);
     if m >= 1.5 {
-        return ln_parts(m / 2.0, exponent(w + 1));
+        return ln_parts(m / 2.0, exponent(p.w + 1));
     }
-    ln_parts(m, exponent(w))
+    ln_parts(m, exponent(p.w))
 }
 
 // H, the inverse hyperbolic sine of x. Below 2 ^ -10 in size by two terms of the Taylor series: the logarithm's form would lose the last places of x.

@@ -14,13 +14,12 @@ fn main() {
         r_gas: 8.314,
         r_electrolyte_ohm_m2: 2e-4,
     };
-    let built = SpmSolver::graphite_nmc(config);
-    if built.refusal == 0 {
+    if let Ok(cell) = SpmSolver::graphite_nmc(config) {
         // at most 10,000 rows of eight numbers, in groups of 64; a row each 10 s for an hour, at 298.15 K
         let mut rows = [0.0; 80000];
         let mut lowest = [0.0; 157];
         let r = discharge_run::simulate_discharge(
-            built.solver,
+            cell,
             5.0,
             10.0,
             298.15,

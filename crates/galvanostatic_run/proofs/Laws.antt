@@ -1,9 +1,9 @@
 -- A turn that is refused writes no row. Assumes nothing.
 use Rattle.std.specs.Prelude.{◌≡◌, refl, Bool, true, false, eqb}
 use Rattle.runs.specs.Endings.{by_refusal}
-use Rattle.dfn.specs.declared.DfnStepAnswer.{DfnStepAnswer}
+use Rattle.dfn.specs.Answers.{DfnStepAnswer}
 use Rattle.galvanostatic_run.specs.declared.RunSettings.{RunSettings}
-use Rattle.galvanostatic_run.specs.declared.RunState.{RunState}
+use Rattle.galvanostatic_run.specs.States.{RunState}
 use Rattle.galvanostatic_run.specs.Galvanostatic.{followed, turned}
 use Rattle.galvanostatic_run.specs.Laws.{row_not_refused}
 

@@ -13,9 +13,9 @@ use Rattle.dfn.specs.Checks.{step_refusal}
 use Rattle.dfn.specs.Step.{stepped}
 use Rattle.dfn.specs.declared.DfnSolver.{DfnSolver}
 use Rattle.dfn.specs.declared.DfnStep.{DfnStep}
-use Rattle.dfn.specs.declared.DfnStepAnswer.{DfnStepAnswer}
+use Rattle.dfn.specs.Answers.{DfnStepAnswer}
 use Rattle.galvanostatic_run.specs.declared.RunSettings.{RunSettings}
-use Rattle.galvanostatic_run.specs.declared.RunState.{RunState}
+use Rattle.galvanostatic_run.specs.States.{RunState}
 use Rattle.galvanostatic_run.specs.declared.DfnRun.{DfnRun}
 use Rattle.binary64.specs.Literals.{«0·0»}
 

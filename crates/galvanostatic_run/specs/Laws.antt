@@ -9,9 +9,9 @@ use Rattle.runs.specs.Lowest.{Room, group_count}
 use Rattle.runs.specs.LowestLaws.{room_groups}
 use Rattle.dfn.specs.declared.DfnSolver.{DfnSolver}
 use Rattle.dfn.specs.declared.DfnStep.{DfnStep}
-use Rattle.dfn.specs.declared.DfnStepAnswer.{DfnStepAnswer}
+use Rattle.dfn.specs.Answers.{DfnStepAnswer}
 use Rattle.galvanostatic_run.specs.declared.RunSettings.{RunSettings}
-use Rattle.galvanostatic_run.specs.declared.RunState.{RunState}
+use Rattle.galvanostatic_run.specs.States.{RunState}
 use Rattle.galvanostatic_run.specs.Galvanostatic.{over_after, followed, turned, run_refusal}
 
 followed_rows : (w : RunSettings) (r : RunState) (t : DfnStepAnswer) (b : Bool) → eqb t.refusal 0 ≡ b → ((followed w r t).over ≡ by_refusal → ⊥) → (followed w r t).rows ≡ r.rows + 1

@@ -1,14 +1,18 @@
 // A run of the Doyle-Fuller-Newman cell at one current, with a row of eight places for each step in a lent slice. A changed translation of
 // src/battery/p2d/dfn.rs (`run_galvanostatic`).
-#![tactic(auto)]
+#![tactic(auto, unfolding(crate::specs::Galvanostatic::over_after, crate::specs::Galvanostatic::started, crate::specs::Galvanostatic::followed, crate::specs::Galvanostatic::turned))]
 
 ghost use Rattle.std.specs.Prelude.{◌≡◌, ◌*◌, ◌^◌, ◌≤◌, ◌<◌, length};
+ghost use Rattle.refusal.specs.Refusals.{refusal_of};
+ghost use Rattle.runs.specs.Endings.{over_number, going_on_of};
 ghost use Rattle.runs.specs.Lowest.{group_count, summary, room_of};
-ghost use Rattle.galvanostatic_run.specs.Galvanostatic.{over_after, flag_of, row_of, turned, started, run_outcome, finished_run, all_turns, all_rows, run_refusal, galvanostatic, galvanostatic_rows, galvanostatic_lowest};
+ghost use Rattle.galvanostatic_run.specs.States.{state_of};
+ghost use Rattle.galvanostatic_run.specs.Galvanostatic.{over_after, row_of, turned, started, run_outcome, finished_run, all_turns, all_rows, run_refusal, galvanostatic, galvanostatic_rows, galvanostatic_lowest};
 
 use dfn::{DfnSolver, DfnStep};
+use refusal::{Refusal, is_finite, refuse_unless};
 use runs::lowest::{room_fits, update_lowest};
-use runs::{Ending, GOING, REFUSED, TIME, VOLTAGE, ending_of, put_row};
+use runs::{Ending, put_row};
 
 // The current, A, the interval and the time limit, s.
 #[derive(Clone, Copy)]
@@ -18,14 +22,13 @@ pub struct RunSettings {
     pub limit: f64,
 }
 
-// A run on its way: the cell, the last row, how many rows there are; 0 while it goes on, else the number of its ending, and a refusal's number.
+// A run on its way: the cell, the last row, how many rows there are, what has ended it, full where nothing has.
 #[derive(Clone, Copy)]
 pub struct RunState {
     pub cell: DfnSolver,
     pub row: [f64; 8],
     pub rows: usize,
-    pub over: u64,
-    pub refusal: u64,
+    pub ending: Ending,
 }
 
 // What a run answers: how it ended, how many rows it wrote, and the cell after them.
@@ -36,24 +39,17 @@ pub struct DfnRun {
     pub cell: DfnSolver,
 }
 
-// The number of the ending that holds after a step: voltage, then time; 0 for none.
-fn over_after(limit: f64, r: DfnStep) -> u64
-    ensures { result ≡ over_after limit r }
+// The ending that holds after a step: voltage, then time, else full.
+fn ending_after(limit: f64, r: DfnStep) -> Ending
+    ensures { over_number result ≡ over_after limit r }
 {
     if r.cutoff {
-        return VOLTAGE;
+        return Ending::Voltage;
     }
     if r.time_s >= limit {
-        return TIME;
+        return Ending::Time;
     }
-    GOING
-}
-
-// 1 for yes, +0 for no.
-fn flag(b: bool) -> f64
-    ensures { result ≡ flag_of b }
-{
-    if b { 1.0 } else { 0.0 }
+    Ending::Full
 }
 
 // The row of a step. The last place is the report's newton_iter, always 1.
@@ -67,69 +63,56 @@ fn row_of(r: DfnStep) -> [f64; 8]
         r.theta_neg,
         r.theta_pos,
         r.delta_c_e_max,
-        flag(r.cutoff),
+        f64::from(r.cutoff),
         1.0,
     ]
 }
 
 // One turn of a run that is not over.
-fn turn(w: RunSettings, s: RunState) -> RunState
-    requires { s.rows < 2 ^ 61 }
-    ensures { result ≡ turned w s }
+// In place, for the stack of a run from C (docs/DECISIONS.md, 68).
+fn turn(w: RunSettings, run: &mut RunState)
+    requires { run.old.rows < 2 ^ 61 }
+    ensures { state_of run.new ≡ turned w (state_of run.old) }
 {
-    let old = s.cell;
-    let a = old.step(w.current, w.dt);
-    let cell = a.cell;
-    if a.refusal != 0 {
-        let row = s.row;
-        return RunState {
-            cell,
-            row,
-            rows: s.rows,
-            over: REFUSED,
-            refusal: a.refusal,
-        };
-    }
-    let report = a.report;
-    let row = row_of(report);
-    RunState {
-        cell,
-        row,
-        rows: s.rows + 1,
-        over: over_after(w.limit, report),
-        refusal: 0,
+    match run.cell.step(w.current, w.dt) {
+        Ok(t) => {
+            run.cell = t.cell;
+            run.row = row_of(t.report);
+            run.rows += 1;
+            run.ending = ending_after(w.limit, t.report);
+        }
+        Err(e) => run.ending = Ending::Refused(e),
     }
 }
 
 // The run before its first step.
-// This and `finished` are inlined and `run_refusal` is not for the stack of a run from C (docs/DECISIONS.md, 68).
+// This and `finished` are inlined and `check_run` is not for the stack of a run from C (docs/DECISIONS.md, 68).
 #[inline(always)]
 fn start(cell: DfnSolver) -> RunState
-    ensures { result ≡ started cell }
+    ensures { state_of result ≡ started cell }
 {
     RunState {
         cell,
         row: [0.0; 8],
         rows: 0,
-        over: GOING,
-        refusal: 0,
+        ending: Ending::Full,
     }
 }
 
 // What a run that has stopped answers.
 #[inline(always)]
 fn finished(s: RunState) -> DfnRun
-    ensures { run_outcome result ≡ finished_run s }
+    ensures { run_outcome result ≡ finished_run (state_of s) }
 {
-    let cell = s.cell;
     DfnRun {
-        ending: ending_of(s.over, s.refusal),
+        ending: s.ending,
         rows: s.rows,
-        cell,
+        cell: s.cell,
     }
 }
 
 // At most `total` turns of a run, each step with its row and the lowest voltage of its group.
+// A loop of its own, and not `runs::turns::run_turns`: the paper has the summary updated as each row is written.
 fn run_rows(
     w: RunSettings,
     first: RunState,
@@ -137,43 +120,36 @@ fn run_rows(
     lowest: &mut [f64],
     total: usize,
 ) -> DfnRun
-    requires { (first.over ≡ 0) × ((first.rows ≡ 0) × ((total < 2 ^ 61) × ((total * 8 ≤ length out.old) × (group_count total ≤ length lowest.old)))) }
-    ensures answer { run_outcome result ≡ all_turns w first total }
-    ensures rows { out.new ≡ all_rows w first total out.old }
-    ensures lowest { lowest.new ≡ summary (all_turns w first total).rows (all_rows w first total out.old) lowest.old }
+    requires { (over_number first.ending ≡ going_on_of) × ((first.rows ≡ 0) × ((total < 2 ^ 61) × ((total * 8 ≤ length out.old) × (group_count total ≤ length lowest.old)))) }
+    ensures answer { run_outcome result ≡ all_turns w (state_of first) total }
+    ensures rows { out.new ≡ all_rows w (state_of first) total out.old }
+    ensures lowest { lowest.new ≡ summary (all_turns w (state_of first) total).rows (all_rows w (state_of first) total out.old) lowest.old }
 {
     let mut run = first;
-    let mut i = 0;
-    while i < total {
-        run = turn(w, run);
-        if run.over == REFUSED {
+    for i in 0..total {
+        turn(w, &mut run);
+        if run.ending.is_refused() {
             return finished(run);
         }
-        let row = run.row;
-        put_row(out, i * 8, row);
-        update_lowest(lowest, i, row[0]);
-        i += 1;
-        if run.over != GOING {
+        put_row(out, i * 8, run.row);
+        update_lowest(lowest, i, run.row[0]);
+        if !run.ending.goes_on() {
             return finished(run);
         }
     }
     finished(run)
 }
 
-// The number of the table that refuses the whole run: 1, 10, 2, 3, 4.
+// What refuses the whole run: 1, 10, 2, 3, 4.
 #[inline(never)]
-fn run_refusal(cell: DfnSolver, w: RunSettings, rows: usize, lowest: usize) -> u64
-    ensures { result ≡ run_refusal cell w (room_of rows lowest) }
+#[tactic(auto, unfolding(refusal::specs::Numbers::refusal_unless, refusal::specs::Numbers::first_refusal, crate::specs::Galvanostatic::run_refusal))]
+fn check_run(cell: DfnSolver, w: RunSettings, rows: usize, lowest: usize) -> Result<(), Refusal>
+    ensures { refusal_of result ≡ run_refusal cell w (room_of rows lowest) }
 {
-    let config = cell.config;
-    let grid = refusal::refusal_unless(config.grid_fits(), refusal::GRID);
-    let short = refusal::refusal_unless(room_fits(rows, lowest), refusal::LENGTH);
-    let limit = refusal::refusal_unless(refusal::is_finite(w.limit), refusal::INTERVAL);
-    let step = cell.step_refusal(w.current, w.dt);
-    refusal::first_refusal(
-        grid,
-        refusal::first_refusal(short, refusal::first_refusal(step, limit)),
-    )
+    refuse_unless(cell.config.grid_fits(), Refusal::Grid)?;
+    refuse_unless(room_fits(rows, lowest), Refusal::Length)?;
+    cell.check_step(w.current, w.dt)?;
+    refuse_unless(is_finite(w.limit), Refusal::Interval)
 }
 
 // Runs the cell at a current, A, by intervals of dt_s, until a voltage outside the limits, the cell's clock at max_time_s, or the end of the rows. `lowest` is
@@ -196,10 +172,9 @@ pub fn run_galvanostatic(
         dt: dt_s,
         limit: max_time_s,
     };
-    let number = run_refusal(cell, w, rows.len(), lowest.len());
-    if number != 0 {
+    if let Err(e) = check_run(cell, w, rows.len(), lowest.len()) {
         return DfnRun {
-            ending: Ending::Refused(number),
+            ending: Ending::Refused(e),
             rows: 0,
             cell,
         };

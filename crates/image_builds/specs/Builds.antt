@@ -3,17 +3,17 @@ use Rattle.std.specs.Prelude.{ℕ, ◌+◌, cond, List, eqb, leb}
 use Rattle.codec.specs.Words.{word_at, float_at}
 use Rattle.electrode.specs.declared.ElectrodeParams.{ElectrodeParams}
 use Rattle.electrode.specs.Sheet.{graphite_anode, lfp_cathode, nmc_cathode}
-use Rattle.particle.specs.declared.ParticleAnswer.{ParticleAnswer}
+use Rattle.particle.specs.Answers.{ParticleAnswer}
 use Rattle.particle.specs.Calls as P
-use Rattle.solver.specs.declared.SpmBuildAnswer.{SpmBuildAnswer}
+use Rattle.solver.specs.Answers.{SpmBuildAnswer}
 use Rattle.solver.specs.Cell as S
-use Rattle.electrolyte.specs.declared.ElectrolyteAnswer.{ElectrolyteAnswer}
+use Rattle.electrolyte.specs.Answers.{ElectrolyteAnswer}
 use Rattle.electrolyte_parameters.specs.Params.{lipf6_ec_dmc}
 use Rattle.electrolyte.specs.State.{unfilled}
 use Rattle.electrolyte.specs.Calls as E
 use Rattle.dfn_parameters.specs.declared.DfnParams.{DfnParams}
 use Rattle.dfn_parameters.specs.Ready.{nmc_graphite, lfp_graphite}
-use Rattle.dfn.specs.declared.DfnBuildAnswer.{DfnBuildAnswer}
+use Rattle.dfn.specs.Answers.{DfnBuildAnswer}
 use Rattle.dfn.specs.Build as D
 use Rattle.cell_images.specs.Images.{put_cell}
 use Rattle.sheet_images.specs.Images.{sheet_at, config_at, put_sheet, put_particle}

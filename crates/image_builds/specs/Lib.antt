@@ -1,2 +1,3 @@
 -- The calls that give a record.
+pub mod Calls
 pub mod Builds

@@ -1,14 +1,23 @@
-// The calls that give a record, ready or new from an image, by the number that C calls them with.
+// The calls that give a record, ready or new from an image, by the number that C calls them with (`calls`).
 #![tactic(auto)]
 
+pub mod calls;
+
 ghost use Rattle.std.specs.Prelude.{◌≡◌};
+ghost use Rattle.refusal.specs.Refusals.{refusal_of};
 ghost use Rattle.cell_images.specs.Images.{put_cell};
 ghost use Rattle.sheet_images.specs.Images.{put_particle};
 ghost use Rattle.electrolyte_images.specs.Images.{put_electrolyte};
 ghost use Rattle.dfn_images.specs.Images as P;
 ghost use Rattle.image_rows.specs.Written.{written};
-ghost use Rattle.image_builds.specs.Builds.{ready_sheet, ready_params, ready_put, particle_made, cell_built, electrolyte_built, dfn_made, new_return, new_after, build_length, built_length};
+ghost use Rattle.image_builds.specs.Calls.{ready_call, cell_call, new_call, call_number};
+ghost use Rattle.solver.specs.Answers as S;
+ghost use Rattle.solver.specs.Cell.{no_solver};
+ghost use Rattle.electrolyte.specs.Answers.{electrolyte_answered};
+ghost use Rattle.electrolyte.specs.State.{no_state};
+ghost use Rattle.image_builds.specs.Builds.{ready_put, particle_made, cell_built, electrolyte_built, dfn_made, new_return, new_after, build_length, built_length};
 
+use calls::{BuildCall, New, NewCell, Ready};
 use cell_images::put_cell;
 use codec::read_word;
 use dfn::DfnSolver;
@@ -24,49 +33,34 @@ use image_layout::{
 };
 use parameter_images::{params_at, put_params};
 use particle::ParticleDiffusion;
+use refusal::Refusal;
 use sheet_images::{config_at, put_particle, put_sheet, sheet_at};
-use solver::{SpmBuildAnswer, SpmSolver};
+use solver::SpmSolver;
 
-fn ready_sheet(call: u64) -> ElectrodeParams
-    ensures { result ≡ ready_sheet call }
+// Writes a ready record.
+#[tactic(auto, unfolding(crate::specs::Builds::ready_put, crate::specs::Builds::ready_sheet, crate::specs::Builds::ready_params))]
+pub fn put_ready(call: Ready, answer: &mut [u8])
+    ensures { answer.new ≡ ready_put (ready_call call) answer.old }
 {
     match call {
-        1 => ElectrodeParams::graphite_anode(),
-        2 => ElectrodeParams::lfp_cathode(),
-        _ => ElectrodeParams::nmc_cathode(),
+        Ready::GraphiteAnode => put_sheet(answer, 0, ElectrodeParams::graphite_anode()),
+        Ready::LfpCathode => put_sheet(answer, 0, ElectrodeParams::lfp_cathode()),
+        Ready::NmcCathode => put_sheet(answer, 0, ElectrodeParams::nmc_cathode()),
+        Ready::Lipf6EcDmc => put_electrolyte_params(answer, ElectrolyteParams::lipf6_ec_dmc()),
+        Ready::NmcGraphite => put_params(answer, DfnParams::nmc_graphite()),
+        Ready::LfpGraphite => put_params(answer, DfnParams::lfp_graphite()),
     }
 }
 
-fn ready_params(call: u64) -> DfnParams
-    ensures { result ≡ ready_params call }
-{
-    match call {
-        5 => DfnParams::nmc_graphite(),
-        _ => DfnParams::lfp_graphite(),
-    }
-}
-
-// Writes the ready record of number `call`, 1 to 6.
-pub fn put_ready(call: u64, answer: &mut [u8])
-    ensures { answer.new ≡ ready_put call answer.old }
-{
-    if call <= 3 {
-        put_sheet(answer, 0, ready_sheet(call));
-    } else if call == 4 {
-        put_electrolyte_params(answer, ElectrolyteParams::lipf6_ec_dmc());
-    } else {
-        put_params(answer, ready_params(call));
-    }
-}
-
-fn built_cell(call: u64, image: &[u8]) -> SpmBuildAnswer
-    ensures { result ≡ cell_built call image.now }
+#[tactic(auto, unfolding(crate::specs::Builds::cell_built))]
+fn built_cell(call: NewCell, image: &[u8]) -> Result<SpmSolver, Refusal>
+    ensures { S.build_answered no_solver result ≡ cell_built (cell_call call) image.now }
 {
     let config = config_at(image);
     match call {
-        8 => SpmSolver::graphite_lfp(config),
-        9 => SpmSolver::graphite_nmc(config),
-        _ => SpmSolver::new(
+        NewCell::GraphiteLfp => SpmSolver::graphite_lfp(config),
+        NewCell::GraphiteNmc => SpmSolver::graphite_nmc(config),
+        NewCell::FromSheets => SpmSolver::new(
             config,
             sheet_at(image, NEW_CELL_ANODE),
             sheet_at(image, NEW_CELL_CATHODE),
@@ -74,8 +68,8 @@ fn built_cell(call: u64, image: &[u8]) -> SpmBuildAnswer
     }
 }
 
-fn built_electrolyte(image: &[u8]) -> electrolyte::ElectrolyteAnswer
-    ensures { result ≡ electrolyte_built image.now }
+fn built_electrolyte(image: &[u8]) -> Result<ElectrolyteState, Refusal>
+    ensures { electrolyte_answered no_state result ≡ electrolyte_built image.now }
 {
     let e = electrolyte_at(image);
     let params = e.params;
@@ -85,115 +79,97 @@ fn built_electrolyte(image: &[u8]) -> electrolyte::ElectrolyteAnswer
     )
 }
 
-fn new_particle(image: &[u8], answer: &mut [u8]) -> u64
-    ensures number { result ≡ (particle_made image.now).refusal }
+#[tactic(auto, unfolding(crate::specs::Builds::particle_made, image_rows::specs::Written::written))]
+fn new_particle(image: &[u8], answer: &mut [u8]) -> Result<(), Refusal>
+    ensures number { refusal_of result ≡ (particle_made image.now).refusal }
     ensures written { answer.new ≡ written (particle_made image.now).refusal (put_particle answer.old 0 (particle_made image.now).particle) answer.old }
 {
-    let new = ParticleDiffusion::new(
+    let made = ParticleDiffusion::new(
         sheet_at(image, 0),
         read_word(image, PARTICLE_NODES) as usize,
-    );
-    let refusal = new.refusal;
-    if refusal == 0 {
-        let made = new.particle;
-        put_particle(answer, 0, made);
-    }
-    refusal
+    )?;
+    put_particle(answer, 0, made);
+    Ok(())
 }
 
-fn new_cell(call: u64, image: &[u8], answer: &mut [u8]) -> u64
-    ensures number { result ≡ (cell_built call image.now).refusal }
-    ensures written { answer.new ≡ written (cell_built call image.now).refusal (put_cell answer.old (cell_built call image.now).solver) answer.old }
+#[tactic(auto, unfolding(image_rows::specs::Written::written))]
+fn new_cell(call: NewCell, image: &[u8], answer: &mut [u8]) -> Result<(), Refusal>
+    ensures number { refusal_of result ≡ (cell_built (cell_call call) image.now).refusal }
+    ensures written { answer.new ≡ written (cell_built (cell_call call) image.now).refusal (put_cell answer.old (cell_built (cell_call call) image.now).solver) answer.old }
 {
-    let new = built_cell(call, image);
-    let refusal = new.refusal;
-    if refusal == 0 {
-        let made = new.solver;
-        put_cell(answer, made);
-    }
-    refusal
+    let made = built_cell(call, image)?;
+    put_cell(answer, made);
+    Ok(())
 }
 
-fn new_electrolyte(image: &[u8], answer: &mut [u8]) -> u64
-    ensures number { result ≡ (electrolyte_built image.now).refusal }
+#[tactic(auto, unfolding(image_rows::specs::Written::written))]
+fn new_electrolyte(image: &[u8], answer: &mut [u8]) -> Result<(), Refusal>
+    ensures number { refusal_of result ≡ (electrolyte_built image.now).refusal }
     ensures written { answer.new ≡ written (electrolyte_built image.now).refusal (put_electrolyte answer.old (electrolyte_built image.now).state) answer.old }
 {
-    let new = built_electrolyte(image);
-    let refusal = new.refusal;
-    if refusal == 0 {
-        let made = new.state;
-        put_electrolyte(answer, made);
-    }
-    refusal
+    let made = built_electrolyte(image)?;
+    put_electrolyte(answer, made);
+    Ok(())
 }
 
-fn new_dfn(image: &[u8], answer: &mut [u8]) -> u64
-    ensures number { result ≡ (dfn_made image.now).refusal }
+#[tactic(auto, unfolding(crate::specs::Builds::dfn_made, image_rows::specs::Written::written))]
+fn new_dfn(image: &[u8], answer: &mut [u8]) -> Result<(), Refusal>
+    ensures number { refusal_of result ≡ (dfn_made image.now).refusal }
     ensures written { answer.new ≡ written (dfn_made image.now).refusal (P.put_cell answer.old (dfn_made image.now).cell) answer.old }
 {
-    let new = DfnSolver::new(params_at(image), parameter_images::config_at(image));
-    let refusal = new.refusal;
-    if refusal == 0 {
-        let made = new.cell;
-        dfn_images::put_cell(answer, made);
+    // Matched, since `?` moves the cell once more, beyond the stack of a build from C.
+    match DfnSolver::new(params_at(image), parameter_images::config_at(image)) {
+        Ok(made) => {
+            dfn_images::put_cell(answer, made);
+            Ok(())
+        }
+        Err(e) => Err(e),
     }
-    refusal
 }
 
-// Number `call`, 7 to 12: a new particle, cell, electrolyte or Doyle-Fuller-Newman cell from its image, written to the
-// answer; or the number of the refusal, with nothing written.
-pub fn put_new(call: u64, image: &[u8], answer: &mut [u8]) -> u64
-    ensures number { result ≡ new_return call image.now }
-    ensures written { answer.new ≡ new_after call image.now answer.old }
+// A new particle, cell, electrolyte or Doyle-Fuller-Newman cell from its image, written to the answer; refused, nothing is written.
+#[tactic(auto, unfolding(crate::specs::Builds::new_return, crate::specs::Builds::new_after))]
+pub fn put_new(call: New, image: &[u8], answer: &mut [u8]) -> Result<(), Refusal>
+    ensures number { refusal_of result ≡ new_return (new_call call) image.now }
+    ensures written { answer.new ≡ new_after (new_call call) image.now answer.old }
 {
-    if call == 7 {
-        return new_particle(image, answer);
+    match call {
+        New::Particle => new_particle(image, answer),
+        New::Cell(of) => new_cell(of, image, answer),
+        New::Electrolyte => new_electrolyte(image, answer),
+        New::Dfn => new_dfn(image, answer),
     }
-    if call <= 10 {
-        return new_cell(call, image, answer);
-    }
-    if call == 11 {
-        return new_electrolyte(image, answer);
-    }
-    new_dfn(image, answer)
 }
 
 // The length in bytes of the image that a record is built from.
-pub fn build_length(call: u64) -> usize
-    ensures { result ≡ build_length call }
+#[tactic(auto, unfolding(crate::specs::Builds::build_length))]
+pub fn build_length(call: BuildCall) -> usize
+    ensures { result ≡ build_length (call_number call) }
 {
-    if call <= 6 {
-        0
-    } else if call == 7 {
-        NEW_PARTICLE_BYTES
-    } else if call <= 9 {
-        CONFIG_BYTES
-    } else if call == 10 {
-        NEW_CELL_BYTES
-    } else if call == 11 {
-        REGIONS_BYTES
-    } else {
-        NEW_DFN_BYTES
+    match call {
+        BuildCall::OfReady(_) => 0,
+        BuildCall::OfNew(New::Particle) => NEW_PARTICLE_BYTES,
+        BuildCall::OfNew(New::Cell(NewCell::GraphiteLfp | NewCell::GraphiteNmc)) => CONFIG_BYTES,
+        BuildCall::OfNew(New::Cell(NewCell::FromSheets)) => NEW_CELL_BYTES,
+        BuildCall::OfNew(New::Electrolyte) => REGIONS_BYTES,
+        BuildCall::OfNew(New::Dfn) => NEW_DFN_BYTES,
     }
 }
 
 // The length in bytes of the record that is built.
-pub fn built_length(call: u64) -> usize
-    ensures { result ≡ built_length call }
+#[tactic(auto, unfolding(crate::specs::Builds::built_length))]
+pub fn built_length(call: BuildCall) -> usize
+    ensures { result ≡ built_length (call_number call) }
 {
-    if call <= 3 {
-        SHEET_BYTES
-    } else if call == 4 {
-        ELECTROLYTE_PARAMS_BYTES
-    } else if call <= 6 {
-        DFN_PARAMS_BYTES
-    } else if call == 7 {
-        PARTICLE_BYTES
-    } else if call <= 10 {
-        CELL_BYTES
-    } else if call == 11 {
-        ELECTROLYTE_BYTES
-    } else {
-        DFN_BYTES
+    match call {
+        BuildCall::OfReady(Ready::GraphiteAnode | Ready::LfpCathode | Ready::NmcCathode) => {
+            SHEET_BYTES
+        }
+        BuildCall::OfReady(Ready::Lipf6EcDmc) => ELECTROLYTE_PARAMS_BYTES,
+        BuildCall::OfReady(Ready::NmcGraphite | Ready::LfpGraphite) => DFN_PARAMS_BYTES,
+        BuildCall::OfNew(New::Particle) => PARTICLE_BYTES,
+        BuildCall::OfNew(New::Cell(_)) => CELL_BYTES,
+        BuildCall::OfNew(New::Electrolyte) => ELECTROLYTE_BYTES,
+        BuildCall::OfNew(New::Dfn) => DFN_BYTES,
     }
 }

@@ -3,7 +3,7 @@ use Rattle.std.specs.Prelude.{ℕ, ◌≡◌, List, T, length, Float}
 use Rattle.std.proofs.Common.{ap, ◌∙◌, lit≤}
 use Rattle.std.specs.Float.{binary64}
 use Rattle.std.specs.Float.Ieee.{fits}
-use Rattle.dfn.specs.declared.DfnStepAnswer.{DfnStepAnswer}
+use Rattle.dfn.specs.Answers.{DfnStepAnswer}
 use Rattle.dfn.specs.Step as D
 use Rattle.dfn_images.specs.Images.{cell_at}
 use Rattle.dfn_calls.specs.Steps.{dfn_return, dfn_after}

@@ -16,8 +16,8 @@ use Rattle.particle.specs.Checks.{nodes_valid}
 use Rattle.particle.specs.Calls as P
 use Rattle.kinetics.specs.declared.SpmConfig.{SpmConfig}
 use Rattle.kinetics.specs.Kinetics.{config_fits}
-use Rattle.particle.specs.declared.ParticleAnswer.{ParticleAnswer}
-use Rattle.solver.specs.declared.SpmBuildAnswer.{SpmBuildAnswer}
+use Rattle.particle.specs.Answers.{ParticleAnswer}
+use Rattle.solver.specs.Answers.{SpmBuildAnswer}
 use Rattle.solver.specs.Cell as S
 use Rattle.codec.specs.Words.{word_at}
 use Rattle.image_rows.specs.Written.{written}

@@ -15,13 +15,13 @@ use Rattle.electrode.specs.declared.ElectrodeParams.{ElectrodeParams}
 use Rattle.diffusion.specs.SubStep.{SubStepParams, rate, node, sub_step}
 use Rattle.profile.specs.Places.{finite_profile}
 use Rattle.particle.specs.declared.ParticleDiffusion.{ParticleDiffusion}
-use Rattle.particle.specs.declared.ParticleAnswer.{ParticleAnswer}
+use Rattle.particle.specs.Answers.{ParticleAnswer}
 use Rattle.particle.specs.Checks.{particle_refusal, nodes_of}
 use Rattle.particle.specs.Particle.{with_profile, sub_step_params_of}
 use Rattle.particle.specs.Calls as P
 use Rattle.particle_laws.specs.Ranges.{sheet_passed}
 use Rattle.solver.specs.declared.SpmSolver.{SpmSolver}
-use Rattle.solver.specs.declared.SpmStepAnswer.{SpmStepAnswer}
+use Rattle.solver.specs.Answers.{SpmStepAnswer}
 use Rattle.solver.specs.Cell.{cell_refusal}
 use Rattle.solver.specs.Step as S
 use Rattle.solver_step.specs.Moves.{profile_after}

@@ -22,7 +22,7 @@ use Rattle.solver_laws.specs.CycleCalls as YC
 use Rattle.solver_laws.specs.CycleLists.{cycle_passes}
 use Rattle.solver_laws.proofs.CycleLists.{cycle_is_list, cycle_room}
 use Rattle.discharge_run.specs.declared.RunSettings.{RunSettings}
-use Rattle.discharge_run.specs.declared.RunState.{RunState}
+use Rattle.discharge_run.specs.States.{RunState}
 use Rattle.discharge_run.specs.Discharge.{RunOutcome, run_settings, started, followed, turned, over_of, last_row_of, finished_run, all_turns, run_refusal, refused_run, discharged}
 use Rattle.replay_run.specs.Replay as R
 use Rattle.cycle_run.specs.declared.phases.Phase.{Phase}

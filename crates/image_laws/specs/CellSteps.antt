@@ -7,10 +7,10 @@ use Rattle.std.specs.Float.Ieee.{fits}
 use Rattle.std.specs.Float.Ieee.Fits.{add-fits, sub-fits, div-fits}
 use Rattle.particle.specs.Particle.{surface_theta, average_theta}
 use Rattle.particle.specs.Checks.{particle_refusal}
-use Rattle.particle.specs.declared.ParticleAnswer.{ParticleAnswer}
+use Rattle.particle.specs.Answers.{ParticleAnswer}
 use Rattle.particle.specs.Calls as P
 use Rattle.solver.specs.declared.SpmSolver.{SpmSolver}
-use Rattle.solver.specs.declared.SpmStepAnswer.{SpmStepAnswer}
+use Rattle.solver.specs.Answers.{SpmStepAnswer}
 use Rattle.solver.specs.Cell.{cell_refusal}
 use Rattle.solver.specs.Step as S
 use Rattle.solver_laws.specs.Electrodes.{count_most}

@@ -9,7 +9,7 @@ use Rattle.binary64.specs.Operators.{◌⊗◌}
 use Rattle.refusal.specs.Numbers.{grid, sheet, neither_refused, passed}
 use Rattle.arrays.specs.Places.{filled}
 use Rattle.electrolyte.specs.declared.ElectrolyteState.{ElectrolyteState}
-use Rattle.electrolyte.specs.declared.ElectrolyteAnswer.{ElectrolyteAnswer}
+use Rattle.electrolyte.specs.Answers.{ElectrolyteAnswer}
 use Rattle.electrolyte.specs.State.{total, with_profile}
 use Rattle.electrolyte.specs.Calls as E
 use Rattle.electrolyte.specs.Accepted as EA
@@ -17,7 +17,7 @@ use Rattle.dfn_parameters.specs.declared.DfnParams.{DfnParams}
 use Rattle.dfn_parameters.specs.declared.DfnConfig.{DfnConfig}
 use Rattle.dfn_parameters.specs.Ranges.{parameters_fit, grid_fits, limits_fit}
 use Rattle.dfn.specs.Checks as DC
-use Rattle.dfn.specs.declared.DfnBuildAnswer.{DfnBuildAnswer}
+use Rattle.dfn.specs.Answers.{DfnBuildAnswer}
 use Rattle.dfn.specs.Build as D
 use Rattle.image_rows.specs.Written.{written}
 use Rattle.electrolyte_images.specs.Images.{electrolyte_at, region_numbers, electrolyte_params_numbers}

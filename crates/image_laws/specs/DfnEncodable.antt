@@ -19,7 +19,7 @@ use Rattle.dfn_places.specs.Places.{change_after}
 use Rattle.dfn_voltage.specs.Voltage.{voltage_of}
 use Rattle.dfn.specs.declared.DfnSolver.{DfnSolver}
 use Rattle.dfn.specs.declared.DfnStep.{DfnStep}
-use Rattle.dfn.specs.declared.DfnStepAnswer.{DfnStepAnswer}
+use Rattle.dfn.specs.Answers.{DfnStepAnswer}
 use Rattle.dfn.specs.Checks as DC
 use Rattle.dfn.specs.Step as D
 use Rattle.codec.specs.Words.{word_at, places_at}

@@ -15,11 +15,11 @@ use Rattle.runs.specs.Rows.{run_after}
 use Rattle.runs.specs.Laws.{run_keeps}
 use Rattle.runs.specs.Endings.{by_refusal}
 use Rattle.dfn.specs.declared.DfnSolver.{DfnSolver}
-use Rattle.dfn.specs.declared.DfnStepAnswer.{DfnStepAnswer}
+use Rattle.dfn.specs.Answers.{DfnStepAnswer}
 use Rattle.dfn.specs.Checks as DC
 use Rattle.dfn.specs.Step as D
 use Rattle.galvanostatic_run.specs.declared.RunSettings.{RunSettings}
-use Rattle.galvanostatic_run.specs.declared.RunState.{RunState}
+use Rattle.galvanostatic_run.specs.States.{RunState}
 use Rattle.galvanostatic_run.specs.Galvanostatic.{RunOutcome, run_settings, started, followed, turned, over_of, last_row_of, finished_run, all_turns, run_refusal, galvanostatic}
 use Rattle.codec.specs.Words.{word_at}
 use Rattle.image_rows.specs.Written.{put_ending}

@@ -14,7 +14,7 @@ use Rattle.arrays.specs.Places.{all_finite}
 use Rattle.electrolyte_profile.specs.Places as EP
 use Rattle.electrolyte_profile.specs.Step.{node_from, node_new, profile_new}
 use Rattle.electrolyte.specs.declared.ElectrolyteState.{ElectrolyteState}
-use Rattle.electrolyte.specs.declared.ElectrolyteAnswer.{ElectrolyteAnswer}
+use Rattle.electrolyte.specs.Answers.{ElectrolyteAnswer}
 use Rattle.electrolyte.specs.State.{with_profile, step_params}
 use Rattle.electrolyte.specs.Calls as E
 use Rattle.electrolyte.specs.Accepted as EA

@@ -1,2 +1,3 @@
 -- The calls that give a number from an image.
+pub mod Calls
 pub mod Numbers

@@ -11,6 +11,7 @@ use Rattle.solver.specs.Cell.{ocv_call, soc_call}
 use Rattle.electrolyte_parameters.specs.declared.ElectrolyteParams.{ElectrolyteParams}
 use Rattle.electrolyte.specs.declared.ElectrolyteState.{ElectrolyteState}
 use Rattle.electrolyte_parameters.specs.Calls as R
+use Rattle.electrolyte.specs.Answers.{Counted}
 use Rattle.electrolyte.specs.Calls as E
 use Rattle.cell_images.specs.Images.{cell_at}
 use Rattle.sheet_images.specs.Images.{sheet_at, particle_at}
@@ -45,7 +46,7 @@ rate_number call p porosity t =
     (cond (call == 15) (R.d_e_eff_of p porosity t) (R.kappa_eff_of p porosity t)))
 
 -- a count as a number
-abbrev pub count_outcome : E.Counted → Outcome
+abbrev pub count_outcome : Counted → Outcome
 count_outcome c = record { refusal = c.refusal; values = map count c.values }
 
 unfoldable pub nodes_outcome : ElectrolyteState → Outcome

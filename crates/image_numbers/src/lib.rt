@@ -1,122 +1,125 @@
-// The calls that give a number from an image, by the number that C calls them with.
+// The calls that give a number from an image, by the number that C calls them with (`calls`).
 #![tactic(auto)]
+
+pub mod calls;
 
 ghost use Rattle.std.specs.Prelude.{◌≡◌};
 ghost use Rattle.refusal.specs.Answers.{outcome_of};
+ghost use Rattle.image_numbers.specs.Calls.{sheet_call, particle_call, cell_call, rate_call, electrolyte_call, call_number};
 ghost use Rattle.image_numbers.specs.Numbers.{sheet_number, particle_number, cell_number, rate_number, nodes_outcome, electrolyte_number, number_outcome, number_length};
 
+use calls::{CellCall, ElectrolyteCall, NumberCall, ParticleCall, RateCall, SheetCall};
 use cell_images::cell_at;
 use electrode::ElectrodeParams;
-use electrolyte::{Count, ElectrolyteState};
+use electrolyte::ElectrolyteState;
 use electrolyte_images::{electrolyte_at, electrolyte_params_at};
 use electrolyte_parameters::ElectrolyteParams;
 use image_layout::{
     CELL_BYTES, ELECTROLYTE_BYTES, ELECTROLYTE_PARAMS_BYTES, PARTICLE_BYTES, SHEET_BYTES,
 };
 use particle::ParticleDiffusion;
-use refusal::Answer;
+use refusal::Refusal;
 use sheet_images::{particle_at, sheet_at};
 use solver::SpmSolver;
 
-fn sheet_number(call: u64, p: ElectrodeParams, x: f64) -> Answer
-    ensures { outcome_of result ≡ sheet_number call p x }
+#[tactic(auto, unfolding(crate::specs::Numbers::sheet_number))]
+fn sheet_number(call: SheetCall, p: ElectrodeParams, x: f64) -> Result<f64, Refusal>
+    ensures { outcome_of result ≡ sheet_number (sheet_call call) p x }
 {
     match call {
-        1 => p.d_s(x),
-        2 => p.specific_area(),
-        3 => p.ocp(x),
-        4 => p.docp_dtheta(x),
-        _ => electrode::sphere_volume(x),
+        SheetCall::DS => p.d_s(x),
+        SheetCall::SpecificArea => p.specific_area(),
+        SheetCall::Ocp => p.ocp(x),
+        SheetCall::DocpDtheta => p.docp_dtheta(x),
     }
 }
 
-fn particle_number(call: u64, p: ParticleDiffusion, x: f64) -> Answer
-    ensures { outcome_of result ≡ particle_number call p x }
+#[tactic(auto, unfolding(crate::specs::Numbers::particle_number))]
+fn particle_number(call: ParticleCall, p: ParticleDiffusion, x: f64) -> Result<f64, Refusal>
+    ensures { outcome_of result ≡ particle_number (particle_call call) p x }
 {
     match call {
-        6 => p.dt_stable(x),
-        7 => p.theta_surface(),
-        8 => p.theta_avg(),
-        9 => p.c_avg(),
-        _ => p.ocp_surface(),
+        ParticleCall::DtStable => p.dt_stable(x),
+        ParticleCall::ThetaSurface => p.theta_surface(),
+        ParticleCall::ThetaAvg => p.theta_avg(),
+        ParticleCall::CAvg => p.c_avg(),
+        ParticleCall::OcpSurface => p.ocp_surface(),
     }
 }
 
-fn cell_number(call: u64, s: SpmSolver) -> Answer
-    ensures { outcome_of result ≡ cell_number call s }
+#[tactic(auto, unfolding(crate::specs::Numbers::cell_number))]
+fn cell_number(call: CellCall, s: SpmSolver) -> Result<f64, Refusal>
+    ensures { outcome_of result ≡ cell_number (cell_call call) s }
 {
     match call {
-        11 => s.ocv(),
-        _ => s.soc_estimate(),
+        CellCall::Ocv => s.ocv(),
+        CellCall::SocEstimate => s.soc_estimate(),
     }
 }
 
-fn rate_number(call: u64, p: ElectrolyteParams, porosity: f64, temp_k: f64) -> Answer
-    ensures { outcome_of result ≡ rate_number call p porosity temp_k }
+#[tactic(auto, unfolding(crate::specs::Numbers::rate_number))]
+fn rate_number(
+    call: RateCall,
+    p: ElectrolyteParams,
+    porosity: f64,
+    temp_k: f64,
+) -> Result<f64, Refusal>
+    ensures { outcome_of result ≡ rate_number (rate_call call) p porosity temp_k }
 {
     match call {
-        13 => p.d_e(temp_k),
-        14 => p.kappa(temp_k),
-        15 => p.d_e_eff(porosity, temp_k),
-        _ => p.kappa_eff(porosity, temp_k),
+        RateCall::DE => p.d_e(temp_k),
+        RateCall::Kappa => p.kappa(temp_k),
+        RateCall::DEEff => p.d_e_eff(porosity, temp_k),
+        RateCall::KappaEff => p.kappa_eff(porosity, temp_k),
     }
 }
 
 // The count of nodes as a binary64.
-fn nodes_number(e: ElectrolyteState) -> Answer
+#[tactic(auto, unfolding(crate::specs::Numbers::nodes_outcome))]
+fn nodes_number(e: ElectrolyteState) -> Result<f64, Refusal>
     ensures { outcome_of result ≡ nodes_outcome e }
 {
-    let n = e.n_total();
-    match n {
-        Count::Value(k) => Answer::Value(std::num::nearest_u64_to_f64(k as u64)),
-        Count::Refused(k) => Answer::Refused(k),
-    }
+    let n = e.n_total()?;
+    Ok(std::num::nearest_u64_to_f64(n as u64))
 }
 
-fn electrolyte_number(call: u64, e: ElectrolyteState, x: f64) -> Answer
-    ensures { outcome_of result ≡ electrolyte_number call e x }
+#[tactic(auto, unfolding(crate::specs::Numbers::electrolyte_number))]
+fn electrolyte_number(call: ElectrolyteCall, e: ElectrolyteState, x: f64) -> Result<f64, Refusal>
+    ensures { outcome_of result ≡ electrolyte_number (electrolyte_call call) e x }
 {
     match call {
-        17 => nodes_number(e),
-        18 => e.c_avg(),
-        _ => e.dt_stable(x),
+        ElectrolyteCall::NTotal => nodes_number(e),
+        ElectrolyteCall::CAvg => e.c_avg(),
+        ElectrolyteCall::DtStable => e.dt_stable(x),
     }
 }
 
-// What call number `call`, 1 to 19, answers to an image and its arguments.
-pub fn number_of(call: u64, image: &[u8], x: f64, y: f64) -> Answer
-    ensures { outcome_of result ≡ number_outcome call image.now x y }
+// What a call answers to an image and its arguments.
+#[tactic(auto, unfolding(crate::specs::Numbers::number_outcome, crate::specs::Numbers::sheet_number))]
+pub fn number_of(call: NumberCall, image: &[u8], x: f64, y: f64) -> Result<f64, Refusal>
+    ensures { outcome_of result ≡ number_outcome (call_number call) image.now x y }
 {
-    if call <= 5 {
-        return sheet_number(call, sheet_at(image, 0), x);
+    match call {
+        NumberCall::OfSheet(of) => sheet_number(of, sheet_at(image, 0), x),
+        NumberCall::SphereVolume => electrode::sphere_volume(x),
+        NumberCall::OfParticle(of) => particle_number(of, particle_at(image, 0), x),
+        NumberCall::OfCell(of) => cell_number(of, cell_at(image)),
+        NumberCall::OfRates(of) => rate_number(of, electrolyte_params_at(image), x, y),
+        NumberCall::OfElectrolyte(of) => electrolyte_number(of, electrolyte_at(image), x),
     }
-    if call <= 10 {
-        return particle_number(call, particle_at(image, 0), x);
-    }
-    if call <= 12 {
-        return cell_number(call, cell_at(image));
-    }
-    if call <= 16 {
-        return rate_number(call, electrolyte_params_at(image), x, y);
-    }
-    electrolyte_number(call, electrolyte_at(image), x)
 }
 
 // The length in bytes of the image that a number is worked out from.
-pub fn number_length(call: u64) -> usize
-    ensures { result ≡ number_length call }
+#[tactic(auto, unfolding(crate::specs::Numbers::number_length))]
+pub fn number_length(call: NumberCall) -> usize
+    ensures { result ≡ number_length (call_number call) }
 {
-    if call <= 4 {
-        SHEET_BYTES
-    } else if call == 5 {
-        0
-    } else if call <= 10 {
-        PARTICLE_BYTES
-    } else if call <= 12 {
-        CELL_BYTES
-    } else if call <= 16 {
-        ELECTROLYTE_PARAMS_BYTES
-    } else {
-        ELECTROLYTE_BYTES
+    match call {
+        NumberCall::OfSheet(_) => SHEET_BYTES,
+        NumberCall::SphereVolume => 0,
+        NumberCall::OfParticle(_) => PARTICLE_BYTES,
+        NumberCall::OfCell(_) => CELL_BYTES,
+        NumberCall::OfRates(_) => ELECTROLYTE_PARAMS_BYTES,
+        NumberCall::OfElectrolyte(_) => ELECTROLYTE_BYTES,
     }
 }

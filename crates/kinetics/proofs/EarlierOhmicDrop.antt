@@ -1,11 +1,11 @@
 -- The terminal voltage with the drop in the electrolyte times the sign of the current, as it was before charge rows had the ohmic rise: at a current whose sign is not negative it is
 -- the terminal voltage. Assumes nothing.
-use Rattle.std.specs.Prelude.{◌≡◌, refl, Bool, false, cond, T, Float}
+use Rattle.std.specs.Prelude.{◌≡◌, Bool, false, cond, T, Float}
 use Rattle.std.proofs.Common.{sym, ap, ◌∙◌}
 use Rattle.std.specs.Float.{nan, binary64}
-use Rattle.std.specs.Float.Ieee.{neg, is_nan, fits, of_bits}
-use Rattle.binary64.specs.Operators.{◌⊕◌, ◌⊖◌, ◌⊗◌, negative}
-use Rattle.binary64.specs.Literals.{«0·0», «1·0»}
+use Rattle.std.specs.Float.Ieee.{neg, is_nan, fits}
+use Rattle.binary64.specs.Operators.{◌⊗◌, negative}
+use Rattle.binary64.specs.Literals.{«1·0»}
 use Rattle.binary64.specs.Representable.{times_one}
 use Rattle.kinetics.specs.Kinetics.{terminal_voltage}
 use Rattle.kinetics.specs.EarlierOhmicDrop.{signum_of, voltage_by_signum}

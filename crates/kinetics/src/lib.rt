@@ -1,13 +1,13 @@
 // The kinetics of a single-particle cell: its configuration, the flux at the particles' surfaces, the overpotential and the
 // terminal voltage. A changed translation of src/battery/p2d/solver.rs.
-#![tactic(auto)]
+#![tactic(auto, unfolding(crate::specs::Kinetics::surface_current, crate::specs::Kinetics::exchange, crate::specs::Kinetics::overpotential))]
 
-ghost use Rattle.std.specs.Prelude.{◌≡◌, ◌≤◌};
+ghost use Rattle.std.specs.Prelude.{◌≡◌};
 ghost use Rattle.particle.specs.Particle.{particle_of};
 ghost use Rattle.kinetics.specs.Kinetics.{config_fits, surface_current, exchange, overpotential, terminal_voltage};
 
 use electrode::ElectrodeParams;
-use particle::surface_theta;
+use particle::ParticleView;
 use refusal::within;
 
 #[derive(Clone, Copy)]
@@ -46,28 +46,20 @@ pub fn surface_current(p: ElectrodeParams, faraday: f64) -> f64
 }
 
 // The exchange current density at a particle's surface, mol/(m^2 s), with the electrolyte at 1,000 mol/m^3.
-fn exchange_current(params: ElectrodeParams, n: usize, c: &[f64; 64]) -> f64
-    requires { (3 ≤ n) × (n ≤ 64) }
-    ensures { result ≡ exchange (particle_of params n c.now) }
+fn exchange_current(p: &ParticleView<'_>) -> f64
+    ensures { result ≡ exchange (particle_of p.now.params p.now.n p.now.c.now) }
 {
-    let theta_s = min_max::clamp(surface_theta(params, n, c), 0.01, 0.99);
+    let params = p.params;
+    let theta_s = min_max::clamp(p.surface_theta(), 0.01, 0.99);
     let c_ss = theta_s * params.c_s_max;
     params.k_bv * square_root::sqrt(c_ss * (params.c_s_max - c_ss) * 1000.0)
 }
 
 // The Butler-Volmer overpotential at a flux, symmetric, V.
-pub fn bv_overpotential(
-    config: SpmConfig,
-    j_n: f64,
-    params: ElectrodeParams,
-    n: usize,
-    c: &[f64; 64],
-    temp_k: f64,
-) -> f64
-    requires { (3 ≤ n) × (n ≤ 64) }
-    ensures { result ≡ overpotential config j_n (particle_of params n c.now) temp_k }
+pub fn bv_overpotential(config: SpmConfig, j_n: f64, p: &ParticleView<'_>, temp_k: f64) -> f64
+    ensures { result ≡ overpotential config j_n (particle_of p.now.params p.now.n p.now.c.now) temp_k }
 {
-    let i_0_mol = exchange_current(params, n, c);
+    let i_0_mol = exchange_current(p);
     if i_0_mol < 1e-30 {
         return 0.0;
     }

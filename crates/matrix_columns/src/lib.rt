@@ -1,4 +1,5 @@
 // A column of a system cleared by its pivot, as in `solve_dense` of oxigrid's src/battery/p2d/dfn.rs, changed.
+// A flat slice with its order beside it, as the definitions of Columns have it.
 #![tactic(auto)]
 
 ghost use Rattle.std.specs.Prelude.{◌≡◌, ◌*◌, ◌<◌, ◌≤◌, length};
@@ -7,6 +8,7 @@ ghost use Rattle.matrix_columns.specs.Columns.{system, column_cleared, rows_exch
 use matrix_rows::{reduce_row, swap_places, swap_rows};
 
 // Clears column `col` below its pivot, on both sides.
+// By number: a row's is its place on both sides.
 fn clear_column(a: &mut [f64], x: &mut [f64; 32], col: usize, n: usize)
     requires { (col < n) × ((n ≤ 32) × (length a.old ≡ n * 32)) }
     ensures { system a.new x.new ≡ column_cleared n col (system a.old x.old) }

@@ -1,17 +1,15 @@
 -- The least whole number not below q: `ceil_div` is the least, and the whole part of q, or one more, is it. Assumes nothing.
-use Rattle.std.proofs.Common.{◌≡◌, ℕ, zero, suc, ◌+◌, ◌-◌, ◌*◌, ◌/◌, ◌^◌, ◌<◌, ◌≤◌, min, Bool, true, false, T, ltb, ℤ, pos, negsuc, sym, refl, ap, ◌∙◌, subst, true≢false, le_trans, le_of_eq, le_refl, lt_of_le_of_lt, le_of_lt, mul-le-mul_right, div-lt_iff_lt-mul, add-mul, mul-lt-mul_of_pos_right, le-div_iff_mul-le, zero-add, mul-one, div-le_self, mul_right_comm, div-mul-le_self, div-one, arith, lit<, ltb→lt, lt→ltb, pow_pos, ltb-false, ltb-true, le-ltb, lt-ltb}
+use Rattle.std.proofs.Common.{◌≡◌, ℕ, zero, suc, ◌+◌, ◌-◌, ◌*◌, ◌/◌, ◌^◌, ◌<◌, ◌≤◌, min, Bool, true, false, T, ltb, ℤ, pos, negsuc, sym, refl, ap, ◌∙◌, subst, true≢false, le_trans, le_of_eq, le_refl, lt_of_le_of_lt, le_of_lt, mul-le-mul_right, div-lt_iff_lt-mul, add-mul, mul-lt-mul_of_pos_right, le-div_iff_mul-le, mul-one, div-le_self, mul_right_comm, div-mul-le_self, div-one, arith, lit<, pow_pos, ltb-false, ltb-true, le-ltb, lt-ltb}
 use mathlib.Core.Bool.{false≢true}
-use native.Mathlib.Nat.{div-eq_of_lt, div-eq_of_lt-le}
-use lib.Ieee.{Float, nan, inf, fin, binary64, up, down, lt, le, fits, of_bits, of_int, to_unsigned}
+use native.Mathlib.Nat.{div-eq_of_lt-le, lt_of_not-le}
+use native.Mathlib.Decide.{dec_le}
+use lib.Ieee.{Float, nan, inf, fin, binary64, up, down, lt, fits, of_int, round, to_unsigned}
 use lib.Ieee.Back.{round_whole}
 use lib.Ieee.Exact.{HasValue}
 use lib.Ieee.Fits.{down_pos}
 use lib.Ieee.Positive.{num, den, den_pos, positive}
 use Rattle.square_root.proofs.Monotone.{positive_num}
-use Rattle.binary64.specs.Operators.{f64}
-use Rattle.binary64.specs.Order.{le→below, not→lt}
 use Rattle.binary64.specs.Representable.{own_round}
-use Rattle.binary64.specs.Literals.{«0·0»}
 use Rattle.min_max.specs.Count.{ceil_div, ceil_of}
 use Rattle.min_max.proofs.Format.{representable}
 
@@ -40,44 +38,7 @@ ceil_next a d p h =
     let u : a < (a / d + 1) * d = (div-lt_iff_lt-mul p).0 (after (a / d)) in
     sym (div-eq_of_lt-le d (omega (arith, add-mul (a / d) 1 d)) (omega (arith, add-mul (a / d) 1 d, add-mul (a / d + 1) 1 d)))
 
--- ---- what is not above zero, and what is too large
-pub ceil_zero : (q : Float) → lt «0·0» q ≡ false → 0 ≡ ceil_of q
-unfolding lt of_bits ceil_of
-ceil_zero nan h = refl
-ceil_zero (inf true) h = refl
-ceil_zero (inf false) h = absurd (true≢false h)
-ceil_zero (fin true m e) h = refl
-ceil_zero (fin false m e) h =
-    let z : m * up e ≡ 0 = omega (arith, ltb-false (0 * 1 * down e) (m * up e * 1) h) in
-    let d : down e - 1 < down e = omega (arith, down_pos e) in
-    let f : ceil_div (m * up e) (down e) ≡ 0 = ap (λ (a : ℕ). (a + (down e - 1)) / down e) z ∙ ap (λ (a : ℕ). a / down e) (zero-add (down e - 1)) ∙ div-eq_of_lt d in
-    omega arith
-
-pub ceil_top : (q : Float) → le (f64 0x43f0_0000_0000_0000) q ≡ true → 2 ^ 64 - 1 ≡ ceil_of q
-unfolding le of_bits ceil_of
-ceil_top nan h = absurd (false≢true h)
-ceil_top (inf true) h = absurd (false≢true h)
-ceil_top (inf false) h = refl
-ceil_top (fin true m e) h =
-    let b : 1 * 2 ^ 64 * down e + m * up e * 1 ≤ 0 = le→below (fin false 1 (pos 64)) (fin true m e) tt tt (subst T (sym h) tt) in
-    absurd (none (down e) (m * up e) (down_pos e) b)
-  where
-    none : (d x : ℕ) → 0 < d → 1 * 2 ^ 64 * d + x * 1 ≤ 0 → ⊥
-    none d x p h = omega arith
-ceil_top (fin false m e) h =
-    let b : 1 * 2 ^ 64 * down e ≤ m * up e * 1 = le→below (fin false 1 (pos 64)) (fin false m e) tt tt (subst T (sym h) tt) in
-    let l : 2 ^ 64 ≤ ceil_div (m * up e) (down e) = (le-div_iff_mul-le (down_pos e)).1 (omega arith) in
-    omega arith
-
--- ---- the numbers between
-pub in_range_lem : (q : Float) → lt «0·0» q ≡ true → le (f64 0x43f0_0000_0000_0000) q ≡ false → T (lt (fin true 1 (pos 0)) q) × T (lt q (fin false 1 (pos 64)))
-unfolding lt le of_bits
-in_range_lem nan h k = absurd (false≢true h)
-in_range_lem (inf true) h k = absurd (false≢true h)
-in_range_lem (inf false) h k = absurd (true≢false k)
-in_range_lem (fin true m e) h k = absurd (false≢true h)
-in_range_lem (fin false m e) h k = (lt→ltb 0 (1 * 1 * down e + m * up e * 1) (omega (arith, down_pos e)), not→lt (fin false m e) (fin false 1 (pos 64)) tt tt (λ u. subst T k u))
-
+-- ---- whether the float of the whole part is below the number
 ltb_scaled : (x y z : ℕ) → 0 < z → ltb (x * z) (y * z) ≡ ltb x y
 ltb_scaled x y z p = go (ltb x y) refl
   where
@@ -102,7 +63,7 @@ lt_itself m e = le-ltb (m * up e * down e) (m * up e * down e) (le_refl (m * up 
 
 -- whether r, the float of the whole part n of q, is below q decides between n + 1 and n
 pub record Counted (q : Float) (n : ℕ) (r : Float) : Type 0 where
-  pub next : lt r q ≡ true → (n + 1 < 2 ^ 64) × (n + 1 ≡ ceil_of q)
+  pub next : lt r q ≡ true → min (n + 1) (2 ^ 64 - 1) ≡ ceil_of q
   pub same : lt r q ≡ false → n ≡ ceil_of q
 
 abbrev pub CountedBy : Float → ℕ → Type 0
@@ -130,22 +91,28 @@ part_counted m j l =
     let n : min (a / d) (2 ^ 64 - 1) ≡ a / d = omega arith in
     let t : lt (of_int binary64 (pos (a / d))) (fin false m (negsuc j)) ≡ ltb (a / d * d) a = lt_whole (of_int binary64 (pos (a / d))) (a / d) m (negsuc j) (round_whole binary64 false (a / d) (le_of_lt u)) in
     subst (CountedBy (fin false m (negsuc j))) (sym n) (record {
-      next = λ h. let e = ceil_next a d (pow_pos (suc j)) (ltb-true (a / d * d) a (sym t ∙ h)) in (omega arith, omega arith);
+      next = λ h. let e = ceil_next a d (pow_pos (suc j)) (ltb-true (a / d * d) a (sym t ∙ h)) in omega arith;
       same = λ h. let e = ceil_at a d (pow_pos (suc j)) (ltb-false (a / d * d) a (sym t ∙ h)) in omega arith;
     })
 
-pub counted : (q : Float) → T (fits binary64 q) → lt «0·0» q ≡ true → le (f64 0x43f0_0000_0000_0000) q ≡ false → CountedBy q (to_unsigned 64 q)
-unfolding lt le of_bits
-counted nan f h k = absurd (false≢true h)
-counted (inf true) f h k = absurd (false≢true h)
-counted (inf false) f h k = absurd (true≢false k)
-counted (fin true m e) f h k = absurd (false≢true h)
-counted (fin false m (pos j)) f h k = whole_counted m j f (below m j (ltb→lt (m * 2 ^ j * 1) (1 * 2 ^ 64 * 1) (in_range_lem (fin false m (pos j)) h k).1))
-  where
-    below : (m j : ℕ) → m * 2 ^ j * 1 < 1 * 2 ^ 64 * 1 → m * 2 ^ j < 2 ^ 64
-    below m j h = omega arith
-counted (fin false zero (negsuc j)) f h k = part_counted 0 j (lit< tt)
-counted (fin false (suc m) (negsuc j)) f h k = part_counted (suc m) j (representable false m (negsuc j) f).digits
+-- 2 ^ 64 and above
+large_counted : (m j : ℕ) → 2 ^ 64 ≤ m * 2 ^ j → CountedBy (fin false m (pos j)) (to_unsigned 64 (fin false m (pos j)))
+unfolding to_unsigned ceil_of
+large_counted m j h =
+    let a = m * 2 ^ j in
+    let n : a / 1 ≡ a = div-one a in
+    let l : a ≤ ceil_div a 1 * 1 = ceil_reaches a 1 (lit< tt) in
+    record { next = λ k. omega arith; same = λ k. omega arith }
+
+pub counted : (q : Float) → T (fits binary64 q) → CountedBy q (to_unsigned 64 q)
+unfolding lt of_int round to_unsigned ceil_of
+counted nan f = record { next = λ h. absurd (false≢true h); same = λ h. refl }
+counted (inf true) f = record { next = λ h. absurd (false≢true h); same = λ h. refl }
+counted (inf false) f = record { next = λ h. refl; same = λ h. refl }
+counted (fin true m e) f = record { next = λ h. absurd (false≢true h); same = λ h. refl }
+counted (fin false m (pos j)) f = elim (dec_le (2 ^ 64) (m * 2 ^ j)) [ yes h ↦ large_counted m j h | no n ↦ whole_counted m j f (lt_of_not-le n) ]
+counted (fin false zero (negsuc j)) f = part_counted 0 j (lit< tt)
+counted (fin false (suc m) (negsuc j)) f = part_counted (suc m) j (representable false m (negsuc j) f).digits
 
 -- ---- the count as a caller needs it: q is not above it, it is the least such, and above zero it is 1 at least
 module _ (q : Float) (p : T (positive q)) where

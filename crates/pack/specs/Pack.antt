@@ -6,16 +6,15 @@ use Rattle.refusal.specs.Ranges.{count_in_range}
 use Rattle.electrode.specs.declared.ElectrodeParams.{ElectrodeParams}
 use Rattle.kinetics.specs.declared.SpmConfig.{SpmConfig}
 use Rattle.solver_step.specs.declared.SpmParts.{SpmParts}
-use Rattle.solver_step.specs.declared.SpmReported.{SpmReported}
+use Rattle.solver_step.specs.Answers.{SpmReported}
 use Rattle.solver_step.specs.Moves.{refused_move}
 use Rattle.solver.specs.declared.SpmSolver.{SpmSolver}
-use Rattle.solver.specs.declared.SpmStepAnswer.{SpmStepAnswer}
+use Rattle.solver.specs.Answers.{SpmStepAnswer}
 use Rattle.solver.specs.Cell.{built}
 use Rattle.solver.specs.Parts.{cell_of}
 use Rattle.solver.specs.Step.{stepped}
 use Rattle.pack.specs.declared.PackCell.{PackCell}
-use Rattle.pack.specs.declared.PackBuildAnswer.{PackBuildAnswer}
-use Rattle.pack.specs.declared.PackStepped.{PackStepped}
+use Rattle.pack.specs.Answers.{PackBuildAnswer, PackStepped}
 
 -- ---- one cell
 -- what the pack shares and a clock: the config's count of nodes in both particles

@@ -5,15 +5,14 @@ use Rattle.std.proofs.Common.{◌∙◌}
 use Rattle.binary64.specs.Operators.{◌⊕◌}
 use Rattle.electrode.specs.declared.ElectrodeParams.{ElectrodeParams}
 use Rattle.kinetics.specs.declared.SpmConfig.{SpmConfig}
-use Rattle.solver_step.specs.declared.SpmReported.{SpmReported}
+use Rattle.solver_step.specs.Answers.{SpmReported}
 use Rattle.solver_step.specs.declared.report.SpmState.{SpmState}
-use Rattle.solver_step.specs.Moves.{refused_move}
-use Rattle.solver.specs.declared.SpmStepAnswer.{SpmStepAnswer}
+use Rattle.solver.specs.Answers.{SpmStepAnswer}
 use Rattle.solver.specs.Parts.{Agrees, answer_kept, answer_made}
 use Rattle.solver.specs.Step.{stepped, refused_step}
 use Rattle.pack.specs.declared.PackCell.{PackCell}
-use Rattle.pack.specs.declared.PackStepped.{PackStepped}
-use Rattle.pack.specs.Pack.{solver_of, stepped_by_of, cell_stepped}
+use Rattle.pack.specs.Answers.{PackStepped}
+use Rattle.pack.specs.Pack.{solver_of, pack_cell_of, reported_of, stepped_by_of, cell_stepped}
 
 abbrev reported_by : ℕ → SpmState → ℕ → SpmReported
 reported_by k r n = record { refusal = k; state = r; sub_steps = n }
@@ -42,3 +41,11 @@ module _ (x : PackCell) (g : SpmConfig) (a c : ElectrodeParams) (i dt t : Float)
       ap (λ (y : SpmState). stepped_to x (reported_by r.refusal y r.sub_steps)) s
       ∙ ap (λ (m : ℕ). stepped_to x (reported_by r.refusal (refused_step r.refusal (solver_of g a c x)).state m)) n
       ∙ ap stepped_by_of e
+
+-- refused, a cell is as it was
+pub cell_kept : (x : PackCell) (g : SpmConfig) (a c : ElectrodeParams) (i dt t : Float)
+    → ((cell_stepped x g a c i dt t).reported.refusal ≡ 0 → ⊥) → (cell_stepped x g a c i dt t).cell ≡ x
+unfolding cell_stepped
+cell_kept x g a c i dt t z =
+    let s = solver_of g a c x in
+    sym (ap (λ (y : SpmStepAnswer). pack_cell_of y.solver) (answer_kept s i dt t (reported_of (stepped s i dt t)) _ _ (refl, (refl, (refl, (refl, refl)))) z))

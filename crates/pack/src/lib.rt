@@ -3,12 +3,25 @@
 #![tactic(auto)]
 
 ghost use Rattle.std.specs.Prelude.{◌≡◌};
-ghost use Rattle.pack.specs.Pack.{parts_with, cell_built, cell_stepped, count_refusal, place_refusal, pack_answer, pack_cells};
+ghost use Rattle.refusal.specs.Refusals.{refusal_of};
+ghost use Rattle.solver_step.specs.Answers.{reported_by};
+ghost use Rattle.solver.specs.Cell.{no_solver};
+ghost use Rattle.pack.specs.Answers.{cell_answered, step_answered, left_with};
+ghost use Rattle.pack.specs.Pack.{parts_with, pack_cell_of, cell_built, cell_stepped, count_refusal, place_refusal, pack_answer, pack_cells};
 
 use electrode::ElectrodeParams;
 use kinetics::SpmConfig;
+use refusal::{Refusal, count_within, refuse_unless};
 use solver::SpmSolver;
-use solver_step::{SpmParts, SpmReported, refused_move};
+use solver_step::{SpmParts, SpmReport};
+
+// What the cells of a pack share.
+#[derive(Clone, Copy)]
+pub struct PackSheets {
+    pub config: SpmConfig,
+    pub anode: ElectrodeParams,
+    pub cathode: ElectrodeParams,
+}
 
 // What a cell of a pack holds by itself. Its profiles have the config's count of nodes.
 #[derive(Clone, Copy)]
@@ -19,149 +32,112 @@ pub struct PackCell {
     pub time_s: f64,
 }
 
-// A cell, and 0 or the number of the refusal.
+// What a step gives: the cell after it, and its report.
 #[derive(Clone, Copy)]
-pub struct PackBuildAnswer {
-    pub refusal: u64,
+pub struct PackStep {
     pub cell: PackCell,
+    pub report: SpmReport,
 }
 
-// The cell after a step, and what the step answers.
-#[derive(Clone, Copy)]
-pub struct PackStepped {
-    pub cell: PackCell,
-    pub reported: SpmReported,
-}
-
-// The solver's cell that a cell of the pack is, without its profiles.
-pub fn parts_with(
-    config: SpmConfig,
-    anode: ElectrodeParams,
-    cathode: ElectrodeParams,
-    time_s: f64,
-) -> SpmParts
-    ensures { result ≡ parts_with config anode cathode time_s }
-{
-    SpmParts {
-        config,
-        neg: anode,
-        n_neg: config.n_nodes,
-        pos: cathode,
-        n_pos: config.n_nodes,
-        time_s,
+impl PackSheets {
+    // The solver's cell that a cell of the pack is, without its profiles.
+    pub fn parts_with(self, time_s: f64) -> SpmParts
+        ensures { result ≡ parts_with self.config self.anode self.cathode time_s }
+    {
+        SpmParts {
+            config: self.config,
+            neg: self.anode,
+            n_neg: self.config.n_nodes,
+            pos: self.cathode,
+            n_pos: self.config.n_nodes,
+            time_s,
+        }
     }
 }
 
 impl PackCell {
     // A fresh cell: both profiles as their sheets start them, the clock at +0.
-    pub fn new(
-        config: SpmConfig,
-        anode: ElectrodeParams,
-        cathode: ElectrodeParams,
-    ) -> PackBuildAnswer
-        ensures { result ≡ cell_built config anode cathode }
+    #[tactic(auto, unfolding(crate::specs::Pack::cell_built))]
+    pub fn new(sheets: PackSheets) -> Result<PackCell, Refusal>
+        ensures { cell_answered (pack_cell_of no_solver) result ≡ cell_built sheets.config sheets.anode sheets.cathode }
     {
-        let new = SpmSolver::new(config, anode, cathode);
-        let c_neg = new.solver.anode.c_s;
-        let c_pos = new.solver.cathode.c_s;
-        let cell = PackCell {
+        let s = SpmSolver::new(sheets.config, sheets.anode, sheets.cathode)?;
+        let c_neg = s.anode.c_s;
+        let c_pos = s.cathode.c_s;
+        Ok(PackCell {
             c_neg,
             c_pos,
-            time_s: new.solver.time_s,
-        };
-        PackBuildAnswer {
-            refusal: new.refusal,
-            cell,
-        }
+            time_s: s.time_s,
+        })
     }
 
-    // One step of the solver: refused, the cell is as it was.
-    pub fn step(
-        self,
-        config: SpmConfig,
-        anode: ElectrodeParams,
-        cathode: ElectrodeParams,
+    // One step of the solver where the cell lies: refused, the cell is as it was.
+    pub fn step_in_place(
+        &mut self,
+        sheets: PackSheets,
         current_a: f64,
         dt: f64,
         temp_k: f64,
-    ) -> PackStepped
-        ensures { result ≡ cell_stepped self config anode cathode current_a dt temp_k }
+    ) -> Result<SpmReport, Refusal>
+        ensures { left_with self.new result ≡ cell_stepped self.old sheets.config sheets.anode sheets.cathode current_a dt temp_k }
     {
-        let q = parts_with(config, anode, cathode, self.time_s);
-        let mut c_neg = self.c_neg;
-        let mut c_pos = self.c_pos;
-        let reported = solver::step_in_place(q, &mut c_neg, &mut c_pos, current_a, dt, temp_k);
-        if reported.refusal != 0 {
-            return PackStepped {
-                cell: self,
-                reported,
-            };
-        }
-        let cell = PackCell {
-            c_neg,
-            c_pos,
-            time_s: q.time_s + dt,
-        };
-        PackStepped { cell, reported }
+        let q = sheets.parts_with(self.time_s);
+        let report = solver::step_in_place(
+            q,
+            &mut self.c_neg,
+            &mut self.c_pos,
+            current_a,
+            dt,
+            temp_k,
+        )?;
+        self.time_s = q.time_s + dt;
+        Ok(report)
+    }
+
+    // The same of a copy.
+    pub fn step(
+        self,
+        sheets: PackSheets,
+        current_a: f64,
+        dt: f64,
+        temp_k: f64,
+    ) -> Result<PackStep, Refusal>
+        ensures { step_answered self result ≡ cell_stepped self sheets.config sheets.anode sheets.cathode current_a dt temp_k }
+    {
+        let mut cell = self;
+        let report = cell.step_in_place(sheets, current_a, dt, temp_k)?;
+        Ok(PackStep { cell, report })
     }
 }
 
-// Steps a cell where the caller keeps it.
-pub fn step_in_place(
-    cell: &mut PackCell,
-    config: SpmConfig,
-    anode: ElectrodeParams,
-    cathode: ElectrodeParams,
-    current_a: f64,
-    dt: f64,
-    temp_k: f64,
-) -> SpmReported
-    ensures { (result ≡ (cell_stepped cell.old config anode cathode current_a dt temp_k).reported) × (cell.new ≡ (cell_stepped cell.old config anode cathode current_a dt temp_k).cell) }
+// Refuses a number of cells that is not 1 to 32.
+#[tactic(auto, unfolding(crate::specs::Pack::count_refusal, refusal::specs::Numbers::refusal_unless, refusal::specs::Numbers::first_refusal))]
+pub fn check_count(count: usize) -> Result<(), Refusal>
+    ensures { refusal_of result ≡ count_refusal count }
 {
-    let stepped = cell.step(config, anode, cathode, current_a, dt, temp_k);
-    *cell = stepped.cell;
-    stepped.reported
+    refuse_unless(count_within(count as u64, 1, 32), Refusal::Grid)
 }
 
-// 1 where the number of cells is not 1 to 32, else 0.
-pub fn count_refusal(count: usize) -> u64
-    ensures { result ≡ count_refusal count }
+// Refuses an index that is not below the number of cells, then a number that is not 1 to 32.
+#[tactic(auto, unfolding(crate::specs::Pack::place_refusal, refusal::specs::Numbers::refusal_unless, refusal::specs::Numbers::first_refusal))]
+pub fn check_place(count: usize, index: usize) -> Result<(), Refusal>
+    ensures { refusal_of result ≡ place_refusal count index }
 {
-    refusal::refusal_unless(refusal::count_within(count as u64, 1, 32), refusal::GRID)
-}
-
-// 13 where the index is not below the number of cells, then 1 where that is not 1 to 32; else 0.
-pub fn place_refusal(count: usize, index: usize) -> u64
-    ensures { result ≡ place_refusal count index }
-{
-    let place = refusal::refusal_unless(index < count, refusal::INDEX);
-    refusal::first_refusal(place, count_refusal(count))
+    refuse_unless(index < count, Refusal::Index)?;
+    check_count(count)
 }
 
 // Steps the cell at the index where it lies. Neither the other cells nor what the pack shares is looked at or changed.
 pub fn pack_step(
-    config: SpmConfig,
-    anode: ElectrodeParams,
-    cathode: ElectrodeParams,
+    sheets: PackSheets,
     cells: &mut [PackCell],
     index: usize,
     current_a: f64,
     dt: f64,
     temp_k: f64,
-) -> SpmReported
-    ensures { (result ≡ pack_answer config anode cathode cells.old index current_a dt temp_k) × (cells.new ≡ pack_cells config anode cathode cells.old index current_a dt temp_k) }
+) -> Result<SpmReport, Refusal>
+    ensures { (reported_by result ≡ pack_answer sheets.config sheets.anode sheets.cathode cells.old index current_a dt temp_k) × (cells.new ≡ pack_cells sheets.config sheets.anode sheets.cathode cells.old index current_a dt temp_k) }
 {
-    let refused = place_refusal(cells.len(), index);
-    if refused != 0 {
-        return refused_move(refused);
-    }
-    step_in_place(
-        &mut cells[index],
-        config,
-        anode,
-        cathode,
-        current_a,
-        dt,
-        temp_k,
-    )
+    check_place(cells.len(), index)?;
+    cells[index].step_in_place(sheets, current_a, dt, temp_k)
 }

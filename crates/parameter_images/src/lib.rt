@@ -13,6 +13,7 @@ use image_layout::{
 use image_rows::{read_places, write_places};
 
 // The parameters from their 25 numbers in the record's order, and each electrode's coefficients with their count.
+#[tactic(auto, unfolding(crate::specs::Images::params_of))]
 fn params_of(
     x: [f64; 25],
     neg_count: usize,
@@ -56,6 +57,7 @@ fn params_of(
 }
 
 // The parameters in the first 59 words.
+#[tactic(auto, unfolding(crate::specs::Images::params_at))]
 pub fn params_at(s: &[u8]) -> DfnParams
     ensures { result ≡ params_at s.now }
 {
@@ -75,6 +77,7 @@ pub fn params_at(s: &[u8]) -> DfnParams
 }
 
 // Those 25 numbers.
+#[tactic(auto, unfolding(crate::specs::Images::params_numbers))]
 fn numbers_of(p: DfnParams) -> [f64; 25]
     ensures { result ≡ params_numbers p }
 {
@@ -107,6 +110,7 @@ fn numbers_of(p: DfnParams) -> [f64; 25]
     ]
 }
 
+#[tactic(auto, unfolding(crate::specs::Images::put_params))]
 pub fn put_params(s: &mut [u8], p: DfnParams)
     ensures { s.new ≡ put_params s.old p }
 {
@@ -119,6 +123,7 @@ pub fn put_params(s: &mut [u8], p: DfnParams)
 }
 
 // The grid and the voltage limits in words 59 to 63.
+#[tactic(auto, unfolding(crate::specs::Images::config_at))]
 pub fn config_at(s: &[u8]) -> DfnConfig
     ensures { result ≡ config_at s.now }
 {
@@ -131,6 +136,7 @@ pub fn config_at(s: &[u8]) -> DfnConfig
     }
 }
 
+#[tactic(auto, unfolding(crate::specs::Images::put_config))]
 pub fn put_config(s: &mut [u8], c: DfnConfig)
     ensures { s.new ≡ put_config s.old c }
 {

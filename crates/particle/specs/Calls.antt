@@ -11,7 +11,7 @@ use Rattle.diffusion.specs.SubStep.{sub_step}
 use Rattle.arrays.specs.Places.{filled}
 use Rattle.profile.specs.Places.{finite_profile}
 use Rattle.particle.specs.declared.ParticleDiffusion.{ParticleDiffusion}
-use Rattle.particle.specs.declared.ParticleAnswer.{ParticleAnswer}
+use Rattle.particle.specs.Answers.{ParticleAnswer}
 use Rattle.particle.specs.Checks.{nodes_fit, particle_refusal}
 use Rattle.particle.specs.Particle.{with_profile, sub_step_params_of, stable_step, surface_theta, surface_potential, average, average_theta}
 

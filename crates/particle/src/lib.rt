@@ -1,308 +1,230 @@
 // A particle of an electrode and the diffusion in it. A changed translation of src/battery/p2d/electrode.rs (its
 // `ParticleDiffusion`). The spacing of the nodes is worked out; what does not change within a call is worked out once.
-#![tactic(auto)]
+#![tactic(auto, unfolding(crate::specs::Particle::spacing, crate::specs::Particle::surface_theta, crate::specs::Particle::surface_potential, crate::specs::Particle::stable_step, crate::specs::Particle::average_theta, crate::specs::Calls::new_refusal, crate::specs::Calls::fresh, crate::specs::Calls::made, crate::specs::Calls::step_refusal, crate::specs::Calls::accepted, crate::specs::Calls::stepped, crate::specs::Calls::dt_stable, crate::specs::Calls::theta_surface, crate::specs::Calls::theta_avg_of, crate::specs::Calls::c_avg_of, crate::specs::Calls::ocp_surface, iterate::specs::Iterate::times, refusal::specs::Numbers::refusal_unless, refusal::specs::Numbers::first_refusal, refusal::specs::Answers::outcome))]
 
-ghost use Rattle.std.specs.Prelude.{◌≡◌, ◌≤◌};
+ghost use Rattle.std.specs.Prelude.{◌≡◌, IfOk};
+ghost use Rattle.refusal.specs.Refusals.{refusal_of};
 ghost use Rattle.refusal.specs.Answers.{outcome_of};
 ghost use Rattle.iterate.specs.Iterate.{times};
 ghost use Rattle.diffusion.specs.SubStep.{sub_step};
 ghost use Rattle.particle.specs.Checks.{fields_fit_of, particle_refusal};
 ghost use Rattle.particle.specs.Particle.{particle_of, spacing, sub_step_params_of, surface_theta, surface_potential, stable_step, average, average_theta};
+ghost use Rattle.particle.specs.Answers.{particle_answered};
 ghost use Rattle.particle.specs.Calls.{no_particle, made, step_refusal, accepted, stepped, dt_stable, theta_surface, theta_avg_of, c_avg_of, ocp_surface};
 
 use electrode::ElectrodeParams;
 use profile::sub_step::{count_f64, inverse_radii, prepare, sub_steps};
-use profile::{profile_finite, profile_fits, sums_of, uniform};
-use refusal::Answer;
+use profile::{Nodes, profile_finite, profile_fits, sums_of};
+use refusal::{
+    Refusal, finite_or_refused, interval_fits, load_fits, refuse_unless, temperature_fits,
+};
 
 #[derive(Clone, Copy)]
 pub struct ParticleDiffusion {
     pub params: ElectrodeParams,
-    // How many nodes: 0 is the centre, n_nodes - 1 the surface.
+    // How many nodes: 0 is the centre, n_nodes - 1 the surface. A number, as in C: one outside 3 to 64 is refused.
     pub n_nodes: usize,
     // Concentration of lithium at each node, mol/m^3; the places from n_nodes on are +0.
     pub c_s: [f64; 64],
 }
 
-// A particle, and 0 or the number of the refusal.
+// A particle of 3 to 64 nodes whose profile is lent.
 #[derive(Clone, Copy)]
-pub struct ParticleAnswer {
-    pub refusal: u64,
-    pub particle: ParticleDiffusion,
+pub struct ParticleView<'a> {
+    pub params: ElectrodeParams,
+    pub n: Nodes,
+    pub c: &'a [f64; 64],
 }
 
-// ---- parts of a particle that fits: its sheet, its count of nodes and its profile, which is lent
+impl<'a> ParticleView<'a> {
+    // Whether the sheet and the profile are as they must be.
+    pub fn fits(&self) -> bool
+        ensures { result ≡ fields_fit_of (particle_of self.now.params self.now.n self.now.c.now) }
+    {
+        self.params.fits() & profile_fits(self.c, self.n.count(), self.params.c_s_max)
+    }
 
-// Whether the sheet and the profile are as they must be.
-pub fn fields_fit(params: ElectrodeParams, n: usize, c: &[f64; 64]) -> bool
-    ensures { result ≡ fields_fit_of (particle_of params n c.now) }
-{
-    params.fits() & profile_fits(c, n, params.c_s_max)
+    // The stoichiometry at the surface.
+    pub fn surface_theta(&self) -> f64
+        ensures { result ≡ surface_theta (particle_of self.now.params self.now.n self.now.c.now) }
+    {
+        let last = self.n.count() - 1;
+        self.c[last] / self.params.c_s_max
+    }
+
+    // The open-circuit potential at the surface.
+    pub fn surface_potential(&self) -> f64
+        ensures { result ≡ surface_potential (particle_of self.now.params self.now.n self.now.c.now) }
+    {
+        self.params.open_circuit(self.surface_theta())
+    }
+
+    // The average concentration.
+    pub fn average(&self) -> f64
+        ensures { result ≡ average (particle_of self.now.params self.now.n self.now.c.now) }
+    {
+        let r_max = self.params.r_particle;
+        let dr = spacing(self.params, self.n);
+        let s = sums_of(self.c, self.n.count(), dr);
+        if s.shares < 1e-30 {
+            return self.c[0];
+        }
+        3.0 * s.content / (r_max * r_max * r_max) * dr / 3.0
+    }
+
+    // The average stoichiometry.
+    pub fn average_theta(&self) -> f64
+        ensures { result ≡ average_theta (particle_of self.now.params self.now.n self.now.c.now) }
+    {
+        self.average() / self.params.c_s_max
+    }
 }
 
 // The distance between two nodes.
-fn spacing(params: ElectrodeParams, n: usize) -> f64
-    requires { (3 ≤ n) × (n ≤ 64) }
+fn spacing(params: ElectrodeParams, n: Nodes) -> f64
     ensures { result ≡ spacing params n }
 {
-    params.r_particle / count_f64(n - 1)
-}
-
-// The stoichiometry at the surface.
-pub fn surface_theta(params: ElectrodeParams, n: usize, c: &[f64; 64]) -> f64
-    requires { (3 ≤ n) × (n ≤ 64) }
-    ensures { result ≡ surface_theta (particle_of params n c.now) }
-{
-    let last = n - 1;
-    c[last] / params.c_s_max
-}
-
-// The open-circuit potential at the surface.
-pub fn surface_potential(params: ElectrodeParams, n: usize, c: &[f64; 64]) -> f64
-    requires { (3 ≤ n) × (n ≤ 64) }
-    ensures { result ≡ surface_potential (particle_of params n c.now) }
-{
-    params.open_circuit(surface_theta(params, n, c))
+    params.r_particle / count_f64(n.count() - 1)
 }
 
 // The longest stable interval at a diffusivity.
-pub fn stable_step(params: ElectrodeParams, n: usize, d_s: f64) -> f64
-    requires { (3 ≤ n) × (n ≤ 64) }
+pub fn stable_step(params: ElectrodeParams, n: Nodes, d_s: f64) -> f64
     ensures { result ≡ stable_step params n d_s }
 {
     let dr = spacing(params, n);
     0.5 * dr * dr / d_s
 }
 
-// The average concentration.
-pub fn average(params: ElectrodeParams, n: usize, c: &[f64; 64]) -> f64
-    requires { (3 ≤ n) × (n ≤ 64) }
-    ensures { result ≡ average (particle_of params n c.now) }
-{
-    let r_max = params.r_particle;
-    let dr = spacing(params, n);
-    let s = sums_of(c, n, dr);
-    if s.shares < 1e-30 {
-        return c[0];
-    }
-    3.0 * s.content / (r_max * r_max * r_max) * dr / 3.0
-}
-
-// The average stoichiometry.
-pub fn average_theta(params: ElectrodeParams, n: usize, c: &[f64; 64]) -> f64
-    requires { (3 ≤ n) × (n ≤ 64) }
-    ensures { result ≡ average_theta (particle_of params n c.now) }
-{
-    average(params, n, c) / params.c_s_max
-}
-
 // The profile after so many sub-steps of the length dt.
 pub fn advance(
     params: ElectrodeParams,
-    n: usize,
+    n: Nodes,
     c: [f64; 64],
     d_s: f64,
     j_n: f64,
     dt: f64,
     turns: usize,
 ) -> [f64; 64]
-    requires { (3 ≤ n) × (n ≤ 64) }
     ensures { result ≡ times turns (sub_step (sub_step_params_of (particle_of params n c) d_s j_n dt)) c }
 {
     let dr = spacing(params, n);
-    let v = prepare(n, dr, d_s, params.c_s_max, j_n, dt);
-    let w = inverse_radii(n, dr);
+    let count = n.count();
+    let v = prepare(count, dr, d_s, params.c_s_max, j_n, dt);
+    let w = inverse_radii(count, dr);
     sub_steps(v, &w, c, turns)
 }
 
 impl ParticleDiffusion {
-    // The number of the table that the particle meets, 0 for none.
-    pub fn refusal(self) -> u64
-        ensures { result ≡ particle_refusal self }
+    // The particle lent, with the count of its nodes.
+    pub fn view(&self, n: Nodes) -> ParticleView<'_>
+        ensures sheet { result.params ≡ self.now.params }
+        ensures nodes { result.n ≡ n }
+        ensures places { result.c.now ≡ self.now.c_s }
     {
-        let few = refusal::refusal_unless(
-            refusal::count_within(self.n_nodes as u64, 3, 64),
-            refusal::GRID,
-        );
-        if few != 0 {
-            return few;
+        ParticleView {
+            params: self.params,
+            n,
+            c: &self.c_s,
         }
-        let fits = fields_fit(self.params, self.n_nodes, &self.c_s);
-        refusal::refusal_unless(fits, refusal::SHEET)
+    }
+
+    // The count of its nodes, or the refusal that the particle meets.
+    #[tactic(auto, unfolding(crate::specs::Checks::particle_refusal, refusal::specs::Numbers::refusal_unless, refusal::specs::Numbers::first_refusal))]
+    pub fn check(self) -> Result<Nodes, Refusal>
+        ensures refused { refusal_of result ≡ particle_refusal self }
+        ensures counted { IfOk result (λ n. n ≡ self.n_nodes) }
+    {
+        let n = Nodes::new(self.n_nodes)?;
+        refuse_unless(self.view(n).fits(), Refusal::Sheet)?;
+        Ok(n)
     }
 
     // ---- calls
 
     // A particle with the same stoichiometry at all nodes.
-    pub fn new(params: ElectrodeParams, n_nodes: usize) -> ParticleAnswer
-        ensures { result ≡ made params n_nodes }
+    pub fn new(params: ElectrodeParams, n_nodes: usize) -> Result<ParticleDiffusion, Refusal>
+        ensures { particle_answered no_particle result ≡ made params n_nodes }
     {
-        let few = refusal::refusal_unless(
-            refusal::count_within(n_nodes as u64, 3, 64),
-            refusal::GRID,
-        );
-        let refusal = refusal::first_refusal(
-            few,
-            refusal::refusal_unless(params.fits(), refusal::SHEET),
-        );
-        if refusal != 0 {
-            return ParticleAnswer {
-                refusal,
-                particle: no_particle(),
-            };
-        }
-        let c_s = uniform(params.theta_init * params.c_s_max, n_nodes);
-        ParticleAnswer {
-            refusal: 0,
-            particle: ParticleDiffusion {
-                params,
-                n_nodes,
-                c_s,
-            },
-        }
+        Nodes::new(n_nodes)?;
+        refuse_unless(params.fits(), Refusal::Sheet)?;
+        let c_s = arrays::uniform::<64>(params.theta_init * params.c_s_max, n_nodes);
+        Ok(ParticleDiffusion {
+            params,
+            n_nodes,
+            c_s,
+        })
     }
 
-    // The number of the table that a step meets before it is made.
-    pub fn step_refusal(self, j_n: f64, dt: f64, temp_k: f64) -> u64
-        ensures { result ≡ step_refusal self j_n dt temp_k }
+    // The count of its nodes, or the refusal that a step meets before it is made.
+    pub fn check_step(self, j_n: f64, dt: f64, temp_k: f64) -> Result<Nodes, Refusal>
+        ensures refused { refusal_of result ≡ step_refusal self j_n dt temp_k }
+        ensures counted { IfOk result (λ n. n ≡ self.n_nodes) }
     {
-        let load = refusal::refusal_unless(refusal::load_fits(j_n, 1e13), refusal::LOAD);
-        let interval = refusal::refusal_unless(refusal::interval_fits(dt), refusal::INTERVAL);
-        let temperature = refusal::refusal_unless(
-            refusal::temperature_fits(temp_k),
-            refusal::TEMPERATURE,
-        );
-        refusal::first_refusal(
-            self.refusal(),
-            refusal::first_refusal(load, refusal::first_refusal(interval, temperature)),
-        )
+        let n = self.check()?;
+        refuse_unless(load_fits(j_n, 1e13), Refusal::Load)?;
+        refuse_unless(interval_fits(dt), Refusal::Interval)?;
+        refuse_unless(temperature_fits(temp_k), Refusal::Temperature)?;
+        Ok(n)
     }
 
-    // The particle with a new profile, or 8 and the particle as it was.
-    fn accepted(self, c_s: [f64; 64]) -> ParticleAnswer
-        ensures { result ≡ accepted self c_s }
+    // The particle with a new profile, which is refused where a place is not finite.
+    fn accepted(self, c_s: [f64; 64]) -> Result<ParticleDiffusion, Refusal>
+        ensures { particle_answered self result ≡ accepted self c_s }
     {
-        if profile_finite(&c_s) {
-            let params = self.params;
-            return ParticleAnswer {
-                refusal: 0,
-                particle: ParticleDiffusion {
-                    params,
-                    n_nodes: self.n_nodes,
-                    c_s,
-                },
-            };
-        }
-        ParticleAnswer {
-            refusal: refusal::NOT_FINITE,
-            particle: self,
-        }
+        refuse_unless(profile_finite(&c_s), Refusal::NotFinite)?;
+        Ok(ParticleDiffusion { c_s, ..self })
     }
 
     // One explicit step: a flux into the particle, mol/(m^2 s), for an interval in s at a temperature in K.
     // WARNING: a node that would leave 0 to c_s_max is set to that end, and the lithium beyond it is lost.
-    pub fn step(self, j_n: f64, dt: f64, temp_k: f64) -> ParticleAnswer
-        ensures { result ≡ stepped self j_n dt temp_k }
+    pub fn step(self, j_n: f64, dt: f64, temp_k: f64) -> Result<ParticleDiffusion, Refusal>
+        ensures { particle_answered self result ≡ stepped self j_n dt temp_k }
     {
-        let refusal = self.step_refusal(j_n, dt, temp_k);
-        if refusal != 0 {
-            return ParticleAnswer {
-                refusal,
-                particle: self,
-            };
-        }
-        let params = self.params;
-        let d_s = params.diffusivity_at(temp_k);
-        let old = self.c_s;
-        let c_s = advance(params, self.n_nodes, old, d_s, j_n, dt, 1);
+        let n = self.check_step(j_n, dt, temp_k)?;
+        let d_s = self.params.diffusivity_at(temp_k);
+        let c_s = advance(self.params, n, self.c_s, d_s, j_n, dt, 1);
         self.accepted(c_s)
     }
 
     // The longest stable interval at a temperature, s.
-    pub fn dt_stable(self, temp_k: f64) -> Answer
+    pub fn dt_stable(self, temp_k: f64) -> Result<f64, Refusal>
         ensures { outcome_of result ≡ dt_stable self temp_k }
     {
-        let temperature = refusal::refusal_unless(
-            refusal::temperature_fits(temp_k),
-            refusal::TEMPERATURE,
-        );
-        let number = refusal::first_refusal(self.refusal(), temperature);
-        if number != 0 {
-            return refusal::answered(number, 0.0);
-        }
-        let params = self.params;
-        let d_s = params.diffusivity_at(temp_k);
-        refusal::answered(number, stable_step(params, self.n_nodes, d_s))
+        let nodes = self.check()?;
+        refuse_unless(temperature_fits(temp_k), Refusal::Temperature)?;
+        let d_s = self.params.diffusivity_at(temp_k);
+        finite_or_refused(stable_step(self.params, nodes, d_s))
     }
 
     // Stoichiometry at the surface.
-    pub fn theta_surface(self) -> Answer
+    pub fn theta_surface(self) -> Result<f64, Refusal>
         ensures { outcome_of result ≡ theta_surface self }
     {
-        let number = self.refusal();
-        if number != 0 {
-            return refusal::answered(number, 0.0);
-        }
-        refusal::answered(number, surface_theta(self.params, self.n_nodes, &self.c_s))
+        let n = self.check()?;
+        finite_or_refused(self.view(n).surface_theta())
     }
 
     // Average stoichiometry. WARNING: wrong where the count of nodes is even.
-    pub fn theta_avg(self) -> Answer
+    pub fn theta_avg(self) -> Result<f64, Refusal>
         ensures { outcome_of result ≡ theta_avg_of self }
     {
-        let number = self.refusal();
-        if number != 0 {
-            return refusal::answered(number, 0.0);
-        }
-        refusal::answered(number, average_theta(self.params, self.n_nodes, &self.c_s))
+        let n = self.check()?;
+        finite_or_refused(self.view(n).average_theta())
     }
 
     // Average concentration, mol/m^3. WARNING: wrong where the count of nodes is even.
-    pub fn c_avg(self) -> Answer
+    pub fn c_avg(self) -> Result<f64, Refusal>
         ensures { outcome_of result ≡ c_avg_of self }
     {
-        let number = self.refusal();
-        if number != 0 {
-            return refusal::answered(number, 0.0);
-        }
-        refusal::answered(number, average(self.params, self.n_nodes, &self.c_s))
+        let n = self.check()?;
+        finite_or_refused(self.view(n).average())
     }
 
     // Open-circuit potential at the surface, V.
-    pub fn ocp_surface(self) -> Answer
+    pub fn ocp_surface(self) -> Result<f64, Refusal>
         ensures { outcome_of result ≡ ocp_surface self }
     {
-        let number = self.refusal();
-        if number != 0 {
-            return refusal::answered(number, 0.0);
-        }
-        refusal::answered(
-            number,
-            surface_potential(self.params, self.n_nodes, &self.c_s),
-        )
-    }
-}
-
-// The particle beside a refused build: every number +0, every count 0.
-pub fn no_particle() -> ParticleDiffusion
-    ensures { result ≡ no_particle }
-{
-    let params = ElectrodeParams {
-        electrode_type: 0,
-        r_particle: 0.0,
-        d_s_ref: 0.0,
-        c_s_max: 0.0,
-        theta_init: 0.0,
-        thickness: 0.0,
-        epsilon_s: 0.0,
-        area: 0.0,
-        e_a_ds: 0.0,
-        k_bv: 0.0,
-        t_ref: 0.0,
-    };
-    ParticleDiffusion {
-        params,
-        n_nodes: 0,
-        c_s: [0.0; 64],
+        let n = self.check()?;
+        finite_or_refused(self.view(n).surface_potential())
     }
 }

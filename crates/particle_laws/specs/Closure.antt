@@ -36,7 +36,7 @@ use Rattle.diffusion.specs.Premises.{zero_fine, zero_val}
 use Rattle.diffusion.proofs.Profile as Profile
 use Rattle.profile.specs.Places.{profile_fits, finite_profile}
 use Rattle.particle.specs.declared.ParticleDiffusion.{ParticleDiffusion}
-use Rattle.particle.specs.declared.ParticleAnswer.{ParticleAnswer}
+use Rattle.particle.specs.Answers.{ParticleAnswer}
 use Rattle.particle.specs.Checks.{nodes_fit, particle_refusal, nodes_valid}
 use Rattle.particle.specs.Particle.{place_of, with_profile, sub_step_params_of}
 use Rattle.particle.specs.Calls.{particle_answer, new_refusal, fresh, no_particle, made, step_refusal, step_particle, accepted, stepped}

@@ -19,7 +19,7 @@ use Rattle.diffusion.specs.Calls.{Stepper, after, accepted, total, exact_after, 
 use Rattle.diffusion.proofs.CallLaws.{calls_near}
 use Rattle.diffusion.proofs.CallLaws.{each_with}
 use Rattle.particle.specs.declared.ParticleDiffusion.{ParticleDiffusion}
-use Rattle.particle.specs.declared.ParticleAnswer.{ParticleAnswer}
+use Rattle.particle.specs.Answers.{ParticleAnswer}
 use Rattle.particle.specs.Checks.{particle_refusal}
 use Rattle.particle.specs.Particle.{spacing, place_of, sub_step_params_of}
 use Rattle.particle.specs.Calls.{stepped}

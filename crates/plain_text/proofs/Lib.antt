@@ -1,2 +1,2 @@
--- Ahead: what a text begins with, byte by byte.
+-- Ahead: what a text begins and ends with, byte by byte.
 pub mod Ahead

@@ -1,15 +1,16 @@
 // The profile of a particle: 64 places, the first n used. What it is checked for, and the sums of its average over the
 // volume; the sub-step that makes it anew (`sub_step`). A changed translation of src/battery/p2d/electrode.rs (`ParticleDiffusion::c_avg`).
-#![tactic(auto)]
+#![tactic(auto, unfolding(crate::specs::Places::profile_fits, crate::specs::Sums::sums_after, crate::specs::SubSteps::inverse_radii, iterate::specs::Iterate::first_by, iterate::specs::Iterate::times))]
 
+pub mod nodes;
 pub mod sub_step;
 
-ghost use Rattle.std.specs.Prelude.{◌≡◌, ◌≤◌, ◌<◌};
-ghost use Rattle.arrays.specs.Places.{filled};
+ghost use Rattle.std.specs.Prelude.{◌≡◌, ◌<◌, ◌≤◌};
 ghost use Rattle.profile.specs.Places.{profile_fits, finite_profile};
 ghost use Rattle.profile.specs.Weights.{weight};
 ghost use Rattle.profile.specs.Sums.{added_by, sums_after};
 
+pub use nodes::Nodes;
 use sub_step::count_f64;
 
 // Whether the first n places are in 0 to c_max and the others +0.
@@ -26,16 +27,6 @@ pub fn profile_finite(c: &[f64; 64]) -> bool
     arrays::all_finite(c, 64)
 }
 
-// x in the first n places, +0 in the others.
-pub fn uniform(x: f64, n: usize) -> [f64; 64]
-    requires { n ≤ 64 }
-    ensures { result ≡ filled 64 x n }
-{
-    let mut c_s = [0.0; 64];
-    arrays::fill(&mut c_s, n, x);
-    c_s
-}
-
 // The sums over the places so far: of the shares of the volume, and of these with the concentrations.
 #[derive(Clone, Copy)]
 pub struct Sums {
@@ -44,6 +35,7 @@ pub struct Sums {
 }
 
 // The weight of the place i of n: 1 at both ends, between them 2 at even places and 4 at odd ones.
+#[tactic(auto, unfolding(crate::specs::Weights::weight, crate::specs::Weights::inner_weight))]
 fn weight(n: usize, i: usize) -> f64
     requires { 1 ≤ n }
     ensures { result ≡ weight n i }
@@ -71,6 +63,7 @@ fn added(s: Sums, w: f64, dr: f64, i: usize, c: f64) -> Sums
 }
 
 // The sums over the first n places.
+// By number: a place's is in its weight and its radius. The count is a number, so that this and `inverse_radii` take what they always took.
 pub fn sums_of(c: &[f64; 64], n: usize, dr: f64) -> Sums
     requires { (1 ≤ n) × (n ≤ 64) }
     ensures { result ≡ sums_after c.now n dr n }

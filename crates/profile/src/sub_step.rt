@@ -9,6 +9,7 @@ ghost use Rattle.profile.specs.SubSteps.{prepared, inverse_radii, centre_by, she
 // What does not change within a call.
 #[derive(Clone, Copy)]
 pub struct SubStepCoefficients {
+    // The count of nodes: a number, since the borrow checker does not cover copies of a record that holds a `Nodes`.
     pub n: usize,
     // The diffusivity, and six times it.
     pub d_s: f64,
@@ -47,6 +48,7 @@ pub fn count_f64(n: usize) -> f64
 }
 
 // 2 / r for the radius r of each node but the centre's.
+// By number: a node's is in its radius.
 pub fn inverse_radii(n: usize, dr: f64) -> [f64; 64]
     requires { n ≤ 64 }
     ensures { result ≡ inverse_radii n dr }
@@ -90,6 +92,7 @@ fn shell_node(v: SubStepCoefficients, w: f64, before: f64, here: f64, after: f64
 
 // The profile after a sub-step: each node from its old neighbours, of which the one before is kept aside. The flux gives the surface a
 // neighbour outside.
+// By index, for the neighbours.
 fn sub_step(v: SubStepCoefficients, w: &[f64; 64], c: [f64; 64]) -> [f64; 64]
     requires { (3 ≤ v.n) × (v.n ≤ 64) }
     ensures { result ≡ sub_step_by v w.now c }
@@ -114,6 +117,7 @@ pub fn sub_steps(v: SubStepCoefficients, w: &[f64; 64], c: [f64; 64], turns: usi
 {
     let mut out = c;
     for k in 0..turns {
+        // In a binding of its own: the borrow checker does not cover a call's array laid in a local that it was passed from.
         let next = sub_step(v, w, out);
         out = next;
     }

@@ -1,20 +1,20 @@
 -- What the answer of a call that gives a number says, in the terms of docs/REFERENCE.md: the number of the refusal and no value, or 0 and the value.
 -- Definitions, and one law. Assumes nothing.
-use Rattle.std.specs.Prelude.{ℕ, ◌≡◌, cond, List, [], ◌∷◌, eqb, Float}
+use Rattle.std.specs.Prelude.{ℕ, ◌≡◌, cond, List, [], ◌∷◌, eqb, Float, Result, Ok, Err}
 use Rattle.std.proofs.Common.{ne_eqb}
 use Rattle.refusal.specs.Numbers.{first_refusal, refusal_unless, not_finite_of}
 use Rattle.refusal.specs.Ranges.{finite}
-use Rattle.refusal.specs.declared.Answer.{Answer}
-use Rattle.refusal.specs.declared.Answer.TheVariants.{Value, Refused}
+use Rattle.refusal.specs.declared.Refusal.{Refusal}
+use Rattle.refusal.specs.Refusals.{number_of}
 
 pub record Outcome : Type 0 where
   pub refusal : ℕ
   pub values : List Float
 
--- each case of the enum
-abbrev pub outcome_of : Answer → Outcome
-outcome_of (Value x) = record { refusal = 0; values = x ∷ [] }
-outcome_of (Refused k) = record { refusal = k; values = [] }
+-- a value, or the row that refuses it
+abbrev pub outcome_of : Result Float Refusal → Outcome
+outcome_of (Ok x) = record { refusal = 0; values = x ∷ [] }
+outcome_of (Err e) = record { refusal = number_of e; values = [] }
 
 -- a call that meets the number n, 0 for none, and whose value is x
 unfoldable pub outcome : ℕ → Float → Outcome

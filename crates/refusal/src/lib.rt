@@ -1,51 +1,82 @@
-// Refusals: the numbers of docs/REFERENCE.md's table, and the tests that several calls share. A refusal is a number, and 0 is
-// none; so a call chains its tests in the table's order and branches once.
-#![tactic(auto)]
+// Refusals: the rows of docs/REFERENCE.md's table, and the tests that several calls share. A call makes its tests in the table's
+// order, and `?` ends it at the first that fails.
+#![tactic(auto, unfolding(crate::specs::Numbers::refusal_unless, crate::specs::Numbers::first_refusal, crate::specs::Answers::outcome))]
 
 ghost use Rattle.std.specs.Prelude.{◌≡◌};
-ghost use Rattle.refusal.specs.Numbers.{refusal_unless, first_refusal};
+ghost use Rattle.refusal.specs.Numbers.{refusal_unless};
+ghost use Rattle.refusal.specs.Refusals.{number_of, refusal_of};
 ghost use Rattle.refusal.specs.Answers.{outcome_of, finite_outcome};
 ghost use Rattle.refusal.specs.Ranges.{in_range, count_in_range, finite, plus_zero, load_fits_of, interval_fits, temperature_fits, clock_fits};
 
-// A node count, a matrix order or a pack's number of cells outside its limits.
-pub const GRID: u64 = 1;
-// Another field, argument, chemistry or matrix entry not finite or out of range.
-pub const SHEET: u64 = 2;
-// A current, a flux or a source not finite or too large.
-pub const LOAD: u64 = 3;
-// An interval out of range, or a run's time limit not finite.
-pub const INTERVAL: u64 = 4;
-// A temperature out of 200 to 400 K.
-pub const TEMPERATURE: u64 = 5;
-// A corrected diffusivity out of range.
-pub const DIFFUSIVITY: u64 = 6;
-// More than 4,096 sub-steps.
-pub const SUB_STEPS: u64 = 7;
-// The new cell, report, number or solution would hold a NaN or an infinity.
-pub const NOT_FINITE: u64 = 8;
-// A column's largest pivot below 1e-14.
-pub const SINGULAR: u64 = 9;
-// A run's slice under eight places, or matrix lengths that are not n * n and n.
-pub const LENGTH: u64 = 10;
-// A line of a recorded load not of its form.
-pub const LINE: u64 = 11;
-// A recorded load above 65,536 bytes.
-pub const FILE: u64 = 12;
-// A cell's index not below the number of cells in its pack.
-pub const INDEX: u64 = 13;
-
-// 0 where the test passed, else the number.
-pub fn refusal_unless(ok: bool, number: u64) -> u64
-    ensures { result ≡ refusal_unless ok number }
-{
-    if ok { 0 } else { number }
+// A row of the table: why a call is refused.
+#[derive(Clone, Copy, Debug, PartialEq, Eq, Hash)]
+pub enum Refusal {
+    // A node count, a matrix order or a pack's number of cells outside its limits.
+    Grid,
+    // Another field, argument, chemistry or matrix entry not finite or out of range.
+    Sheet,
+    // A current, a flux or a source not finite or too large.
+    Load,
+    // An interval out of range, or a run's time limit not finite.
+    Interval,
+    // A temperature out of 200 to 400 K.
+    Temperature,
+    // A corrected diffusivity out of range.
+    Diffusivity,
+    // More than 4,096 sub-steps.
+    SubSteps,
+    // The new cell, report, number or solution would hold a NaN or an infinity.
+    NotFinite,
+    // A column's largest pivot below 1e-14.
+    Singular,
+    // A run's slice under eight places, or matrix lengths that are not n * n and n.
+    Length,
+    // A line of a recorded load not of its form.
+    Line,
+    // A recorded load above 65,536 bytes.
+    File,
+    // A cell's index not below the number of cells in its pack.
+    Index,
 }
 
-// The first of two that is met: a, and where a is none, b.
-pub fn first_refusal(a: u64, b: u64) -> u64
-    ensures { result ≡ first_refusal a b }
+impl Refusal {
+    // The number of the row.
+    pub fn number(self) -> u64
+        ensures { result ≡ number_of self }
+    {
+        match self {
+            Refusal::Grid => 1,
+            Refusal::Sheet => 2,
+            Refusal::Load => 3,
+            Refusal::Interval => 4,
+            Refusal::Temperature => 5,
+            Refusal::Diffusivity => 6,
+            Refusal::SubSteps => 7,
+            Refusal::NotFinite => 8,
+            Refusal::Singular => 9,
+            Refusal::Length => 10,
+            Refusal::Line => 11,
+            Refusal::File => 12,
+            Refusal::Index => 13,
+        }
+    }
+}
+
+// The number that a call in C returns: 0 where nothing is refused.
+pub fn number_or_0(tested: Result<(), Refusal>) -> u64
+    ensures { result ≡ refusal_of tested }
 {
-    if a == 0 { b } else { a }
+    match tested {
+        Ok(()) => 0,
+        Err(e) => e.number(),
+    }
+}
+
+// Refuses where a test has not passed.
+pub fn refuse_unless(passed: bool, refusal: Refusal) -> Result<(), Refusal>
+    ensures { refusal_of result ≡ refusal_unless passed (number_of refusal) }
+{
+    if passed { Ok(()) } else { Err(refusal) }
 }
 
 // Whether low <= x <= high. No NaN is in a range; -0 is in one that starts at 0.
@@ -104,21 +135,18 @@ pub fn clock_fits(time_s: f64) -> bool
     is_finite(time_s) & (0.0 <= time_s)
 }
 
-// What a call that gives a number answers.
-#[derive(Clone, Copy)]
-pub enum Answer {
-    Value(f64),
-    Refused(u64),
+// A number that a call gives, refused where it is not finite.
+pub fn finite_or_refused(x: f64) -> Result<f64, Refusal>
+    ensures { outcome_of result ≡ finite_outcome 0 x }
+{
+    refuse_unless(is_finite(x), Refusal::NotFinite)?;
+    Ok(x)
 }
 
-// The answer of a call whose tests met `refusal`, 0 for none, and whose value is x: 8 where that is not finite.
-pub fn answered(refusal: u64, x: f64) -> Answer
-    ensures { outcome_of result ≡ finite_outcome refusal x }
+// The same of a call with tests, which come first.
+pub fn answered(tested: Result<(), Refusal>, x: f64) -> Result<f64, Refusal>
+    ensures { outcome_of result ≡ finite_outcome (refusal_of tested) x }
 {
-    let number = first_refusal(refusal, refusal_unless(is_finite(x), NOT_FINITE));
-    if number == 0 {
-        Answer::Value(x)
-    } else {
-        Answer::Refused(number)
-    }
+    tested?;
+    finite_or_refused(x)
 }

@@ -1,80 +1,65 @@
 // The arguments: the first may name the cell, one is load=FILE, each other one is NAME=VALUE.
-use cell_file::Settings;
+use cell_file::{Settings, place_on};
 use command_line::arguments;
-use command_line::arguments::refused;
+use command_line::arguments::{Said, refused};
 use std::env::Env;
 use std::rt::Files;
 
-// The numbers, and which argument names the load file, 0 for none.
+// The numbers, and which argument names the load file.
 #[derive(Clone, Copy)]
 pub(crate) struct Arguments {
     pub(crate) settings: Settings,
-    pub(crate) load: usize,
+    pub(crate) load: Option<usize>,
 }
 
 // Takes an argument that sets a number.
-fn take_setting(st: Settings, i: usize, word: &[u8]) -> Settings {
-    if setting_table::names::in_load(cell_file::setting_on(word).place) {
-        return refused(
-            st,
-            word,
-            b"a replay has current, dt and time from its load file",
-        );
+fn take_setting(st: Settings, i: usize, word: &[u8]) -> Result<Settings, Said> {
+    if let Some(k) = place_on(word) {
+        if k.in_load() {
+            return Err(refused(
+                word,
+                b"a replay has current, dt and time from its load file",
+            ));
+        }
     }
     arguments::take_argument(st, i, word, b"replay")
 }
 
 // Takes load=FILE.
-fn take_load(g: Arguments, i: usize, word: &[u8]) -> Arguments {
-    let st = g.settings;
-    if word.len() == 5 {
-        return Arguments {
-            settings: refused(st, word, b"expected load=FILE"),
-            load: i,
-        };
+fn take_load(g: Arguments, i: usize, word: &[u8]) -> Result<Arguments, Said> {
+    if word == b"load=".as_slice() {
+        return Err(refused(word, b"expected load=FILE"));
     }
-    if g.load != 0 {
-        return Arguments {
-            settings: refused(st, word, b"given twice"),
-            load: i,
-        };
+    if g.load.is_some() {
+        return Err(refused(word, b"given twice"));
     }
-    Arguments {
-        settings: st,
-        load: i,
-    }
+    Ok(Arguments {
+        settings: g.settings,
+        load: Some(i),
+    })
 }
 
-// Takes argument i, unless a fault was met before.
-fn take(rt: &impl Env, g: Arguments, i: usize) -> Arguments {
-    if g.settings.fault != 0 {
-        return g;
-    }
+// Takes argument i.
+fn take(rt: &impl Env, g: Arguments, i: usize) -> Result<Arguments, Said> {
     let mut text = io::buffer();
-    let size = arguments::argument(rt, i, &mut text);
-    let word = &text[..size];
-    if plain_text::starts_with(word, b"load=") {
+    let word = arguments::argument(rt, i, &mut text);
+    if word.starts_with(b"load=") {
         return take_load(g, i, word);
     }
-    let load = g.load;
-    Arguments {
-        settings: take_setting(g.settings, i, word),
-        load,
-    }
+    Ok(Arguments {
+        settings: take_setting(g.settings, i, word)?,
+        load: g.load,
+    })
 }
 
-// What all arguments say, of which the first is at hand, or those before the first that is wrong.
-pub(crate) fn given(rt: &(impl Env + Files), first: &[u8]) -> Arguments {
+// What all arguments say, of which the first is at hand.
+pub(crate) fn given(rt: &(impl Env + Files), first: &[u8]) -> Result<Arguments, Said> {
     let mut g = Arguments {
-        settings: arguments::first_settings(rt, first, b"replay"),
-        load: 0,
+        settings: arguments::first_settings(rt, first, b"replay")?,
+        load: None,
     };
-    let n = arguments::argument_count(rt);
-    let mut i = arguments::first_place(first);
-    while i < n {
-        let next = take(rt, g, i);
-        g = next;
-        i += 1;
+    for i in arguments::first_place(first)..arguments::argument_count(rt) {
+        g = take(rt, g, i)?;
     }
-    g
+    Ok(g)
 }

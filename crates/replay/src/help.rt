@@ -1,6 +1,7 @@
 // What the program takes: the load file and the list of names, with units, ranges and what a run starts from.
 use csv_rows::OUT;
-use setting_messages::{range, say};
+use setting_messages::{Instead, range, say};
+use setting_table::names::{CURRENT, DT, Place};
 
 pub(crate) fn write_help() {
     say(
@@ -11,9 +12,9 @@ pub(crate) fn write_help() {
         OUT,
         b"Replays a recorded load on a cell, a step for each line of the load file, and writes its rows as CSV. A line has the interval (",
     );
-    range(OUT, 1);
+    range(OUT, Place::at(DT));
     say(OUT, b") and the current\n(");
-    range(OUT, 0);
+    range(OUT, Place::at(CURRENT));
     say(
         OUT,
         b"; a charge is negative), each as the 16 hexadecimal digits, in upper case, of its binary64, with one tab between them and a line feed at the end;\n",
@@ -26,7 +27,7 @@ pub(crate) fn write_help() {
         OUT,
         b"\nThe names, what each starts from for nmc, and its range:\n\n",
     );
-    setting_messages::write_names(true, false);
+    setting_messages::write_names(Instead::Load);
     say(
         OUT,
         b"What it sets for current, dt or time is taken and has no effect: the load file has them.\n",

@@ -10,9 +10,10 @@ ghost use Rattle.std.specs.Prelude.{◌≡◌, length};
 
 use command_line::ending;
 use csv_rows::OUT;
+use refusal::Refusal;
 use runs::Ending;
 use setting_messages::{ERR, say};
-use setting_table::names::NONE;
+use setting_table::names::{NONE, TEMPERATURE};
 use solver::SpmSolver;
 use std::env::Env;
 use std::rt::Files;
@@ -24,72 +25,68 @@ fn load_buffer() -> [u8; 65537]
     [0; 65537]
 }
 
-// Whether a line was refused; the other numbers refuse a replay before its first line.
-fn of_a_line(number: u64) -> bool {
-    let numbers = (number == refusal::LOAD) | (number == refusal::INTERVAL);
-    let step = (number == refusal::DIFFUSIVITY)
-        | (number == refusal::SUB_STEPS)
-        | (number == refusal::NOT_FINITE);
-    (number == refusal::LINE) | numbers | step
+// Whether a line was refused; the other refusals come before a replay's first line.
+fn of_a_line(e: Ending) -> bool {
+    matches!(
+        e,
+        Ending::Refused(
+            Refusal::Load
+                | Refusal::Interval
+                | Refusal::Diffusivity
+                | Refusal::SubSteps
+                | Refusal::NotFinite
+                | Refusal::Line
+        )
+    )
 }
 
 fn write_ending(e: Ending, rows: usize) {
     ending::write_ending(e);
-    if of_a_line(runs::ending_refusal(e)) {
+    if of_a_line(e) {
         say(OUT, b" at line ");
-        io::print_decimal(OUT, std::num::wrapping_add_usize(rows, 1) as u64);
+        io::print_decimal(OUT, rows.wrapping_add(1) as u64);
     }
     ending::write_count(rows);
 }
 
 // Replays the file at a path. It has at most 1,927 lines, so that 10,000 rows always have room.
-fn replay(rt: &impl Files, v: [f64; NONE], cell: SpmSolver, named: &[u8], path: &[u8]) {
+fn replay(rt: &impl Files, v: &[f64; NONE], cell: SpmSolver, named: &[u8], path: &[u8]) {
     let mut text = load_buffer();
-    let got = command_line::arguments::read_file(rt, path, &mut text);
-    let size = io::count(got, &text);
-    if got < 0 {
+    let Ok(load) = command_line::arguments::read_file(rt, path, &mut text) else {
         return;
-    }
+    };
     let mut rows = [0.0; 80000];
-    let r = replay_run::replay(cell, &text[..size], v[2], &mut rows);
-    let e = r.ending;
+    let r = replay_run::replay(cell, load, v[TEMPERATURE], &mut rows);
     csv_rows::write_rows(&rows, r.rows);
     ending::write_cell(named);
     say(OUT, b" load=");
     say(OUT, path);
     ending::write_limits(v);
-    write_ending(e, r.rows);
+    write_ending(r.ending, r.rows);
 }
 
 // Builds the cell and replays the file that argument i names, load=FILE.
-fn run(rt: &(impl Env + Files), v: [f64; NONE], named: &[u8], i: usize) {
-    let mut word = io::buffer();
-    let size = command_line::arguments::argument(rt, i, &mut word);
-    let built = command_line::build(&v);
-    if built.refusal != 0 {
-        return;
-    }
-    if 5 <= size {
-        replay(rt, v, built.solver, named, &word[5..size]);
+fn run(rt: &(impl Env + Files), v: &[f64; NONE], named: &[u8], i: usize) {
+    let mut text = io::buffer();
+    let word = command_line::arguments::argument(rt, i, &mut text);
+    if let (Ok(cell), Some(path)) = (command_line::build(v), word.strip_prefix(b"load=")) {
+        replay(rt, v, cell, named, path);
     }
 }
 
 fn main(rt: HostRuntime) {
     let mut text = io::buffer();
-    let size = command_line::arguments::argument(&rt, 1, &mut text);
-    let first = &text[..size];
+    let first = command_line::arguments::argument(&rt, 1, &mut text);
     if command_line::arguments::asks_help(first) {
         help::write_help();
         return;
     }
-    let g = arguments::given(&rt, first);
-    if g.settings.fault != 0 {
+    let Ok(g) = arguments::given(&rt, first) else {
         return;
-    }
-    if g.load == 0 {
+    };
+    let Some(i) = g.load else {
         say(ERR, b"no load: expected load=FILE\n");
         return;
-    }
-    let values = g.settings.values;
-    run(&rt, values, first, g.load);
+    };
+    run(&rt, &g.settings.values, first, i);
 }

@@ -1,11 +1,11 @@
 -- A turn that is not refused writes one row. Assumes nothing.
 use Rattle.std.specs.Prelude.{ℕ, ◌+◌, ◌≡◌, Bool, List, eqb, Float}
-use Rattle.std.proofs.Math.Path.{refl}
+use Rattle.std.proofs.Common.{refl, ap, ◌∙◌, arith}
 use Rattle.std.proofs.Math.Bool.{true, false}
-use Rattle.runs.specs.Endings.{by_refusal}
-use Rattle.solver.specs.declared.SpmStepAnswer.{SpmStepAnswer}
-use Rattle.replay_run.specs.declared.lines.LoadLine.{LoadLine}
-use Rattle.replay_run.specs.declared.ReplayState.{ReplayState}
+use Rattle.runs.specs.Endings.{by_refusal, going_on_of}
+use Rattle.solver.specs.Answers.{SpmStepAnswer}
+use Rattle.replay_run.specs.Answers.{LoadLine}
+use Rattle.replay_run.specs.Answers.{ReplayState}
 use Rattle.replay_run.specs.Lines.{line_at}
 use Rattle.replay_run.specs.Replay.{refused_line, followed, line_turned, turned}
 
@@ -23,3 +23,7 @@ module _ (text : List ℕ) (temp : Float) (r : ReplayState) where
   pub turned_rows : ((turned text temp r).over ≡ by_refusal → ⊥) → (turned text temp r).rows ≡ r.rows + 1
   unfolding turned
   turned_rows h = line_rows (line_at text r.rows) _ refl h
+
+-- after i turns, while the replay goes on, there are i rows
+pub keeps : (text : List ℕ) (temp : Float) (i : ℕ) (r : ReplayState) → r.rows ≡ i → (turned text temp r).over ≡ going_on_of → (turned text temp r).rows ≡ i + 1
+keeps text temp i r h z = turned_rows text temp r (λ e. absurd (omega (arith, z, e))) ∙ ap (λ (k : ℕ). k + 1) h

@@ -8,7 +8,7 @@ use Rattle.std.specs.Float.Ieee.{of_bits}
 use Rattle.std.specs.Float.Ieee.Fits.{and_r}
 use Rattle.iterate.specs.Iterate.{all_below}
 use Rattle.binary64.specs.Literals.{«0·0»}
-use Rattle.replay_run.specs.declared.lines.LoadLine.{LoadLine}
+use Rattle.replay_run.specs.Answers.{LoadLine}
 
 -- ---- digits
 -- '0' to '9', 'A' to 'F'

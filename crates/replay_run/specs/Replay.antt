@@ -5,13 +5,13 @@ use Rattle.refusal.specs.Ranges.{temperature_fits}
 use Rattle.runs.specs.Endings.{ending_of, going_on_of, by_voltage, by_refusal, by_done}
 use Rattle.runs.specs.Rows.{run_after, rows_after}
 use Rattle.solver.specs.declared.SpmSolver.{SpmSolver}
-use Rattle.solver.specs.declared.SpmStepAnswer.{SpmStepAnswer}
+use Rattle.solver.specs.Answers.{SpmStepAnswer}
 use Rattle.solver.specs.Cell.{grid_fits, cell_fits}
 use Rattle.solver.specs.Step.{stepped}
 use Rattle.solver_step.specs.Report.{no_state}
 use Rattle.discharge_run.specs.Discharge.{RunOutcome, row_of, refused_run}
-use Rattle.replay_run.specs.declared.lines.LoadLine.{LoadLine}
-use Rattle.replay_run.specs.declared.ReplayState.{ReplayState}
+use Rattle.replay_run.specs.Answers.{LoadLine}
+use Rattle.replay_run.specs.Answers.{ReplayState}
 use Rattle.replay_run.specs.Lines.{line_at, none_left_of}
 
 -- a text has at most 65,536 bytes

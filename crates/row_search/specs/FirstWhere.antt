@@ -1,6 +1,6 @@
 -- The first place at which a test holds, and a loop that looks for it. Assumes nothing.
 use Prim.Native.Nat.{ℕ, zero, suc, ◌+◌, ◌≤◌, ◌<◌}
-use Rattle.std.specs.Prelude.{◌≡◌, Bool, ◌&&◌}
+use Rattle.std.specs.Prelude.{◌≡◌, Bool, ◌&&◌, Option, Some, None}
 use Rattle.std.proofs.Math.Path.{refl}
 use Rattle.std.proofs.Common.{sym, not-suc-le-zero, eq-or-lt_of_le, le_of_suc-le-suc}
 use Rattle.std.proofs.Math.Bool.{true, false}
@@ -51,6 +51,11 @@ pub record First (p : ℕ → Bool) (start end r : ℕ) : Type 0 where
   pub before : (j : ℕ) → start ≤ j → j < r → p j ≡ false
   pub here : r < end → p r ≡ true
 
+-- what a search of the places from `start` to `end` answers: the first, or none
+abbrev pub FirstIn : (ℕ → Bool) → ℕ → ℕ → Option ℕ → Type 0
+FirstIn p start end (Some r) = First p start end r × (r < end)
+FirstIn p start end None = First p start end end
+
 -- a loop that looks for it: p holds at none of the places before j
 pub record Passed (p : ℕ → Bool) (start end j : ℕ) : Type 0 where
   pub least : start ≤ j
@@ -85,3 +90,6 @@ first_over b q start end e h = rw e (record { least = h; most = omega arith; bef
 
 pub first_looked : (b : Bool) (q : ℕ → Bool) (start end r : ℕ) → b ≡ true → First q start end r → First (λ j. b && q j) start end r
 first_looked b q start end r e f = rw e f
+
+pub first_in_looked : (b : Bool) (q : ℕ → Bool) (start end : ℕ) (r : Option ℕ) → b ≡ true → FirstIn q start end r → FirstIn (λ j. b && q j) start end r
+first_in_looked b q start end r e f = rw e f

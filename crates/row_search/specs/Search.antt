@@ -1,12 +1,12 @@
 -- The search for the first row under a chosen voltage, in the words of the request: rows of groups whose lowest value is not under it are passed over. Definitions only.
-use Rattle.std.specs.Prelude.{ℕ, zero, suc, ◌/◌, Bool, cond, ◌&&◌, List, eqb, leb, ltb, length, get_or, Float}
+use Rattle.std.specs.Prelude.{ℕ, zero, suc, ◌/◌, Bool, cond, ◌&&◌, List, eqb, leb, ltb, length, get_or, Float, Option, Some, None, Result, Ok, Err}
 use Rattle.std.specs.Float.{nan}
 use Rattle.std.specs.Float.Ieee.{lt}
 use Rattle.refusal.specs.Numbers as N
 use Rattle.refusal.specs.Ranges.{count_in_range, finite}
 use Rattle.runs.specs.Lowest.{group_count, voltage_at}
-use Rattle.row_search.specs.declared.Found.{Found}
-use Rattle.row_search.specs.declared.Found.TheVariants.{Row, None, Refused}
+use Rattle.refusal.specs.Refusals.{number_of}
+use Rattle.refusal.specs.declared.Refusal.{Refusal}
 
 -- the first place below n at which p holds, n where there is none
 unfoldable pub first_where : (ℕ → Bool) → ℕ → ℕ
@@ -36,11 +36,11 @@ pub record Outcome : Type 0 where
   pub found : ℕ
   pub number : ℕ
 
--- each case of the enum
-abbrev pub found_by : Found → Outcome
-found_by (Row j) = record { found = by_row; number = j }
-found_by None = record { found = by_none; number = 0 }
-found_by (Refused k) = record { found = by_refusal; number = k }
+-- each case of the call's answer
+abbrev pub found_by : Result (Option ℕ) Refusal → Outcome
+found_by (Ok (Some j)) = record { found = by_row; number = j }
+found_by (Ok None) = record { found = by_none; number = 0 }
+found_by (Err e) = record { found = by_refusal; number = number_of e }
 
 -- place j, or none where it is not below the count
 unfoldable pub row_outcome : ℕ → ℕ → Outcome

@@ -9,9 +9,9 @@ use Rattle.runs.specs.Endings.{by_refusal}
 use Rattle.runs.specs.RowPlaces.{CountsRows}
 use Rattle.runs.specs.Lowest.{room_of}
 use Rattle.solver.specs.declared.SpmSolver.{SpmSolver}
-use Rattle.solver.specs.declared.SpmStepAnswer.{SpmStepAnswer}
+use Rattle.solver.specs.Answers.{SpmStepAnswer}
 use Rattle.discharge_run.specs.declared.RunSettings.{RunSettings}
-use Rattle.discharge_run.specs.declared.RunState.{RunState}
+use Rattle.discharge_run.specs.States.{RunState}
 use Rattle.discharge_run.specs.Discharge.{followed, turned, row_of, over_of, last_row_of, started, finished_run, all_turns, all_rows, run_refusal, refused_run, discharged, discharged_rows, discharged_lowest}
 use Rattle.discharge_run.specs.Laws.{turned_rows, turned_refused, run_groups}
 use Rattle.row_search.specs.Search.{of_discharge, searched, full_read}

@@ -9,7 +9,7 @@ use Rattle.profile.specs.Places.{finite_profile}
 use Rattle.solver_step.specs.declared.report.SpmState.{SpmState}
 use Rattle.solver_step.specs.Moves.{finite_on}
 use Rattle.solver.specs.declared.SpmSolver.{SpmSolver}
-use Rattle.solver.specs.declared.SpmStepAnswer.{SpmStepAnswer}
+use Rattle.solver.specs.Answers.{SpmStepAnswer}
 use Rattle.solver.specs.Step as Spm
 use Rattle.solver_laws.specs.Closure.{next, report, Leads, leads}
 use Rattle.dfn.specs.declared.DfnSolver.{DfnSolver}

@@ -9,9 +9,9 @@ use Rattle.runs.specs.Endings.{by_refusal}
 use Rattle.runs.specs.RowPlaces.{CountsRows}
 use Rattle.runs.specs.Lowest.{room_of}
 use Rattle.dfn.specs.declared.DfnSolver.{DfnSolver}
-use Rattle.dfn.specs.declared.DfnStepAnswer.{DfnStepAnswer}
+use Rattle.dfn.specs.Answers.{DfnStepAnswer}
 use Rattle.galvanostatic_run.specs.declared.RunSettings.{RunSettings}
-use Rattle.galvanostatic_run.specs.declared.RunState.{RunState}
+use Rattle.galvanostatic_run.specs.States.{RunState}
 use Rattle.galvanostatic_run.specs.Galvanostatic.{followed, turned, row_of, over_of, last_row_of, started, RunOutcome, finished_run, all_turns, all_rows, run_settings, run_refusal, galvanostatic, galvanostatic_rows, galvanostatic_lowest}
 use Rattle.galvanostatic_run.specs.Laws.{turned_rows, run_groups}
 use Rattle.galvanostatic_run.proofs.Laws.{turned_refused}

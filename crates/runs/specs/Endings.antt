@@ -1,5 +1,6 @@
--- The endings of a run in docs/REFERENCE.md's words: voltage, time, full, refused, done, spent, with their numbers, and a refusal's number. Definitions only.
-use Rattle.std.specs.Prelude.{ℕ, cond, eqb}
+-- The endings of a run in docs/REFERENCE.md's words: voltage, time, full, refused, done, spent, with their numbers, and a refusal's number. Definitions, and one law. Assumes nothing.
+use Rattle.std.specs.Prelude.{ℕ, ◌≡◌, refl, cond, eqb}
+use Rattle.refusal.specs.Refusals.{number_of}
 use Rattle.runs.specs.declared.Ending.{Ending}
 use Rattle.runs.specs.declared.Ending.TheVariants.{Voltage, Time, Full, Refused, Done, Spent}
 
@@ -35,7 +36,7 @@ abbrev pub ended_by : Ending → Ended
 ended_by Voltage = record { ending = by_voltage; refusal = 0 }
 ended_by Time = record { ending = by_time; refusal = 0 }
 ended_by Full = record { ending = by_full; refusal = 0 }
-ended_by (Refused k) = record { ending = by_refusal; refusal = k }
+ended_by (Refused e) = record { ending = by_refusal; refusal = number_of e }
 ended_by Done = record { ending = by_done; refusal = 0 }
 ended_by Spent = record { ending = by_spent; refusal = 0 }
 
@@ -47,3 +48,30 @@ ending_of over k =
     (cond (eqb over by_time) (record { ending = by_time; refusal = 0 })
     (cond (eqb over by_done) (record { ending = by_done; refusal = 0 })
     (cond (eqb over by_spent) (record { ending = by_spent; refusal = 0 }) (record { ending = by_refusal; refusal = k })))))
+
+-- ---- the same two numbers of an ending, which is full while nothing has ended the run
+abbrev pub over_number : Ending → ℕ
+over_number Voltage = by_voltage
+over_number Time = by_time
+over_number Full = going_on_of
+over_number (Refused e) = by_refusal
+over_number Done = by_done
+over_number Spent = by_spent
+
+abbrev pub refusal_number : Ending → ℕ
+refusal_number Voltage = 0
+refusal_number Time = 0
+refusal_number Full = 0
+refusal_number (Refused e) = number_of e
+refusal_number Done = 0
+refusal_number Spent = 0
+
+-- so a run's ending is that of its two numbers
+pub ending_is : (e : Ending) → ended_by e ≡ ending_of (over_number e) (refusal_number e)
+unfolding ending_of
+ending_is Voltage = refl
+ending_is Time = refl
+ending_is Full = refl
+ending_is (Refused e) = refl
+ending_is Done = refl
+ending_is Spent = refl

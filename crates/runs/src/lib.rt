@@ -1,48 +1,53 @@
-// Runs into a lent slice, eight places a step: how a run ends, a row in its place, and the lowest voltage of each group of rows (`lowest`).
+// Runs into a lent slice, eight places a step: how a run ends, a row in its place, the lowest voltage of each group of rows
+// (`lowest`), and the loop of every run (`turns`).
 #![tactic(auto)]
 
 pub mod lowest;
+pub mod turns;
 
-ghost use Rattle.std.specs.Prelude.{◌≡◌, ◌+◌, ◌≤◌, length, get_or};
+ghost use Rattle.std.specs.Prelude.{◌≡◌, ◌+◌, ◌≤◌, eqb, length, get_or};
 ghost use Rattle.std.specs.Float.{nan};
+ghost use Rattle.refusal.specs.Refusals.{refusal_of};
 ghost use Rattle.array_update.specs.ArrayUpdate.{places_by};
-ghost use Rattle.runs.specs.Endings.{ended_by, ending_of};
+ghost use Rattle.runs.specs.Endings.{ended_by, over_number, going_on_of, by_refusal};
 
-// How a run ends: by the voltage, by the time, with every whole row written, by a refusal and its number, with nothing left to do, or with what it was allowed spent.
-#[derive(Clone, Copy)]
+use refusal::{Refusal, number_or_0};
+
+// How a run ends: by the voltage, by the time, with every whole row written, by a refusal, with nothing left to do, or with what it was allowed spent.
+// A run that nothing has ended yet is full: it ends so where its last row is written.
+#[derive(Clone, Copy, Debug, PartialEq, Eq, Hash)]
 pub enum Ending {
     Voltage,
     Time,
     Full,
-    Refused(u64),
+    Refused(Refusal),
     Done,
     Spent,
 }
 
-// What has ended a run so far: nothing, the voltage, the time, a refusal, nothing left to do, a spent budget. A run that nothing ended is full.
-pub const GOING: u64 = 0;
+impl Ending {
+    // Whether nothing has ended the run.
+    pub fn goes_on(self) -> bool
+        ensures { result ≡ eqb (over_number self) going_on_of }
+    {
+        matches!(self, Ending::Full)
+    }
 
-pub const VOLTAGE: u64 = 1;
+    // Whether a refusal has ended the run.
+    pub fn is_refused(self) -> bool
+        ensures { result ≡ eqb (over_number self) by_refusal }
+    {
+        matches!(self, Ending::Refused(_))
+    }
 
-pub const TIME: u64 = 2;
-
-pub const REFUSED: u64 = 4;
-
-pub const DONE: u64 = 5;
-
-pub const SPENT: u64 = 6;
-
-// The ending of a run that has stopped.
-pub fn ending_of(over: u64, refusal: u64) -> Ending
-    ensures { ended_by result ≡ ending_of over refusal }
-{
-    match over {
-        0 => Ending::Full,
-        1 => Ending::Voltage,
-        2 => Ending::Time,
-        5 => Ending::Done,
-        6 => Ending::Spent,
-        _ => Ending::Refused(refusal),
+    // The refusal that ended the run, where one did.
+    pub fn check(self) -> Result<(), Refusal>
+        ensures { refusal_of result ≡ (ended_by self).refusal }
+    {
+        match self {
+            Ending::Refused(refusal) => Err(refusal),
+            _ => Ok(()),
+        }
     }
 }
 
@@ -61,17 +66,11 @@ pub fn ending_number(e: Ending) -> u64
 }
 
 // The number of the refusal that ended a run, 0 for none.
+// A number, as a run's answer to C has it.
 pub fn ending_refusal(e: Ending) -> u64
     ensures { result ≡ (ended_by e).refusal }
 {
-    match e {
-        Ending::Voltage => 0,
-        Ending::Time => 0,
-        Ending::Full => 0,
-        Ending::Refused(k) => k,
-        Ending::Done => 0,
-        Ending::Spent => 0,
-    }
+    number_or_0(e.check())
 }
 
 // Writes a row of eight places at `at`.
@@ -79,7 +78,5 @@ pub fn put_row(out: &mut [f64], at: usize, row: [f64; 8])
     requires { at + 8 ≤ length out.old }
     ensures { out.new ≡ places_by at 8 (λ k. get_or row k nan) out.old }
 {
-    for k in 0..8 {
-        out[at + k] = row[k];
-    }
+    out[at..at + 8].copy_from_slice(&row);
 }

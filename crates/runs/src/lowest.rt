@@ -6,11 +6,7 @@ ghost use Rattle.runs.specs.Lowest.{group_count, lowest_updated, room_of, room_f
 pub fn group_count(rows: usize) -> usize
     ensures { result ≡ group_count rows }
 {
-    let whole = rows / 64;
-    if rows % 64 == 0 {
-        return whole;
-    }
-    whole + 1
+    rows.div_ceil(64)
 }
 
 // Whether a run's slices have room for a row and for the groups of all whole rows.

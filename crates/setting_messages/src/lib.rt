@@ -1,11 +1,15 @@
 // Saying names, ranges and faults of the numbers that a run is set by. What is written, no contract can say.
+// It is written by `io`: `println!` asks for a runtime, may fail and takes no bytes, which the functions here never did.
 #![tactic(auto)]
 
 use cell_file::records::ready;
-use cell_file::{GIVEN_TWICE, OUT_OF_RANGE, Settings, UNKNOWN_NAME};
+use cell_file::{Fault, SettingsFault};
 use csv_rows::OUT;
+use decimal_spelling::Line;
 use electrode::ElectrodeParams;
-use setting_table::names::{NONE, in_load, in_phases, part_of, row_of};
+use setting_table::names::{
+    CURRENT, DT, FARADAY, NONE, Part, Place, R_GAS, RESISTANCE, TEMPERATURE, TIME, V_MAX, V_MIN,
+};
 
 pub const ERR: i32 = 2;
 
@@ -13,154 +17,157 @@ pub fn say(fd: i32, words: &[u8]) {
     io::write_all(fd, words);
 }
 
-fn byte_if(fd: i32, wanted: bool, b: u8) {
-    if wanted {
-        io::write_all(fd, &[b]);
-    }
-}
-
-// Writes the entry at a place of a list, each of whose entries '|' ends.
-pub fn entry(fd: i32, list: &[u8], wanted: usize) {
-    let mut place: usize = 0;
-    for i in 0..list.len() {
-        let ends = list[i] == b'|';
-        byte_if(fd, (place == wanted) & !ends, list[i]);
-        if ends {
-            place = std::num::wrapping_add_usize(place, 1);
-        }
-    }
-}
-
 pub fn number(fd: i32, x: f64) {
-    let mut line = [0u8; 4096];
-    let used = decimal_spelling::put_number(&mut line, 0, x);
-    csv_rows::write_line(fd, &line, used);
+    let mut line = Line::new();
+    line.put_number(x);
+    csv_rows::write_line(fd, &line);
 }
 
 // Writes the name at a place.
-pub fn name(fd: i32, k: usize) {
-    if k >= NONE {
-        return;
+pub fn name(fd: i32, k: Place) {
+    match k.part() {
+        Part::Run => {}
+        Part::Anode => say(fd, b"anode."),
+        Part::Cathode => say(fd, b"cathode."),
     }
-    entry(fd, b"|anode.|cathode.|", part_of(k));
-    for j in 0..12 {
-        let b = setting_table::names::letter(k, j);
-        byte_if(fd, b != b' ', b);
+    let name = k.name();
+    say(fd, name.trim_ascii_end());
+}
+
+// The unit of a row of the table, after a blank; nothing for a number without one.
+fn unit_of(row: usize) -> &'static [u8] {
+    match row {
+        CURRENT => b" A",
+        DT | TIME => b" s",
+        TEMPERATURE | 20 => b" K",
+        V_MIN | V_MAX => b" V",
+        FARADAY => b" C/mol",
+        R_GAS => b" J/(mol K)",
+        RESISTANCE => b" ohm m^2",
+        11 | 15 => b" m",
+        12 => b" m^2/s",
+        13 => b" mol/m^3",
+        17 => b" m^2",
+        18 => b" J/mol",
+        19 => b" m^2.5/(mol^0.5 s)",
+        _ => b"",
     }
 }
 
-// Writes the unit at a place; nothing for a number without one.
-pub fn unit(fd: i32, k: usize) {
-    if k >= NONE {
-        return;
-    }
-    entry(
-        fd,
-        b" A| s| K| s|| V| V| C/mol| J/(mol K)| ohm m^2|| m| m^2/s| mol/m^3|| m|| m^2| J/mol| m^2.5/(mol^0.5 s)| K|",
-        row_of(k),
-    );
+// Writes the unit at a place.
+pub fn unit(fd: i32, k: Place) {
+    say(fd, unit_of(k.row()));
 }
 
 // Writes the range at a place, with its unit.
-pub fn range(fd: i32, k: usize) {
-    if k == 3 {
+pub fn range(fd: i32, k: Place) {
+    if k.index() == TIME {
         say(fd, b"any number of s");
         return;
     }
-    if k >= NONE {
-        return;
-    }
-    if k == 1 {
+    if k.index() == DT {
         say(fd, b"above 0");
     } else {
-        number(fd, setting_table::ranges::low(k));
+        number(fd, k.low());
     }
     say(fd, b" to ");
-    number(fd, setting_table::ranges::high(k));
+    number(fd, k.high());
     unit(fd, k);
 }
 
 // The fault, after the place where it was found; the program lists its names.
-fn say_what(fault: u64, place: usize, program: &[u8]) {
-    entry(
-        ERR,
-        b"|expected NAME=VALUE|no such name: '|expected a decimal number, such as 298.15 or 2e-4|",
-        fault as usize,
-    );
-    entry(
-        ERR,
-        b"||||expected at most 15 digits, and at most 22 places|out of range, expected |expected a whole number|given twice|",
-        fault as usize,
-    );
-    entry(
-        ERR,
-        b"||||||||a cell file has at most 4,095 bytes|not given, and a cell file gives each number of both sheets but t_ref|",
-        fault as usize,
-    );
-    if fault == UNKNOWN_NAME {
-        say(ERR, program);
-        say(ERR, b" help' lists them");
-    }
-    if fault == OUT_OF_RANGE {
-        range(ERR, place);
+fn say_what(fault: Fault, place: Option<Place>, program: &[u8]) {
+    match fault {
+        Fault::NoSign => say(ERR, b"expected NAME=VALUE"),
+        Fault::UnknownName => {
+            say(ERR, b"no such name: '");
+            say(ERR, program);
+            say(ERR, b" help' lists them");
+        }
+        Fault::NotDecimal => say(ERR, b"expected a decimal number, such as 298.15 or 2e-4"),
+        Fault::TooLong => say(ERR, b"expected at most 15 digits, and at most 22 places"),
+        Fault::OutOfRange => {
+            say(ERR, b"out of range, expected ");
+            if let Some(k) = place {
+                range(ERR, k);
+            }
+        }
+        Fault::NotWhole => say(ERR, b"expected a whole number"),
+        Fault::GivenTwice => say(ERR, b"given twice"),
+        Fault::LongFile => say(ERR, b"a cell file has at most 4,095 bytes"),
+        Fault::NotGiven => say(
+            ERR,
+            b"not given, and a cell file gives each number of both sheets but t_ref",
+        ),
     }
 }
 
 // Of an argument.
-pub fn in_argument(st: Settings, text: &[u8], program: &[u8]) {
+pub fn in_argument(fault: Fault, place: Option<Place>, text: &[u8], program: &[u8]) {
     say(ERR, b"'");
     say(ERR, text);
     say(ERR, b"': ");
-    say_what(st.fault, st.place, program);
+    say_what(fault, place, program);
     say(ERR, b"\n");
 }
 
 // Of a cell file, with its line.
-pub fn in_file(st: Settings, path: &[u8], program: &[u8]) {
+pub fn in_file(e: SettingsFault, path: &[u8], program: &[u8]) {
     say(ERR, path);
-    if st.line != 0 {
+    if e.line != 0 {
         say(ERR, b": line ");
-        io::print_decimal(ERR, st.line);
+        io::print_decimal(ERR, e.line);
     }
     say(ERR, b": ");
-    if st.place < NONE {
-        name(ERR, st.place);
+    if let Some(k) = e.place {
+        name(ERR, k);
         say(ERR, b": ");
     }
-    say_what(st.fault, st.place, program);
-    if st.fault == GIVEN_TWICE {
-        let k = st.place;
-        let given = st.given;
-        if k < NONE {
-            say(ERR, b", first in line ");
-            io::print_decimal(ERR, given[k]);
-        }
+    say_what(e.fault, e.place, program);
+    if let (Fault::GivenTwice, Some(k)) = (e.fault, e.place) {
+        say(ERR, b", first in line ");
+        io::print_decimal(ERR, e.settings.given[k.index()]);
     }
     say(ERR, b"\n");
 }
 
 // A row of the list of names: the name, a value, its unit and its range.
-pub fn write_name(v: &[f64; NONE], k: usize) {
+pub fn write_name(v: &[f64; NONE], k: Place) {
     say(OUT, b"    ");
     name(OUT, k);
     say(OUT, b" = ");
-    if k < NONE {
-        number(OUT, v[k]);
-    }
+    number(OUT, v[k.index()]);
     unit(OUT, k);
     say(OUT, b"  (");
     range(OUT, k);
-    if setting_table::ranges::is_count(k) {
+    if k.is_count() {
         say(OUT, b", whole");
     }
     say(OUT, b")\n");
 }
 
-// Writes the list of names with what each is for nmc, without those that a load file or phases stand for where there are any, and what a cell file is.
-pub fn write_names(load: bool, phases: bool) {
+// What stands for some numbers in the place of arguments.
+#[derive(Clone, Copy, Debug, PartialEq, Eq)]
+pub enum Instead {
+    Nothing,
+    Load,
+    Phases,
+}
+
+fn stands_for(instead: Instead, k: Place) -> bool {
+    match instead {
+        Instead::Nothing => false,
+        Instead::Load => k.in_load(),
+        Instead::Phases => k.in_phases(),
+    }
+}
+
+// Writes the list of names with what each is for nmc, without those that something else stands for, and what a cell file is.
+pub fn write_names(instead: Instead) {
     let v = ready(ElectrodeParams::nmc_cathode());
-    for k in 0..NONE {
-        if !((load & in_load(k)) | (phases & in_phases(k))) {
+    for index in 0..NONE {
+        let k = Place::at(index);
+        if !stands_for(instead, k) {
             write_name(&v, k);
         }
     }

@@ -1,20 +1,33 @@
--- The three ways to a name's place. Assumes nothing.
-use Rattle.std.proofs.Common.{◌≡◌, ℕ, ◌-◌, Bool, true, false, List, length, take, drop}
-use Rattle.setting_table.specs.Names.{anode, cathode, sheet_count, bytes_of, place_by, place_of}
-use Rattle.plain_text.specs.Text.{starts_with}
-use Rattle.plain_text.specs.Pieces.{rest_is}
+-- The ways to a name's place. Assumes nothing.
+use Rattle.std.proofs.Common.{◌≡◌, ℕ, suc, ◌+◌, ◌-◌, ◌≤◌, Bool, true, false, cond, List, length, take, drop, eqb, arith, sym, ◌∙◌}
+use Prim.Native.String.{String}
+use Rattle.std.specs.Cmp.Lexicographic.{pointwise}
+use Rattle.setting_table.specs.Names.{anode, cathode, none, sheet_count, bytes_of, is_named, place_by, place_of}
+use Rattle.plain_text.specs.Pieces.{begins}
 
-module _ (s : List ℕ) (of_anode of_cathode : Bool) (r : ℕ) (a : of_anode ≡ starts_with s (bytes_of "anode.")) where
-  pub place_anode : of_anode ≡ true → r ≡ place_by sheet_count anode (take (length s - 6) (drop 6 s)) → r ≡ place_of s
-  unfolding place_of
-  place_anode t q = rw (← a, t, q, rest_is 6 s)
+pub none_yet : (base : ℕ) (s : List ℕ) → none ≡ place_by (base - base) base s
+unfolding place_by
+none_yet base s = let e : base - base ≡ 0 = omega arith in rw e
 
-  pub place-cathode :
-      of_anode ≡ false → of_cathode ≡ starts_with s (bytes_of "cathode.") → of_cathode ≡ true
-      → r ≡ place_by sheet_count cathode (take (length s - 8) (drop 8 s)) → r ≡ place_of s
-  unfolding place_of
-  place-cathode f b t q = rw (← a, f, ← b, t, q, rest_is 8 s)
+pub next_place : (base i : ℕ) (s : List ℕ) → base ≤ i → place_by (i + 1 - base) base s ≡ cond (is_named s i) i (place_by (i - base) base s)
+unfolding place_by
+next_place base i s h =
+    let q : i + 1 - base ≡ suc (i - base) = omega arith in
+    let p : base + (i - base) ≡ i = omega arith in
+    rw (q, p)
 
-  pub place_run : of_anode ≡ false → of_cathode ≡ starts_with s (bytes_of "cathode.") → of_cathode ≡ false → r ≡ place_by anode 0 s → r ≡ place_of s
+module _ (s : List ℕ) (r : ℕ) where
+  abbrev Begins : String → Bool → Type 0
+  Begins p t = pointwise eqb (take (length (bytes_of p)) s) (bytes_of p) ≡ t
+
+  pub place_anode : Begins "anode." true → r ≡ place_by sheet_count anode (drop 6 s) → r ≡ place_of s
   unfolding place_of
-  place_run f b g q = rw (← a, f, ← b, g, q)
+  place_anode t q = rw (sym (begins (bytes_of "anode.") s) ∙ t, q)
+
+  pub place-cathode : Begins "anode." false → Begins "cathode." true → r ≡ place_by sheet_count cathode (drop 8 s) → r ≡ place_of s
+  unfolding place_of
+  place-cathode f t q = rw (sym (begins (bytes_of "anode.") s) ∙ f, sym (begins (bytes_of "cathode.") s) ∙ t, q)
+
+  pub place_run : Begins "anode." false → Begins "cathode." false → r ≡ place_by anode 0 s → r ≡ place_of s
+  unfolding place_of
+  place_run f g q = rw (sym (begins (bytes_of "anode.") s) ∙ f, sym (begins (bytes_of "cathode.") s) ∙ g, q)

@@ -3,3 +3,4 @@
 
 pub mod names;
 pub mod ranges;
+pub mod rows;

@@ -1,103 +1,173 @@
-// The names of the numbers that a run is set by: one table for reading a name and for writing it.
-ghost use Rattle.std.specs.Prelude.{◌≡◌, ◌+◌, ◌<◌, ◌≤◌};
+// The places of the numbers that a run is set by, and their names: one table for reading a name and for writing it.
+ghost use Rattle.std.specs.Prelude.{◌≡◌, ℕ, ◌+◌, ◌<◌, ◌≤◌, slice_index, unwrap_or, IfSome};
 ghost use Rattle.setting_table.specs.Names.{none, rows, row_of, part_of, letter_of, padded_at, is_named, place_by, place_of, in_phases, in_load};
+ghost use Rattle.setting_table.specs.Parts.{part_number};
+
+use crate::rows::ROWS;
+use std::marker::Model;
+
+// The places of run and config.
+// Numbers: they are places of a run's array, as the definitions of Names have them.
+pub const CURRENT: usize = 0;
+
+pub const DT: usize = 1;
+
+pub const TEMPERATURE: usize = 2;
+
+pub const TIME: usize = 3;
+
+pub const N_NODES: usize = 4;
+
+pub const V_MIN: usize = 5;
+
+pub const V_MAX: usize = 6;
+
+pub const FARADAY: usize = 7;
+
+pub const R_GAS: usize = 8;
+
+pub const RESISTANCE: usize = 9;
 
 // Where each sheet begins, with its chemistry; run and config begin at 0.
 pub const ANODE: usize = 10;
 
 pub const CATHODE: usize = 21;
 
-// How many names there are; the place of what is no name.
+// How many places there are.
 pub const NONE: usize = 32;
 
 // How many names a sheet has.
 const SHEET: usize = 11;
 
-// The row of a place in a table of names, units or ranges: both sheets have the same rows.
-pub fn row_of(k: usize) -> usize
-    requires { k < none }
-    ensures { (result ≡ row_of k) × (result < rows) }
-{
-    if k < CATHODE { k } else { k - SHEET }
+// The part that a place belongs to.
+#[derive(Clone, Copy, Debug, PartialEq, Eq)]
+pub enum Part {
+    Run,
+    Anode,
+    Cathode,
 }
 
-// The part that a place belongs to: 0 run and config, 1 the anode's sheet, 2 the cathode's.
-pub fn part_of(k: usize) -> usize
-    ensures { result ≡ part_of k }
-{
-    plain_text::either(k < ANODE, 0, plain_text::either(k < CATHODE, 1, 2))
+// The place of a number: run and config, then the anode's sheet, then the cathode's.
+#[derive(Clone, Copy, Debug, PartialEq, Eq)]
+pub struct Place {
+    index: usize,
 }
 
-// Byte j of the name at place k, without the electrode before it; a space past its end.
-pub fn letter(k: usize, j: usize) -> u8
-    requires { (k < none) × (j < 12) }
-    ensures { result ≡ letter_of k j }
-{
-    let names =
-        *b"current     dt          temperature time        n_nodes     v_min       v_max       faraday     r_gas       resistance  \
-        chemistry   r_particle  d_s_ref     c_s_max     theta_init  thickness   epsilon_s   area        e_a_ds      k_bv        t_ref       ";
-    let row = row_of(k);
-    names[row * 12 + j]
+impl Model for Place {
+    ghost Value = { ℕ };
+
+    ghost view = { λ p. p.index };
+
+    ghost inverse = { λ n. record { index = n } };
+
+    ghost invariant = { λ p. p.index < 32 };
+}
+
+impl Place {
+    // The place with an index.
+    pub fn at(index: usize) -> Place
+        requires { index < none }
+        ensures { result ≡ index }
+    {
+        Place { index }
+    }
+
+    pub fn index(self) -> usize
+        ensures { (result ≡ self) × (result < none) }
+    {
+        self.index
+    }
+
+    // Its row of the table.
+    pub fn row(self) -> usize
+        ensures { (result ≡ row_of self) × (result < rows) }
+    {
+        if self.index < CATHODE {
+            self.index
+        } else {
+            self.index - SHEET
+        }
+    }
+
+    pub fn part(self) -> Part
+        ensures { part_number result ≡ part_of self }
+    {
+        if self.index < ANODE {
+            Part::Run
+        } else if self.index < CATHODE {
+            Part::Anode
+        } else {
+            Part::Cathode
+        }
+    }
+
+    // Its name, without the electrode before it, filled up with spaces.
+    pub fn name(self) -> [u8; 12]
+        ensures { (j : ℕ) → j < 12 → slice_index result j ≡ letter_of self j }
+    {
+        ROWS[self.row()].name
+    }
+
+    // Whether the phases of a cycle stand for the number: they have the currents, and the last of them ends a cycle.
+    pub fn in_phases(self) -> bool
+        ensures { result ≡ in_phases self }
+    {
+        matches!(self.index, CURRENT | TIME)
+    }
+
+    // Whether a load file stands for the number: it has a current and an interval in each line, and its last line ends a replay.
+    pub fn in_load(self) -> bool
+        ensures { result ≡ in_load self }
+    {
+        matches!(self.index, CURRENT | DT | TIME)
+    }
 }
 
 // The byte at i of a text that is filled up with spaces.
 fn padded_at(s: &[u8], i: usize) -> u8
     ensures { result ≡ padded_at s.now i }
 {
-    if i < s.len() {
-        return s[i];
-    }
-    b' '
+    s.get(i).copied().unwrap_or(b' ')
 }
 
-// Whether a text is the name at place k, without the electrode before it.
-fn is_named(s: &[u8], k: usize) -> bool
-    requires { k < none }
+// Whether a text is the name of a place, without the electrode before it.
+fn is_named(s: &[u8], k: Place) -> bool
     ensures { result ≡ is_named s.now k }
 {
+    let name = k.name();
     let mut same = true;
-    for j in 0..12 {
-        same = same & (padded_at(s, j) == letter(k, j));
+    for (j, b) in name.iter().enumerate() {
+        same &= padded_at(s, j) == *b;
     }
     (s.len() <= 12) & same
 }
 
-// The place of a text among so many names from the place base on, or NONE.
-fn place_among(base: usize, count: usize, s: &[u8]) -> usize
+// The place of a text among so many names from the place base on.
+fn place_among(base: usize, count: usize, s: &[u8]) -> Option<Place>
     requires { base + count ≤ none }
-    ensures { result ≡ place_by count base s.now }
+    ensures place { unwrap_or result none ≡ place_by count base s.now }
+    ensures within { IfSome result (λ k. k < none) }
 {
-    let mut found = NONE;
-    for k in 0..count {
-        let place = base + k;
-        found = plain_text::either(is_named(s, place), place, found);
+    let mut found = None;
+    for index in base..base + count {
+        let place = Place::at(index);
+        if is_named(s, place) {
+            found = Some(place);
+        }
     }
     found
 }
 
-// The place of a name, or NONE.
-pub fn place_of(s: &[u8]) -> usize
-    ensures { result ≡ place_of s.now }
+// The place of a name.
+pub fn place_of(s: &[u8]) -> Option<Place>
+    ensures place { unwrap_or result none ≡ place_of s.now }
+    ensures within { IfSome result (λ k. k < none) }
 {
-    if plain_text::starts_with(s, b"anode.") {
-        return place_among(ANODE, SHEET, &s[6..]);
+    if let Some(name) = s.strip_prefix(b"anode.") {
+        return place_among(ANODE, SHEET, name);
     }
-    if plain_text::starts_with(s, b"cathode.") {
-        return place_among(CATHODE, SHEET, &s[8..]);
+    if let Some(name) = s.strip_prefix(b"cathode.") {
+        return place_among(CATHODE, SHEET, name);
     }
     place_among(0, ANODE, s)
-}
-
-// Whether the phases of a cycle stand for the number at place k: they have the currents, and the last of them ends a cycle.
-pub fn in_phases(k: usize) -> bool
-    ensures { result ≡ in_phases k }
-{
-    (k == 0) | (k == 3)
-}
-
-// Whether a load file stands for the number at place k: it has a current and an interval in each line, and its last line ends a replay.
-pub fn in_load(k: usize) -> bool
-    ensures { result ≡ in_load k }
-{
-    (k == 0) | (k == 1) | (k == 3)
 }

@@ -1,4 +1,5 @@
 // Sheets, particles and a single-particle cell's configuration as images: words in a string of bytes, in the order of the records' fields.
+// The word `at` is a constant at each caller: a type for its limit is no plainer.
 #![tactic(auto)]
 
 ghost use Rattle.std.specs.Prelude.{◌≡◌, ◌≤◌};
@@ -8,11 +9,12 @@ ghost use Rattle.sheet_images.specs.Images.{sheet_at, put_sheet, particle_at, pu
 use codec::{read_word, write_word};
 use electrode::ElectrodeParams;
 use image_layout::{PARTICLE_NODES, PARTICLE_PROFILE};
-use image_rows::{fill_64, read_places, write_places};
+use image_rows::{read_places, write_places};
 use kinetics::SpmConfig;
 use particle::ParticleDiffusion;
 
 // The sheet whose first word is word `at`.
+#[tactic(auto, unfolding(crate::specs::Images::sheet_at))]
 pub fn sheet_at(s: &[u8], at: usize) -> ElectrodeParams
     requires { at ≤ 1024 }
     ensures { result ≡ sheet_at s.now at }
@@ -22,6 +24,7 @@ pub fn sheet_at(s: &[u8], at: usize) -> ElectrodeParams
     ElectrodeParams::of_numbers(read_word(s, at), &x)
 }
 
+#[tactic(auto, unfolding(crate::specs::Images::put_sheet))]
 pub fn put_sheet(s: &mut [u8], at: usize, p: ElectrodeParams)
     requires { at ≤ 1024 }
     ensures { s.new ≡ put_sheet s.old at p }
@@ -32,6 +35,7 @@ pub fn put_sheet(s: &mut [u8], at: usize, p: ElectrodeParams)
 }
 
 // The particle whose first word is word `at`.
+#[tactic(auto, unfolding(crate::specs::Images::particle_at))]
 pub fn particle_at(s: &[u8], at: usize) -> ParticleDiffusion
     requires { at ≤ 1024 }
     ensures { result ≡ particle_at s.now at }
@@ -43,11 +47,12 @@ pub fn particle_at(s: &[u8], at: usize) -> ParticleDiffusion
         n_nodes,
         c_s: [0.0; 64],
     };
-    fill_64(s, at + PARTICLE_PROFILE, &mut p.c_s);
+    read_places(s, at + PARTICLE_PROFILE, &mut p.c_s);
     p
 }
 
 // Writes a particle by its parts: sheet, count of nodes, profile.
+#[tactic(auto, unfolding(crate::specs::Images::put_particle))]
 pub fn put_parts(s: &mut [u8], at: usize, params: ElectrodeParams, n_nodes: usize, c: &[f64; 64])
     requires { at ≤ 1024 }
     ensures { s.new ≡ put_particle s.old at (particle_of params n_nodes c.now) }
@@ -65,6 +70,7 @@ pub fn put_particle(s: &mut [u8], at: usize, p: ParticleDiffusion)
 }
 
 // The configuration in the first six words.
+#[tactic(auto, unfolding(crate::specs::Images::config_at, iterate::specs::Iterate::first_by))]
 pub fn config_at(s: &[u8]) -> SpmConfig
     ensures { result ≡ config_at s.now }
 {
@@ -80,6 +86,7 @@ pub fn config_at(s: &[u8]) -> SpmConfig
     }
 }
 
+#[tactic(auto, unfolding(crate::specs::Images::put_config))]
 pub fn put_config(s: &mut [u8], c: SpmConfig)
     ensures { s.new ≡ put_config s.old c }
 {

@@ -19,7 +19,7 @@ use Rattle.particle.specs.Calls.{fresh, no_particle}
 use Rattle.kinetics.specs.declared.SpmConfig.{SpmConfig}
 use Rattle.kinetics.specs.Kinetics.{config_fits}
 use Rattle.solver.specs.declared.SpmSolver.{SpmSolver}
-use Rattle.solver.specs.declared.SpmBuildAnswer.{SpmBuildAnswer}
+use Rattle.solver.specs.Answers.{SpmBuildAnswer}
 
 -- ---- checks
 -- the config's count of nodes is in range, and is that of both particles

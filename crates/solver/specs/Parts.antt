@@ -11,9 +11,9 @@ use Rattle.solver_step.specs.declared.plan.Plan.{Plan}
 use Rattle.solver_step.specs.Plans.{plan_refusal, sub_steps_of}
 use Rattle.solver_step.specs.declared.report.SpmState.{SpmState}
 use Rattle.solver_step.specs.declared.SpmParts.{SpmParts}
-use Rattle.solver_step.specs.declared.SpmReported.{SpmReported}
+use Rattle.solver_step.specs.Answers.{SpmReported}
 use Rattle.solver.specs.declared.SpmSolver.{SpmSolver}
-use Rattle.solver.specs.declared.SpmStepAnswer.{SpmStepAnswer}
+use Rattle.solver.specs.Answers.{SpmStepAnswer}
 use Rattle.solver.specs.Step.{input_refusal, plan_of, advanced, reported, finite_step, refused_step, finished, planned, stepped}
 
 -- a cell by its parts

@@ -12,7 +12,7 @@ use Rattle.solver_step.specs.Report.{surface_state, voltage_with, report_at, no_
 use Rattle.solver_step.specs.Arguments.{argument_refusal}
 use Rattle.solver_step.specs.Moves.{profile_after, finite_on}
 use Rattle.solver.specs.declared.SpmSolver.{SpmSolver}
-use Rattle.solver.specs.declared.SpmStepAnswer.{SpmStepAnswer}
+use Rattle.solver.specs.Answers.{SpmStepAnswer}
 use Rattle.solver.specs.Cell.{cell_refusal}
 
 -- ---- 1 to 5

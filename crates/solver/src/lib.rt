@@ -2,22 +2,25 @@
 // anode's; what does not change within a step is worked out once.
 #![tactic(auto)]
 
-ghost use Rattle.std.specs.Prelude.{◌≡◌, ◌≤◌};
+ghost use Rattle.std.specs.Prelude.{◌≡◌, IfOk};
 ghost use Rattle.refusal.specs.Answers.{outcome_of};
+ghost use Rattle.refusal.specs.Refusals.{refusal_of};
+ghost use Rattle.particle.specs.Calls.{fresh};
+ghost use Rattle.solver_step.specs.Answers.{reported_by};
+ghost use Rattle.solver.specs.Answers.{build_answered, step_answered};
 ghost use Rattle.solver.specs.Cell.{grid_fits, cell_refusal, no_solver, built, ready, ocv_call, soc_call};
-ghost use Rattle.solver.specs.Step.{refused_step, stepped};
+ghost use Rattle.solver.specs.Step.{stepped};
 ghost use Rattle.solver.specs.Parts.{cell_of, parts_of, StepOf};
-ghost use Rattle.solver_step.specs.Plans.{plan_with};
 ghost use Rattle.electrode.specs.Sheet.{lfp_cathode, nmc_cathode};
 
 use electrode::ElectrodeParams;
 use kinetics::SpmConfig;
-use particle::{ParticleDiffusion, average_theta, fields_fit, surface_potential};
-use profile::uniform;
-use refusal::Answer;
-use solver_step::plan::{Plan, argument_refusal, plan_for, plan_refusal};
-use solver_step::report::{SpmState, no_state};
-use solver_step::{SpmParts, SpmReported, follow, refused_move};
+use particle::{ParticleDiffusion, ParticleView};
+use profile::Nodes;
+use refusal::{Refusal, finite_or_refused, refuse_unless};
+use solver_step::plan::{check_arguments, check_plan, plan_for};
+use solver_step::report::SpmState;
+use solver_step::{SpmNodes, SpmParts, SpmReport, follow};
 
 #[derive(Clone, Copy)]
 pub struct SpmSolver {
@@ -28,71 +31,43 @@ pub struct SpmSolver {
     pub time_s: f64,
 }
 
-// A cell, and 0 or the number of the refusal.
-#[derive(Clone, Copy)]
-pub struct SpmBuildAnswer {
-    pub refusal: u64,
-    pub solver: SpmSolver,
-}
-
 // What a step gives: the report, how many sub-steps it made, and the cell after it.
 #[derive(Clone, Copy)]
-pub struct SpmStepAnswer {
-    pub refusal: u64,
+pub struct SpmStepped {
     pub state: SpmState,
     pub sub_steps: u64,
     pub solver: SpmSolver,
 }
 
-// The cell beside a refused build: every number +0, every count 0.
-fn no_solver() -> SpmSolver
-    ensures { result ≡ no_solver }
+// The counts of a cell's nodes where the table refuses nothing of the cell: all of 1 before all of 2.
+#[tactic(auto, unfolding(crate::specs::Cell::cell_refusal, refusal::specs::Numbers::refusal_unless, refusal::specs::Numbers::first_refusal))]
+fn check_cell(q: SpmParts, c_neg: &[f64; 64], c_pos: &[f64; 64]) -> Result<SpmNodes, Refusal>
+    ensures number { refusal_of result ≡ cell_refusal (cell_of q c_neg.now c_pos.now) }
+    ensures counts { IfOk result (λ n. (n.neg ≡ q.n_neg) × (n.pos ≡ q.n_pos)) }
 {
-    let config = SpmConfig {
-        n_nodes: 0,
-        v_min: 0.0,
-        v_max: 0.0,
-        faraday: 0.0,
-        r_gas: 0.0,
-        r_electrolyte_ohm_m2: 0.0,
+    let nodes = Nodes::new(q.config.n_nodes)?;
+    let n = nodes.count();
+    refuse_unless((q.n_neg == n) & (q.n_pos == n), Refusal::Grid)?;
+    let neg = ParticleView {
+        params: q.neg,
+        n: nodes,
+        c: c_neg,
     };
-    let anode = particle::no_particle();
-    let cathode = particle::no_particle();
-    SpmSolver {
-        config,
-        anode,
-        cathode,
-        time_s: 0.0,
-    }
-}
-
-// The number of the table that a cell meets, 0 for none: all of 1 before all of 2.
-fn cell_refusal<'a>(q: SpmParts, c_neg: &'a [f64; 64], c_pos: &'a [f64; 64]) -> u64
-    ensures { result ≡ cell_refusal (cell_of q c_neg.now c_pos.now) }
-{
-    let n = q.config.n_nodes;
-    let counts = refusal::count_within(n as u64, 3, 64) & (q.n_neg == n) & (q.n_pos == n);
-    let grid = refusal::refusal_unless(counts, refusal::GRID);
-    if grid != 0 {
-        return grid;
-    }
-    let fits = q.config.fits()
-        & fields_fit(q.neg, q.n_neg, c_neg)
-        & fields_fit(q.pos, q.n_pos, c_pos)
-        & refusal::clock_fits(q.time_s);
-    refusal::refusal_unless(fits, refusal::SHEET)
-}
-
-// What a step works with.
-fn plan_of(q: SpmParts, i_app: f64, dt: f64, temp_k: f64) -> Plan
-    requires { ((3 ≤ q.n_neg) × (q.n_neg ≤ 64)) × ((3 ≤ q.n_pos) × (q.n_pos ≤ 64)) }
-    ensures { result ≡ plan_with q.neg q.n_neg q.pos q.n_pos q.config.faraday i_app dt temp_k }
-{
-    let faraday = q.config.faraday;
-    plan_for(q.neg, q.n_neg, q.pos, q.n_pos, faraday, i_app, dt, temp_k)
+    let pos = ParticleView {
+        params: q.pos,
+        n: nodes,
+        c: c_pos,
+    };
+    let fits = q.config.fits() & neg.fits() & pos.fits() & refusal::clock_fits(q.time_s);
+    refuse_unless(fits, Refusal::Sheet)?;
+    Ok(SpmNodes {
+        neg: nodes,
+        pos: nodes,
+    })
 }
 
 // One step, the profiles changed in place; refused, they are as they were.
+#[tactic(auto, unfolding(crate::specs::Step::stepped, crate::specs::Step::input_refusal, crate::specs::Step::planned, crate::specs::Step::plan_of, crate::specs::Step::current_density, refusal::specs::Numbers::first_refusal))]
 pub fn step_in_place(
     q: SpmParts,
     c_neg: &mut [f64; 64],
@@ -100,72 +75,58 @@ pub fn step_in_place(
     current_a: f64,
     dt: f64,
     temp_k: f64,
-) -> SpmReported
-    ensures { StepOf q c_neg.old c_pos.old current_a dt temp_k result c_neg.new c_pos.new }
+) -> Result<SpmReport, Refusal>
+    ensures { StepOf q c_neg.old c_pos.old current_a dt temp_k (reported_by result) c_neg.new c_pos.new }
 {
-    let unfit = cell_refusal(q, c_neg, c_pos);
-    let early = refusal::first_refusal(unfit, argument_refusal(current_a, dt, temp_k));
-    if early != 0 {
-        return refused_move(early);
+    let n = check_cell(q, c_neg, c_pos)?;
+    check_arguments(current_a, dt, temp_k)?;
+    let p = plan_for(q, &n, current_a / q.neg.area, dt, temp_k);
+    check_plan(p)?;
+    follow(q, &n, p, c_neg, c_pos, current_a, dt, temp_k)
+}
+
+// A particle with the same stoichiometry at all nodes.
+#[tactic(auto, unfolding(particle::specs::Calls::fresh))]
+fn fresh(params: ElectrodeParams, n: Nodes) -> ParticleDiffusion
+    ensures { result ≡ fresh params n }
+{
+    let n_nodes = n.count();
+    let c_s = arrays::uniform(params.theta_init * params.c_s_max, n_nodes);
+    ParticleDiffusion {
+        params,
+        n_nodes,
+        c_s,
     }
-    let p = plan_of(q, current_a / q.neg.area, dt, temp_k);
-    let late = plan_refusal(p);
-    if late != 0 {
-        return refused_move(late);
-    }
-    follow(q, p, c_neg, c_pos, current_a, dt, temp_k)
 }
 
 impl SpmSolver {
     // ---- builds
 
     // A cell from two sheets, with the config's count of nodes in both.
+    #[tactic(auto, unfolding(crate::specs::Cell::built, crate::specs::Cell::build_refusal, crate::specs::Cell::fresh_solver, refusal::specs::Numbers::refusal_unless, refusal::specs::Numbers::first_refusal))]
     pub fn new(
         config: SpmConfig,
         anode: ElectrodeParams,
         cathode: ElectrodeParams,
-    ) -> SpmBuildAnswer
-        ensures { result ≡ built config anode cathode }
+    ) -> Result<SpmSolver, Refusal>
+        ensures { build_answered no_solver result ≡ built config anode cathode }
     {
-        let n_nodes = config.n_nodes;
-        let few = refusal::refusal_unless(
-            refusal::count_within(n_nodes as u64, 3, 64),
-            refusal::GRID,
-        );
-        let fits = config.fits() & anode.fits() & cathode.fits();
-        let refusal = refusal::first_refusal(few, refusal::refusal_unless(fits, refusal::SHEET));
-        if refusal != 0 {
-            return SpmBuildAnswer {
-                refusal,
-                solver: no_solver(),
-            };
-        }
-        let c_neg = uniform(anode.theta_init * anode.c_s_max, n_nodes);
-        let c_pos = uniform(cathode.theta_init * cathode.c_s_max, n_nodes);
-        let neg = ParticleDiffusion {
-            params: anode,
-            n_nodes,
-            c_s: c_neg,
-        };
-        let pos = ParticleDiffusion {
-            params: cathode,
-            n_nodes,
-            c_s: c_pos,
-        };
-        SpmBuildAnswer {
-            refusal: 0,
-            solver: SpmSolver {
-                config,
-                anode: neg,
-                cathode: pos,
-                time_s: 0.0,
-            },
-        }
+        let n = Nodes::new(config.n_nodes)?;
+        refuse_unless(
+            config.fits() & anode.fits() & cathode.fits(),
+            Refusal::Sheet,
+        )?;
+        Ok(SpmSolver {
+            config,
+            anode: fresh(anode, n),
+            cathode: fresh(cathode, n),
+            time_s: 0.0,
+        })
     }
 
     // Graphite and LFP. WARNING: see `step`.
-    pub fn graphite_lfp(config: SpmConfig) -> SpmBuildAnswer
-        ensures { result ≡ ready config lfp_cathode }
+    pub fn graphite_lfp(config: SpmConfig) -> Result<SpmSolver, Refusal>
+        ensures { build_answered no_solver result ≡ ready config lfp_cathode }
     {
         SpmSolver::new(
             config,
@@ -175,8 +136,8 @@ impl SpmSolver {
     }
 
     // Graphite and NMC.
-    pub fn graphite_nmc(config: SpmConfig) -> SpmBuildAnswer
-        ensures { result ≡ ready config nmc_cathode }
+    pub fn graphite_nmc(config: SpmConfig) -> Result<SpmSolver, Refusal>
+        ensures { build_answered no_solver result ≡ ready config nmc_cathode }
     {
         SpmSolver::new(
             config,
@@ -201,25 +162,22 @@ impl SpmSolver {
     fn parts(self) -> SpmParts
         ensures { result ≡ parts_of self }
     {
-        let config = self.config;
-        let neg = self.anode.params;
-        let pos = self.cathode.params;
         SpmParts {
-            config,
-            neg,
+            config: self.config,
+            neg: self.anode.params,
             n_neg: self.anode.n_nodes,
-            pos,
+            pos: self.cathode.params,
             n_pos: self.cathode.n_nodes,
             time_s: self.time_s,
         }
     }
 
-    // The number of the table that the cell meets, 0 for none.
-    pub fn refusal(self) -> u64
-        ensures { result ≡ cell_refusal self }
+    // Refuses a cell by the table.
+    pub fn check(self) -> Result<(), Refusal>
+        ensures { refusal_of result ≡ cell_refusal self }
     {
-        let q = self.parts();
-        cell_refusal(q, &self.anode.c_s, &self.cathode.c_s)
+        check_cell(self.parts(), &self.anode.c_s, &self.cathode.c_s)?;
+        Ok(())
     }
 
     // ---- calls
@@ -227,82 +185,45 @@ impl SpmSolver {
     // One step: a current in A, positive on discharge, for an interval in s at a temperature in K.
     // WARNINGS, faults of the model that the port keeps (docs/DIFFERENCES.md): a full or empty particle is clamped, charge is lost and the voltage may
     // stay above v_min for ever; with LFP the voltage rises during most of a discharge.
-    pub fn step(self, current_a: f64, dt: f64, temp_k: f64) -> SpmStepAnswer
-        ensures { result ≡ stepped self current_a dt temp_k }
+    pub fn step(self, current_a: f64, dt: f64, temp_k: f64) -> Result<SpmStepped, Refusal>
+        ensures { step_answered self result ≡ stepped self current_a dt temp_k }
     {
         let q = self.parts();
-        let mut c_neg = self.anode.c_s;
-        let mut c_pos = self.cathode.c_s;
-        let m = step_in_place(q, &mut c_neg, &mut c_pos, current_a, dt, temp_k);
-        if m.refusal != 0 {
-            return refused_step(m.refusal, self);
-        }
-        let config = q.config;
-        let neg = q.neg;
-        let pos = q.pos;
-        let anode = ParticleDiffusion {
-            params: neg,
-            n_nodes: q.n_neg,
-            c_s: c_neg,
-        };
-        let cathode = ParticleDiffusion {
-            params: pos,
-            n_nodes: q.n_pos,
-            c_s: c_pos,
-        };
-        let solver = SpmSolver {
-            config,
-            anode,
-            cathode,
-            time_s: q.time_s + dt,
-        };
-        let state = m.state;
-        SpmStepAnswer {
-            refusal: 0,
-            state,
+        let mut solver = self;
+        let m = step_in_place(
+            q,
+            &mut solver.anode.c_s,
+            &mut solver.cathode.c_s,
+            current_a,
+            dt,
+            temp_k,
+        )?;
+        solver.time_s = q.time_s + dt;
+        Ok(SpmStepped {
+            state: m.state,
             sub_steps: m.sub_steps,
             solver,
-        }
+        })
     }
 
     // Open-circuit voltage, V.
-    pub fn ocv(self) -> Answer
+    #[tactic(auto, unfolding(crate::specs::Cell::ocv_call, crate::specs::Cell::open_circuit_voltage, refusal::specs::Numbers::refusal_unless, refusal::specs::Numbers::first_refusal, refusal::specs::Answers::outcome))]
+    pub fn ocv(self) -> Result<f64, Refusal>
         ensures { outcome_of result ≡ ocv_call self }
     {
-        let number = self.refusal();
-        if number != 0 {
-            return refusal::answered(number, 0.0);
-        }
-        let u_neg = surface_potential(self.anode.params, self.anode.n_nodes, &self.anode.c_s);
-        let u_pos = surface_potential(self.cathode.params, self.cathode.n_nodes, &self.cathode.c_s);
-        refusal::answered(number, u_pos - u_neg)
+        let n = check_cell(self.parts(), &self.anode.c_s, &self.cathode.c_s)?;
+        let u_neg = self.anode.view(n.neg).surface_potential();
+        let u_pos = self.cathode.view(n.pos).surface_potential();
+        finite_or_refused(u_pos - u_neg)
     }
 
     // State of charge by the anode's average stoichiometry, 0 to 1.
-    pub fn soc_estimate(self) -> Answer
+    #[tactic(auto, unfolding(crate::specs::Cell::soc_call, refusal::specs::Numbers::refusal_unless, refusal::specs::Numbers::first_refusal, refusal::specs::Answers::outcome))]
+    pub fn soc_estimate(self) -> Result<f64, Refusal>
         ensures { outcome_of result ≡ soc_call self }
     {
-        let number = self.refusal();
-        if number != 0 {
-            return refusal::answered(number, 0.0);
-        }
-        let theta = average_theta(self.anode.params, self.anode.n_nodes, &self.anode.c_s);
-        refusal::answered(
-            number,
-            min_max::clamp((theta - 0.20) / (0.80 - 0.20), 0.0, 1.0),
-        )
-    }
-}
-
-// A refused step: the number, and the cell as it was.
-fn refused_step(number: u64, s: SpmSolver) -> SpmStepAnswer
-    ensures { result ≡ refused_step number s }
-{
-    let state = no_state();
-    SpmStepAnswer {
-        refusal: number,
-        state,
-        sub_steps: 0,
-        solver: s,
+        let n = check_cell(self.parts(), &self.anode.c_s, &self.cathode.c_s)?;
+        let theta = self.anode.view(n.neg).average_theta();
+        finite_or_refused(min_max::clamp((theta - 0.20) / (0.80 - 0.20), 0.0, 1.0))
     }
 }

@@ -13,7 +13,7 @@ use Rattle.runs.specs.Laws.{run_keeps}
 use Rattle.runs.specs.RowPlaces.{CountsRows, count_on, row_count}
 use Rattle.runs.specs.Causes.{Cause, rows_go_on, cause_number}
 use Rattle.solver.specs.declared.SpmSolver.{SpmSolver}
-use Rattle.solver.specs.declared.SpmStepAnswer.{SpmStepAnswer}
+use Rattle.solver.specs.Answers.{SpmStepAnswer}
 use Rattle.cycle_run.specs.declared.phases.Phase.{Phase}
 use Rattle.cycle_run.specs.declared.CycleSettings.{CycleSettings}
 use Rattle.cycle_run.specs.Phases.{current_of, phases_from, repeated, written_out}

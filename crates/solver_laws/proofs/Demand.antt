@@ -19,7 +19,7 @@ use Rattle.diffusion.proofs.Copies.{run_times, each_copies}
 use Rattle.particle_laws.specs.Ranges.{ranged_parameters}
 use Rattle.particle_laws.specs.Checked.{particle_in_range}
 use Rattle.solver.specs.declared.SpmSolver.{SpmSolver}
-use Rattle.solver.specs.declared.SpmStepAnswer.{SpmStepAnswer}
+use Rattle.solver.specs.Answers.{SpmStepAnswer}
 use Rattle.solver_step.specs.declared.plan.Plan.{Plan}
 use Rattle.solver_step.specs.Plans.{sub_steps_of}
 use Rattle.solver_step.specs.Moves.{profile_after}

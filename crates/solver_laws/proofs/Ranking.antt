@@ -19,7 +19,7 @@ use Rattle.diffusion.proofs.CallLaws.{of_accepted, calls_total}
 use Rattle.diffusion.proofs.CallLaws.{each_with, both_flip}
 use Rattle.particle.specs.Particle.{place_of}
 use Rattle.solver.specs.declared.SpmSolver.{SpmSolver}
-use Rattle.solver.specs.declared.SpmStepAnswer.{SpmStepAnswer}
+use Rattle.solver.specs.Answers.{SpmStepAnswer}
 use Rattle.solver.specs.Cell.{cell_refusal}
 use Rattle.solver_step.specs.Plans.{sub_steps_of}
 use Rattle.solver.specs.Step.{plan_of}

@@ -13,7 +13,7 @@ use Rattle.runs.specs.Endings.{Ended, by_refusal}
 use Rattle.diffusion.specs.Premises.{FluxBound}
 use Rattle.particle.specs.Particle.{place_of}
 use Rattle.solver.specs.Cell.{grid_fits, cell_fits, cell_valid}
-use Rattle.replay_run.specs.declared.lines.LoadLine.{LoadLine}
+use Rattle.replay_run.specs.Answers.{LoadLine}
 use Rattle.replay_run.specs.Lines.{digit_of, number_at, line_from, line_at}
 use Rattle.replay_run.specs.Replay.{replay_refusal, replayed}
 use Rattle.solver_laws.specs.Electrodes.{Electrode, particle_at, nodes_are, grid_passed, current_range}

@@ -14,9 +14,9 @@ use Rattle.runs.specs.Laws.{run_keeps}
 use Rattle.runs.specs.RowPlaces.{CountsRows, count_on, row_made, row_count, refused_room}
 use Rattle.runs.specs.Causes.{Cause, rows_go_on, cause_number}
 use Rattle.solver.specs.declared.SpmSolver.{SpmSolver}
-use Rattle.solver.specs.declared.SpmStepAnswer.{SpmStepAnswer}
+use Rattle.solver.specs.Answers.{SpmStepAnswer}
 use Rattle.solver_step.specs.declared.report.SpmState.{SpmState}
-use Rattle.replay_run.specs.declared.ReplayState.{ReplayState}
+use Rattle.replay_run.specs.Answers.{ReplayState}
 use Rattle.replay_run.specs.Lines.{line_from, no_line, line_at, none_left_of}
 use Rattle.replay_run.specs.Replay.{over_after, started, refused_line, followed, line_turned, turned, over_of, last_row_of}
 use Rattle.replay_run.specs.Laws.{turned_rows}

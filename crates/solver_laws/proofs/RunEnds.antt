@@ -11,7 +11,7 @@ use Rattle.runs.specs.Laws.{run_keeps}
 use Rattle.runs.specs.Lowest.{Room}
 use Rattle.solver.specs.declared.SpmSolver.{SpmSolver}
 use Rattle.discharge_run.specs.declared.RunSettings.{RunSettings}
-use Rattle.discharge_run.specs.declared.RunState.{RunState}
+use Rattle.discharge_run.specs.States.{RunState}
 use Rattle.discharge_run.specs.Discharge.{over_of, last_row_of, time_over, over_after, started, followed, turned, finished_run, all_turns, run_refusal, refused_run, discharged}
 use Rattle.solver_laws.specs.Closure.{step_refused, step_clock}
 use Rattle.solver_laws.proofs.Clock.{step_again}

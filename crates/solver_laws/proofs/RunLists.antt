@@ -13,7 +13,7 @@ use Rattle.runs.specs.Lowest.{Room}
 use Rattle.solver.specs.declared.SpmSolver.{SpmSolver}
 use Rattle.solver_step.specs.Plans.{sub_steps_of}
 use Rattle.discharge_run.specs.declared.RunSettings.{RunSettings}
-use Rattle.discharge_run.specs.declared.RunState.{RunState}
+use Rattle.discharge_run.specs.States.{RunState}
 use Rattle.discharge_run.specs.Discharge.{over_of, last_row_of, started, followed, turned, finished_run, all_turns, run_refusal, refused_run, discharged}
 use Rattle.solver_laws.specs.Electrodes.{Electrode}
 use Rattle.solver_laws.specs.Closure.{step_refused, step_count}

@@ -12,14 +12,14 @@ use Rattle.refusal.specs.Numbers.{first_refusal, refusal_unless, grid, sheet, ne
 use Rattle.refusal.specs.Ranges.{clock_fits}
 use Rattle.electrode.specs.declared.ElectrodeParams.{ElectrodeParams}
 use Rattle.electrode.specs.Sheet.{sheet_fits}
-use Rattle.particle.specs.declared.ParticleAnswer.{ParticleAnswer}
+use Rattle.particle.specs.Answers.{ParticleAnswer}
 use Rattle.particle.specs.Checks.{nodes_fit, fields_fit_of, particle_refusal, fields_of}
 use Rattle.particle.specs.Calls.{particle_answer, new_refusal, fresh, made}
 use Rattle.particle_laws.specs.Closure as ParticleClosure
 use Rattle.kinetics.specs.declared.SpmConfig.{SpmConfig}
 use Rattle.kinetics.specs.Kinetics.{config_fits}
 use Rattle.solver.specs.declared.SpmSolver.{SpmSolver}
-use Rattle.solver.specs.declared.SpmBuildAnswer.{SpmBuildAnswer}
+use Rattle.solver.specs.Answers.{SpmBuildAnswer}
 use Rattle.solver.specs.Cell.{grid_fits, cell_fits, cell_refusal, solver_answer, build_refusal, fresh_solver, no_solver, built}
 use Rattle.binary64.specs.Literals.{«0·0»}
 

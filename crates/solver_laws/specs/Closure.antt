@@ -34,7 +34,7 @@ use Rattle.particle_laws.specs.Nodes.{node_in}
 use Rattle.kinetics.specs.Kinetics.{config_fits}
 use Rattle.solver.specs.declared.SpmSolver.{SpmSolver}
 use Rattle.solver_step.specs.declared.report.SpmState.{SpmState}
-use Rattle.solver.specs.declared.SpmStepAnswer.{SpmStepAnswer}
+use Rattle.solver.specs.Answers.{SpmStepAnswer}
 use Rattle.solver_step.specs.declared.plan.Plan.{Plan}
 use Rattle.solver.specs.Cell.{grid_fits, cell_refusal}
 use Rattle.solver_step.specs.Plans.{plan_refusal, sub_steps_of}

@@ -4,7 +4,7 @@ use Rattle.std.specs.Prelude.{ℕ, zero, suc, ◌<◌, ◌≡◌, Bool, false, c
 use Rattle.binary64.specs.Literals.{«0·0»}
 use Rattle.runs.specs.Endings.{Ended, by_refusal, by_done, by_spent}
 use Rattle.solver.specs.declared.SpmSolver.{SpmSolver}
-use Rattle.solver.specs.declared.SpmStepAnswer.{SpmStepAnswer}
+use Rattle.solver.specs.Answers.{SpmStepAnswer}
 use Rattle.cycle_run.specs.declared.phases.Phase.{Phase}
 use Rattle.cycle_run.specs.declared.CycleSettings.{CycleSettings}
 use Rattle.cycle_run.specs.Phases.{phase_at, current_of, written_out}

@@ -12,7 +12,7 @@ use Rattle.diffusion.specs.Run.{Grid, Move, sub_step_params, exact_run, Each}
 use Rattle.diffusion.specs.Calls.{Stepper, exact_after}
 use Rattle.particle.specs.Particle.{spacing, place_of}
 use Rattle.solver.specs.declared.SpmSolver.{SpmSolver}
-use Rattle.solver.specs.declared.SpmStepAnswer.{SpmStepAnswer}
+use Rattle.solver.specs.Answers.{SpmStepAnswer}
 use Rattle.solver_step.specs.declared.plan.Plan.{Plan}
 use Rattle.solver.specs.Cell.{cell_refusal}
 use Rattle.solver_step.specs.Plans.{sub_steps_of}

@@ -15,7 +15,7 @@ use Rattle.solver_step.specs.declared.report.SpmState.{SpmState}
 use Rattle.solver_step.specs.declared.report.SurfaceState.{SurfaceState}
 use Rattle.solver_step.specs.Report.{surface_state, report_at}
 use Rattle.solver.specs.declared.SpmSolver.{SpmSolver}
-use Rattle.solver.specs.declared.SpmStepAnswer.{SpmStepAnswer}
+use Rattle.solver.specs.Answers.{SpmStepAnswer}
 use Rattle.solver.specs.Step.{input_refusal, current_density, plan_of, advanced, voltage_of, reported, refused_step, planned_with, planned, stepped}
 use Rattle.solver_laws.specs.Electrodes.{current_fits_lem}
 use Rattle.solver_laws.specs.Acceptance.{ohmic_drop}

@@ -6,7 +6,7 @@ use Rattle.binary64.specs.Literals.{«298·15»}
 use Rattle.electrode.specs.EarlierSheet.{diffusivity_from298, diffusivity_kept}
 use Rattle.solver_step.specs.Plans.{plan_by}
 use Rattle.solver.specs.declared.SpmSolver.{SpmSolver}
-use Rattle.solver.specs.declared.SpmStepAnswer.{SpmStepAnswer}
+use Rattle.solver.specs.Answers.{SpmStepAnswer}
 use Rattle.solver.specs.Step.{input_refusal, current_density, plan_of, refused_step, planned, stepped}
 
 -- a step with these diffusivities

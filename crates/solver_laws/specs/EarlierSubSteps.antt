@@ -31,7 +31,7 @@ use Rattle.particle.specs.Particle.{stable_step}
 use Rattle.solver_step.specs.declared.plan.Plan.{Plan}
 use Rattle.solver_step.specs.Plans.{sub_step_factor, quotient_by, plan_refusal, sub_steps_of}
 use Rattle.solver.specs.declared.SpmSolver.{SpmSolver}
-use Rattle.solver.specs.declared.SpmStepAnswer.{SpmStepAnswer}
+use Rattle.solver.specs.Answers.{SpmStepAnswer}
 use Rattle.solver.specs.Step.{input_refusal, plan_of, advanced, voltage_of, reported, refused_step, finished, planned, stepped}
 use Rattle.solver_laws.specs.Electrodes.{Electrode, particle_at, diffusivity_in, count_below, quotient_most, interval_size}
 use Rattle.solver_laws.specs.DtUse.{longest_at, used_by, DtUse, used_by_lem, used_longest, used_greatest, stable_range, longest_above}

@@ -8,7 +8,7 @@ use Rattle.kinetics.specs.LowRates.{overpotential_by_log, overpotential_kept}
 use Rattle.solver_step.specs.declared.report.SpmState.{SpmState}
 use Rattle.solver_step.specs.Report.{surface_with, report_with}
 use Rattle.solver.specs.declared.SpmSolver.{SpmSolver}
-use Rattle.solver.specs.declared.SpmStepAnswer.{SpmStepAnswer}
+use Rattle.solver.specs.Answers.{SpmStepAnswer}
 use Rattle.solver.specs.Step.{input_refusal, current_density, plan_of, advanced, voltage_of, reported, refused_step, planned_with, planned, stepped}
 
 abbrev reported_with : SpmSolver → Float → Float → Float → SpmState

@@ -20,7 +20,7 @@ use Rattle.binary64.proofs.OrderLaws.{rounds_le, rounds_nonneg, rounds_nonpos, p
 use Rattle.diffusion.specs.Premises.{zero_fine, zero_val}
 use Rattle.kinetics.specs.Kinetics.{overpotential}
 use Rattle.solver.specs.declared.SpmSolver.{SpmSolver}
-use Rattle.solver.specs.declared.SpmStepAnswer.{SpmStepAnswer}
+use Rattle.solver.specs.Answers.{SpmStepAnswer}
 use Rattle.solver_step.specs.Plans.{plan_refusal}
 use Rattle.solver.specs.Step.{input_refusal, current_density, plan_of, advanced, voltage_of, reported, stepped}
 use Rattle.solver_laws.specs.Electrodes.{electrode_passes, config_passed, config_ranges, area_above, density_range, cell_passed, current_fits_lem, temperature_fits_lem, fluxes_range}

@@ -3,7 +3,7 @@ use Rattle.std.specs.Prelude.{ℕ, zero, suc, ◌+◌, ◌*◌, ◌≤◌, ◌�
 use Rattle.refusal.specs.Numbers as N
 use Rattle.runs.specs.Endings.{Ended, by_voltage, by_full, by_refusal, by_done}
 use Rattle.solver.specs.declared.SpmSolver.{SpmSolver}
-use Rattle.solver.specs.declared.SpmStepAnswer.{SpmStepAnswer}
+use Rattle.solver.specs.Answers.{SpmStepAnswer}
 use Rattle.replay_run.specs.Lines.{line_at, none_left_of}
 use Rattle.solver_laws.specs.Demand.{Call, answer, cell_after}
 

@@ -12,7 +12,8 @@ use Rattle.solver_step.specs.Plans.{sub_steps_of}
 use Rattle.solver_step.specs.declared.report.SpmState.{SpmState}
 use Rattle.solver_step.specs.Report.{surface_state, report_with, finite_with, no_state}
 use Rattle.solver_step.specs.declared.SpmParts.{SpmParts}
-use Rattle.solver_step.specs.declared.SpmReported.{SpmReported}
+use Rattle.solver_step.specs.declared.SpmNodes.{SpmNodes}
+use Rattle.solver_step.specs.Answers.{SpmReported}
 
 -- that many sub-steps of dt / count
 unfoldable pub profile_after : ParticleDiffusion → Float → Float → Float → ℕ → List Float
@@ -31,6 +32,10 @@ abbrev pub refused_move : ℕ → SpmReported
 refused_move k = record { refusal = k; state = no_state; sub_steps = 0 }
 
 -- ---- a plan followed
+-- the parts of a cell with these counts of nodes
+abbrev pub counted : SpmParts → SpmNodes → SpmParts
+counted q n = record { config = q.config; neg = q.neg; n_neg = n.neg; pos = q.pos; n_pos = n.pos; time_s = q.time_s }
+
 -- both profiles after the sub-steps
 abbrev pub neg_after : SpmParts → Plan → List Float → Float → List Float
 neg_after q p a dt = profile_after (particle_of q.neg q.n_neg a) p.d_neg p.j_neg dt (sub_steps_of p)

@@ -1,12 +1,11 @@
 // The report of a step of the single-particle cell, from what both particles show at their surfaces. Of oxigrid's
 // src/battery/p2d/solver.rs (`step`), changed.
-ghost use Rattle.std.specs.Prelude.{◌≡◌, ◌≤◌};
+ghost use Rattle.std.specs.Prelude.{◌≡◌};
 ghost use Rattle.particle.specs.Particle.{particle_of};
 ghost use Rattle.solver_step.specs.Report.{surface_state, report_with, finite_with, no_state};
 
-use electrode::ElectrodeParams;
 use kinetics::{SpmConfig, bv_overpotential, terminal_voltage};
-use particle::{average_theta, surface_potential, surface_theta};
+use particle::ParticleView;
 
 // What a step reports.
 #[derive(Clone, Copy)]
@@ -35,7 +34,8 @@ pub struct SurfaceState {
     pub overpotential: f64,
 }
 
-// The report beside a refused step.
+// The report of a cell that has made no step: every number +0.
+#[tactic(auto, unfolding(crate::specs::Report::no_state))]
 pub fn no_state() -> SpmState
     ensures { result ≡ no_state }
 {
@@ -53,22 +53,14 @@ pub fn no_state() -> SpmState
 
 // What a particle after the sub-steps shows at its surface: its stoichiometries, there and on average, its open-circuit
 // potential, and the overpotential of its flux.
-pub fn surface_state(
-    config: SpmConfig,
-    params: ElectrodeParams,
-    n: usize,
-    c: &[f64; 64],
-    j_n: f64,
-    temp_k: f64,
-) -> SurfaceState
-    requires { (3 ≤ n) × (n ≤ 64) }
-    ensures { result ≡ surface_state config (particle_of params n c.now) j_n temp_k }
+pub fn surface_state(config: SpmConfig, p: &ParticleView<'_>, j_n: f64, temp_k: f64) -> SurfaceState
+    ensures { result ≡ surface_state config (particle_of p.now.params p.now.n p.now.c.now) j_n temp_k }
 {
     SurfaceState {
-        theta: surface_theta(params, n, c),
-        potential: surface_potential(params, n, c),
-        overpotential: bv_overpotential(config, j_n, params, n, c, temp_k),
-        theta_avg: average_theta(params, n, c),
+        theta: p.surface_theta(),
+        potential: p.surface_potential(),
+        overpotential: bv_overpotential(config, j_n, p, temp_k),
+        theta_avg: p.average_theta(),
     }
 }
 

@@ -7,7 +7,7 @@ use native.Mathlib.Nat.{lt_irrefl, zero-mul, not-le_of_lt, mod-eq_of_lt, mul-pos
 use native.Mathlib.Omega.{arith}
 use lib.Dec.{T, ltb, ltb→lt, leb, eqb, leb→le, le→leb, eqb→eq, not_T}
 use lib.Pow.{pow_pos}
-use lib.Ieee.{Float, nan, inf, fin, binary64, up, odd, div, of_fields, of_bits, nan_bits, ne, is_nan}
+use lib.Ieee.{Float, nan, inf, fin, binary64, up, odd, of_fields, of_bits, nan_bits, is_nan}
 use lib.Ieee.Bits.{is_true, is_false, cond_no, nan_bits_above}
 use lib.Ieee.Fits.{down_pos}
 use lib.Ieee.Exact.{HasValue, odd_sign}
@@ -96,20 +96,20 @@ module _ (F : Float → Float) where
       go (inl e) = ap (λ (x : ℕ). F (of_fields binary64 true x (b % 2 ^ 52))) e ∙ ap F (ones_fields true (b % 2 ^ 52)) ∙ none (eqb (b % 2 ^ 52) 0)
       go (inr l) = v (of_fields binary64 true (b % 2 ^ 63 / 2 ^ 52) (b % 2 ^ 52)) (below_of (of_fields binary64 true (b % 2 ^ 63 / 2 ^ 52) (b % 2 ^ 52)) (units_of (b % 2 ^ 63 / 2 ^ 52) (b % 2 ^ 52)) (fields_value true (b % 2 ^ 63 / 2 ^ 52) (b % 2 ^ 52) l) (units_pos (b % 2 ^ 63 / 2 ^ 52) (b % 2 ^ 52) (omega arith)))
 
--- ---- patterns that are no NaN's, and the test `x != x`
+-- ---- patterns that are no NaN's, and a NaN
 pub no_nan_bits : (n : ℕ) → n ≤ 0x7ff0_0000_0000_0000 → T (not (nan_bits binary64 n))
 no_nan_bits n h = subst (λ (b : Bool). T (not b)) (sym (nan_bits_above binary64 n)) (not_T (ltb 0x7ff0_0000_0000_0000 (n % 2 ^ 63)) (λ u. no n h (ltb→lt 0x7ff0_0000_0000_0000 (n % 2 ^ 63) u)))
   where
     no : (n : ℕ) → n ≤ 0x7ff0_0000_0000_0000 → 0x7ff0_0000_0000_0000 < n % 2 ^ 63 → ⊥
     no n h k = omega arith
 
-pub not_nan : (x : Float) → ne x x ≡ false → T (not (is_nan x))
-unfolding ne is_nan
-not_nan nan h = absurd (true≢false h)
-not_nan (inf s) h = tt
-not_nan (fin s m e) h = tt
+-- the test `is_nan`, and the NaN that the program returns
+pub nan_is : (x : Float) → is_nan x ≡ true → x ≡ nan
+unfolding is_nan
+nan_is nan h = refl
+nan_is (inf s) h = absurd (true≢false (sym h))
+nan_is (fin s m e) h = absurd (true≢false (sym h))
 
--- how the program makes a NaN
-pub zero_by_zero : div binary64 (of_bits binary64 0) (of_bits binary64 0) ≡ nan
-unfolding div of_bits
-zero_by_zero = refl
+pub nan_literal : of_bits binary64 0x7ff8_0000_0000_0000 ≡ nan
+unfolding of_bits
+nan_literal = refl

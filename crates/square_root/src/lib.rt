@@ -1,11 +1,12 @@
 // S, the square root: correctly rounded for every f64. A guess is made in floats, of which nothing is
 // known, and a test in integers decides whether it is the root; if it is not, the root is found by halving.
+// The library's sqrt is the machine's instruction, of which nothing is trusted here.
 #![tactic(auto)]
 
-ghost use Rattle.std.specs.Prelude.{◌≡◌, ◌&&◌, ◌+◌, ◌*◌, ◌^◌, ◌≤◌, ◌<◌, leb, ltb};
+ghost use Rattle.std.specs.Prelude.{◌≡◌, ◌&&◌, ◌+◌, ◌*◌, ◌^◌, ◌≤◌, ◌<◌, leb, ltb, SomeIff, IfSome, OnSome};
 ghost use Rattle.std.specs.Float.{binary64};
 ghost use Rattle.std.specs.Float.Ieee.{to_bits, of_bits};
-ghost use Rattle.square_root.specs.Parts.{PartsOf};
+ghost use Rattle.square_root.specs.Parts.{PartsOf, parts_given};
 ghost use Rattle.square_root.specs.Whole.{Squared, NearestWhole, Digits53};
 ghost use Rattle.square_root.specs.Root.{sqrt_of};
 ghost use Rattle.square_root.specs.Standard.{SquareRoot};
@@ -17,29 +18,27 @@ pub struct Parts {
     pub w: u64,
 }
 
-// The parts of the number whose bits are b, and zeros where that is not finite or not above zero.
-pub fn parts_of(b: u64) -> Parts
-    ensures { PartsOf b result.c result.w }
+// The parts of the number whose bits are b, which is finite and above zero; none of other bits.
+pub fn parts_of(b: u64) -> Option<Parts>
+    ensures parts { PartsOf b (parts_given result).c (parts_given result).w }
+    ensures number { OnSome result ((0 < b) × (b < 0x7ff0_0000_0000_0000)) }
 {
-    if b == 0 {
-        return Parts { c: 0, w: 0 };
-    }
-    if b >= 0x7ff0_0000_0000_0000 {
-        return Parts { c: 0, w: 0 };
+    if b == 0 || b >= 0x7ff0_0000_0000_0000 {
+        return None;
     }
     let e = b / 0x10_0000_0000_0000;
     let t = b % 0x10_0000_0000_0000;
-    let mut c: u64 = t;
-    let mut w: u64 = 52;
     if e > 0 {
-        c = t + 0x10_0000_0000_0000;
-        w = e + 51;
+        return Some(Parts {
+            c: t + 0x10_0000_0000_0000,
+            w: e + 51,
+        });
     }
-    while c < 0x10_0000_0000_0000 {
-        c = c * 2;
-        w -= 1;
-    }
-    Parts { c: c, w: w }
+    let w = t.ilog2();
+    Some(Parts {
+        c: t << (52 - w),
+        w: w as u64,
+    })
 }
 
 // A whole number near 2 ^ 52 times the root of t, for the t from 1 to 4 whose digits are c and whose exponent
@@ -61,17 +60,12 @@ fn guess(c: u64, odd: u64) -> u64
     let r = t * y2;
     let s = (r + 201326592.0) - 201326592.0;
     let z = s + (t - s * s) / (r + s);
-    if z != z {
+    if z.is_nan() {
         return 0x10_0000_0000_0000;
     }
-    let b = f64::to_bits(z);
-    if b < 0x3ff0_0000_0000_0000 {
-        return 0x10_0000_0000_0000;
-    }
-    if b > 0x4000_0000_0000_0000 {
-        return 0x20_0000_0000_0000;
-    }
-    b - 0x3fe0_0000_0000_0000
+    z.to_bits()
+        .clamp(0x3ff0_0000_0000_0000, 0x4000_0000_0000_0000)
+        - 0x3fe0_0000_0000_0000
 }
 
 // A square in two words, high * 2 ^ 52 + low.
@@ -82,6 +76,7 @@ struct Words {
 }
 
 // The square of n, from halves of 26 binary digits.
+// The limit of n stands in three functions: a type for it is no plainer, since both of its makers are in this file.
 fn squared(n: u64) -> Words
     requires { n ≤ 2 ^ 53 }
     ensures { Squared n result.high result.low }
@@ -116,6 +111,7 @@ fn is_nearest(n: u64, x: u64) -> bool
 }
 
 // The whole number nearest to the root of x * 2 ^ 52, by halving.
+// It halves an interval and counts nothing, so `while` it is.
 fn by_halving(x: u64) -> u64
     requires bound { 2 ^ 52 ≤ x }
     requires x_bound { x < 2 ^ 54 }
@@ -150,17 +146,14 @@ fn nearest_root(c: u64, odd: u64) -> u64
     by_halving(x)
 }
 
-// The bits of the square root of the number, finite and above zero, whose bits are b. That number is
+// The bits of the square root of the number, finite and above zero, whose bits are b; none of other bits. That number is
 // c * 2 ^ (w - 1126), c having 53 digits; the power is made even by doubling c where w is odd.
-fn sqrt_bits(b: u64) -> u64
-    requires b_nonzero { 0 < b }
-    requires b_bound { b < 0x7ff0_0000_0000_0000 }
-    ensures value { result ≡ to_bits binary64 (sqrt_of (of_bits binary64 b)) }
-    ensures upper_bound { result < 0x7ff0_0000_0000_0000 }
+fn sqrt_bits(b: u64) -> Option<u64>
+    ensures value { SomeIff result ((0 < b) × (b < 0x7ff0_0000_0000_0000)) (to_bits binary64 (sqrt_of (of_bits binary64 b))) }
+    ensures upper_bound { IfSome result (λ r. r < 0x7ff0_0000_0000_0000) }
 {
-    let p = parts_of(b);
-    let w = p.w;
-    (w / 2 + 485) * 0x10_0000_0000_0000 + nearest_root(p.c, w % 2)
+    let p = parts_of(b)?;
+    Some((p.w / 2 + 485) * 0x10_0000_0000_0000 + nearest_root(p.c, p.w % 2))
 }
 
 // The square root of x, rounded to the nearest f64. Of a zero it is that zero, below zero it is a NaN.
@@ -168,22 +161,15 @@ pub fn sqrt(x: f64) -> f64
     ensures value { result ≡ sqrt_of x }
     ensures square_root { SquareRoot x result }
 {
-    if x != x {
+    if x.is_nan() {
         return x;
     }
-    let b = f64::to_bits(x);
-    if b >= 0x8000_0000_0000_0000 {
-        if b == 0x8000_0000_0000_0000 {
-            return x;
-        }
-        let z: f64 = 0.0;
-        return z / z;
+    let b = x.to_bits();
+    if b > 0x8000_0000_0000_0000 {
+        return f64::NAN;
     }
-    if b == 0 {
-        return x;
+    match sqrt_bits(b) {
+        Some(root) => f64::from_bits(root),
+        None => x,
     }
-    if b >= 0x7ff0_0000_0000_0000 {
-        return x;
-    }
-    f64::from_bits(sqrt_bits(b))
 }

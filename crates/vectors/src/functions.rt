@@ -1,40 +1,38 @@
 // The lists of the elementary functions.
-use crate::list::{List, is_f64, next_f64, next_u64};
+use crate::line::Line;
 
 // E, L, S and H.
-pub(crate) fn elementary_line(list: &mut List<'_>, first: u64) -> bool {
-    let x = words::from_bits(first);
-    let exp = is_f64(list, elementary::exp(x));
-    let ln = is_f64(list, elementary::ln(x));
-    let sqrt = is_f64(list, square_root::sqrt(x));
-    let asinh = is_f64(list, elementary::asinh(x));
-    exp & ln & sqrt & asinh
+pub(crate) fn elementary_line(line: &mut Line<'_>) -> bool {
+    let x = line.next_f64();
+    line.is_f64(elementary::exp(x))
+        && line.is_f64(elementary::ln(x))
+        && line.is_f64(square_root::sqrt(x))
+        && line.is_f64(elementary::asinh(x))
 }
 
-pub(crate) fn exp_line(list: &mut List<'_>, first: u64) -> bool {
-    is_f64(list, elementary::exp(words::from_bits(first)))
+pub(crate) fn exp_line(line: &mut Line<'_>) -> bool {
+    let t = line.next_f64();
+    line.is_f64(elementary::exp(t))
 }
 
-pub(crate) fn powf_line(list: &mut List<'_>, first: u64) -> bool {
-    let b = next_f64(list);
-    is_f64(list, elementary::powf(words::from_bits(first), b))
+pub(crate) fn powf_line(line: &mut Line<'_>) -> bool {
+    let [x, b] = line.next_f64s::<2>();
+    line.is_f64(elementary::powf(x, b))
 }
 
 // Powers, clamp, max, min and size.
-pub(crate) fn small_line(list: &mut List<'_>, first: u64) -> bool {
-    let x = words::from_bits(first);
-    let low = next_f64(list);
-    let high = next_f64(list);
-    let y = next_f64(list);
-    let powers = is_f64(list, elementary::square(x))
-        & is_f64(list, elementary::cube(x))
-        & is_f64(list, elementary::fourth(x));
-    let choices = is_f64(list, min_max::clamp(x, low, high))
-        & is_f64(list, min_max::max(x, y))
-        & is_f64(list, min_max::min(x, y));
-    powers & choices & is_f64(list, min_max::abs(x))
+pub(crate) fn small_line(line: &mut Line<'_>) -> bool {
+    let [x, low, high, y] = line.next_f64s::<4>();
+    line.is_f64(elementary::square(x))
+        && line.is_f64(elementary::cube(x))
+        && line.is_f64(elementary::fourth(x))
+        && line.is_f64(min_max::clamp(x, low, high))
+        && line.is_f64(min_max::max(x, y))
+        && line.is_f64(min_max::min(x, y))
+        && line.is_f64(min_max::abs(x))
 }
 
-pub(crate) fn count_line(list: &mut List<'_>, first: u64) -> bool {
-    min_max::ceil_count(words::from_bits(first)) == next_u64(list)
+pub(crate) fn count_line(line: &mut Line<'_>) -> bool {
+    let q = line.next_f64();
+    line.is_u64(min_max::ceil_count(q))
 }

@@ -1,30 +1,24 @@
 // The worked examples that are run only, a line each: what it is, and the number of the refusal, 0 where it passes.
-use crate::STDOUT;
 use dfn::DfnSolver;
 use dfn_parameters::{DfnConfig, DfnParams};
 use electrode::ElectrodeParams;
 use particle::ParticleDiffusion;
+use refusal::{Refusal, number_or_0};
+use std::io;
 
-fn write_number(what: &[u8], number: u64) {
-    io::write_all(STDOUT, what);
-    io::print_decimal(STDOUT, number);
-    io::write_all(STDOUT, b"\n");
-}
-
-fn particle_of(n: usize) -> u64 {
-    let a = ParticleDiffusion::new(ElectrodeParams::graphite_anode(), n);
-    a.refusal
-}
-
-pub(crate) fn particles() {
-    write_number(b"particle of 2 nodes gives ", particle_of(2));
-    write_number(b"particle of 3 nodes gives ", particle_of(3));
-    write_number(b"particle of 64 nodes gives ", particle_of(64));
-    write_number(b"particle of 65 nodes gives ", particle_of(65));
+pub(crate) fn particles<R: Print>(rt: &R) -> io::Result<()> {
+    for n in [2, 3, 64, 65] {
+        let made = ParticleDiffusion::new(ElectrodeParams::graphite_anode(), n);
+        println!(rt;
+            "particle of {n} nodes gives {}",
+            number_or_0(made.map(|_p| ()))
+        )?;
+    }
+    Ok(())
 }
 
 // The ready NMC cell with an electrolyte of high concentration whose diffusivity falls off steeply, three nodes in the anode.
-fn salty_cell() -> DfnSolver {
+fn salty_cell() -> Result<DfnSolver, Refusal> {
     let mut params = DfnParams::nmc_graphite();
     params.c_e0 = 1e5;
     params.gamma_e = 1000.0;
@@ -35,20 +29,17 @@ fn salty_cell() -> DfnSolver {
         v_min: 2.5,
         v_max: 4.2,
     };
-    let a = DfnSolver::new(params, config);
-    a.cell
+    DfnSolver::new(params, config)
 }
 
-pub(crate) fn salty_steps() {
-    let first = salty_cell().step(0.0, 1.0);
-    write_number(
-        b"DFN with c_e0 = 1e5, gamma_e = 1000, no current: first step gives ",
-        first.refusal,
-    );
-    let cell = first.cell;
-    let second = cell.step(0.0, 1.0);
-    write_number(
-        b"DFN with c_e0 = 1e5, gamma_e = 1000, no current: second step gives ",
-        second.refusal,
-    );
+pub(crate) fn salty_steps<R: Print>(rt: &R) -> io::Result<()> {
+    let mut cell = salty_cell();
+    for which in ["first", "second"] {
+        cell = cell.and_then(|c| Ok(c.step(0.0, 1.0)?.cell));
+        println!(rt;
+            "DFN with c_e0 = 1e5, gamma_e = 1000, no current: {which} step gives {}",
+            number_or_0(cell.map(|_c| ()))
+        )?;
+    }
+    Ok(())
 }

@@ -11,7 +11,7 @@ pub fn from_bits(n: u64) -> f64
     ensures { result ≡ of_bits binary64 n }
 {
     if 0x7ff0_0000_0000_0000 < n % 0x8000_0000_0000_0000 {
-        return 0.0 / 0.0;
+        return f64::NAN;
     }
     f64::from_bits(n)
 }
@@ -20,8 +20,8 @@ pub fn from_bits(n: u64) -> f64
 pub fn to_bits(x: f64) -> u64
     ensures { result ≡ to_bits binary64 x }
 {
-    if x != x {
+    if x.is_nan() {
         return 0x7ff8_0000_0000_0000;
     }
-    f64::to_bits(x)
+    x.to_bits()
 }

@@ -14,7 +14,7 @@ use Rattle.refusal.specs.Numbers.{refusal_unless, first_refusal}
 use Rattle.iterate.specs.Iterate.{first_by, all_below}
 use Rattle.array_update.specs.ArrayUpdate.{places_by}
 use Rattle.profile.specs.Weights.{inner_weight, weight}
-use Rattle.dense.specs.declared.Solved.{Solved}
+use Rattle.dense.specs.Answers.{Solved}
 use Rattle.matrix_rows.specs.Loops.{turns_from, for_range, unless_refused, try_range}
 use Rattle.matrix_rows.specs.Places.{zeros}
 use Rattle.matrix_rows.specs.Rows.{swapped, rows_swapped, row_reduced}

@@ -1,22 +1,8 @@
--- `arrays::all_finite` meets its contract: i places are tested after i turns. Assumes nothing.
-use mathlib.Core.Path.{◌≡◌, refl}
-use native.Mathlib.Omega.{arith}
-use native.Mathlib.Numerals.{add-one}
-use borrow.Author.Rules.{rules}
-use Rattle.iterate.specs.Iterate.{all_below}
+-- `arrays::all_finite` meets its contract. Assumes nothing.
+use Rattle.std.proofs.Common.{◌∙◌, rules}
+use Rattle.refusal.specs.Ranges.{finite}
+use Rattle.arrays.proofs.Parts.{first_part}
 use Rattle.arrays.proofs.all_finite.Goals as goal
 
-pub loop-i-init : goal.loop-i-init
-unfolding all_below
-loop-i-init c =
-    (search rules, refl)
-
-pub loop-i-preserved : goal.loop-i-preserved
-unfolding all_below
-loop-i-preserved c =
-    (search rules, rw (add-one, c.is_finite-ok.ensures, c.loop-i.invariant.1))
-
 pub returns : goal.returns
-returns c =
-    let e : c.loop-i.i ≡ c.args.n = omega arith in
-    rw e at c.loop-i.invariant.1
+returns c = c.all_pass.ensures finite (λ x r p. search rules) ∙ first_part c.args.c.now finite c.args.n c.requires

@@ -1,10 +1,8 @@
 -- `cell_file::missing` meets its contract. Assumes nothing.
-use Rattle.std.proofs.Common.{◌≡◌, ◌-◌, ◌≤◌}
+use Rattle.std.proofs.Common.{◌≡◌, ◌-◌}
+use Rattle.setting_table.specs.Names.{none}
 use Rattle.cell_file.specs.Settings.{in_sheets, missing_by}
 use Rattle.cell_file.proofs.missing.Given as goal
 
-abbrev pub invariant-loop-k : goal.invariant-loop-k
-invariant-loop-k l = (l.k ≤ in_sheets) × (l.found ≡ missing_by l.k l.given)
-
-abbrev pub decreases-loop-k : goal.decreases-loop-k
-decreases-loop-k l = in_sheets - l.k
+abbrev pub invariant-loop-index : goal.invariant-loop-index
+invariant-loop-index l = missing_by in_sheets l.given ≡ missing_by (none - l.index) l.given

@@ -1,26 +1,28 @@
 -- `cell_file::setting_in` meets its contract. Assumes nothing.
-use Rattle.std.proofs.Common.{sym, length-take-le, eq-eqb}
-use Rattle.cell_file.specs.Settings.{solid_setting}
-use Rattle.cell_file.proofs.Lines.{sets, sets_none}
+use Rattle.std.proofs.Common.{◌≡◌, length, Err, arith, le_refl, le-ltb, lt-ltb}
+use Rattle.std.proofs.lemmas.Grind.{common_steps}
+use Rattle.cell_file.specs.Settings.{solid_setting, setting_of}
 use Rattle.cell_file.proofs.setting_in.Goals as goal
 
-pub returns-then-t-eq0 : goal.returns-then-t-eq0
+pub returns-then-is_empty : goal.returns-then-is_empty
 unfolding solid_setting
-returns-then-t-eq0 c =
-    rw (eq-eqb _ _ c.if-t-eq0.true)
+returns-then-is_empty c = rw (← c.if-is_empty.ensures)
 
-pub slice_bounds-assign-end : goal.slice_bounds-assign-end
-slice_bounds-assign-end c =
-    sym (length-take-le c.find-sign.result c.args.t.now c.find-sign.ensures.1)
+pub returns-in_err-assign-in-Some : goal.returns-in_err-assign-in-Some
+unfolding solid_setting setting_of
+returns-in_err-assign-in-Some c =
+    let is : c.from_residual.result ≡ Err c.in_err-assign-in-Some.field-0.0 = grind (arith, common_steps) in
+    let h = c.in-Some.ensures in
+    rw (is, ← c.if-is_empty.ensures, lt-ltb _ _ h.0, ← h.1, ← h.2) c.in_err-assign-in-Some.ensures
 
-pub returns-then-sign-t : goal.returns-then-sign-t
-returns-then-sign-t c =
-    let if2 = c.if-sign-t in
-    let find = c.find-sign in
-    let if1 = c.if-t-eq0 in
-    let args = c.args in
-    sets args.t.now find.result if1.false find.ensures.0 c.assign.result if2.true c.assign.ensures
+pub returns-in_ok-assign-in-Some : goal.returns-in_ok-assign-in-Some
+unfolding solid_setting setting_of
+returns-in_ok-assign-in-Some c =
+    let h = c.in-Some.ensures in
+    rw (← c.if-is_empty.ensures, lt-ltb _ _ h.0, ← h.1, ← h.2) c.in_ok-assign-in-Some.ensures
 
-pub returns : goal.returns
-returns c =
-    sets_none c.args.t.now c.find-sign.result c.if-t-eq0.false c.find-sign.ensures.0 c.if-sign-t.false
+pub returns-in-None : goal.returns-in-None
+unfolding solid_setting setting_of
+returns-in-None c =
+    let n = length c.args.t.now in
+    rw (← c.if-is_empty.ensures, c.in-None.ensures, le-ltb n n (le_refl n))

@@ -1,18 +1,15 @@
 -- `cell_file::valued_as` meets its contract. Assumes nothing.
 use Rattle.cell_file.specs.Settings.{valued}
+use Rattle.cell_file.proofs.Lines.{valued_none}
 use Rattle.cell_file.proofs.valued_as.Goals as goal
 
-pub returns-in-Number : goal.returns-in-Number
+pub returns-in-Ok-check_number : goal.returns-in-Ok-check_number
 unfolding valued
-returns-in-Number c =
-    rw (c.in-Number.is, c.number_fault.ensures)
+returns-in-Ok-check_number c = rw (c.in-Ok.is, ← c.in-Ok-check_number.ensures)
 
-pub returns-in-TooLong : goal.returns-in-TooLong
+pub returns-in-Err-check_number : goal.returns-in-Err-check_number
 unfolding valued
-returns-in-TooLong c =
-    rw c.in-TooLong.is
+returns-in-Err-check_number c = rw (c.in-Ok.is, ← c.in-Err-check_number.ensures)
 
-pub returns-in-NotDecimal : goal.returns-in-NotDecimal
-unfolding valued
-returns-in-NotDecimal c =
-    rw c.in-NotDecimal.is
+pub returns-in-Err : goal.returns-in-Err
+returns-in-Err c = rw (c.in-Err.is, c.from.ensures) (valued_none c.args.k c.in-Err.e)

@@ -1,38 +1,37 @@
 -- `cycle_run::cycle` meets its contract: a cycle that is refused as a whole changes nothing, any other walks its list. Assumes nothing.
-use mathlib.Core.Path.{refl, sym, ◌∙◌}
-use native.Mathlib.Omega.{arith}
-use lib.ListN.{length}
-use borrow.Author.Tests.{eq-eqb, ne_eqb}
+use Rattle.std.proofs.Common.{sym, ◌∙◌, ap, subst, arith, length}
+use Rattle.std.proofs.Math.Dec.{eqb-suc-zero}
+use Rattle.cycle_run.specs.States.{CycleState}
 use Rattle.cycle_run.specs.Cycle.{cycle_settings, cycled, cycled_rows}
-use Rattle.cycle_run.specs.Counters.{started_at}
+use Rattle.cycle_run.specs.Counters.{Inside, started_at, finished_at, all_turns_at, all_rows_at}
 use Rattle.cycle_run.specs.Settings.{settings_fit}
 use Rattle.cycle_run.specs.Walk.{turns_walked, rows_walked}
-use borrow.Author.Rules.{rules}
 use Rattle.cycle_run.proofs.cycle.Goals as goal
 
-pub returns-then-number-ne0 : goal.returns-then-number-ne0
+pub returns-in-Err : goal.returns-in-Err
 unfolding cycled cycled_rows
-returns-then-number-ne0 c =
-    record { result = rw (← c.cycle_refusal-number.ensures, ne_eqb _ _ c.if-number-ne0.true); rows = rw (← c.cycle_refusal-number.ensures, ne_eqb _ _ c.if-number-ne0.true) }
+returns-in-Err c =
+    record { result = rw (← c.in-Err.ensures, eqb-suc-zero); rows = rw (← c.in-Err.ensures, eqb-suc-zero) }
 
-pub cycle_rows-requires : goal.cycle_rows-requires
+pub run_turns-requires : goal.run_turns-requires
 unfolding started_at
-cycle_rows-requires c =
-    let start = c.start in
-    let if1 = c.if-number-ne0 in
-    let cycle-refusal = c.cycle_refusal-number in
+run_turns-requires c =
     let a = c.args in
     let g = cycle_settings a.count a.repeats a.budget a.dt a.temp_k in
-    let m = settings_fit a.phases g a.s (length a.out.now) (sym cycle-refusal.ensures ∙ if1.false) in
-    rw start.ensures (((refl, (refl, (m.phases_least, (m.phases_most, m.repeats_least)))), (omega (arith, m.budget_most), m.room)))
+    let m = settings_fit a.phases g a.s (length a.out.now) (sym c.in_default.ensures) in
+    let s = c.start-run.ensures in
+    let inside = subst (λ (r : CycleState). Inside g r.position) (sym s) (m.phases_least, (m.phases_most, m.repeats_least)) in
+    record { ready = (ap (λ (r : CycleState). r.rows) s, inside); room = (omega (arith, m.budget_most), m.room) }
 
 pub returns : goal.returns
-unfolding cycled cycled_rows
+unfolding cycled cycled_rows all_turns_at all_rows_at
 returns c =
-    let cycle-rows = c.cycle_rows in
-    let start = c.start in
-    let if1 = c.if-number-ne0 in
-    let cycle-refusal = c.cycle_refusal-number in
     let a = c.args in
     let g = cycle_settings a.count a.repeats a.budget a.dt a.temp_k in
-    let m = settings_fit a.phases g a.s (length a.out.now) (sym cycle-refusal.ensures ∙ if1.false) in record { result = rw (← cycle-refusal.ensures, eq-eqb _ _ if1.false) (rw start.ensures at cycle-rows.ensures.result ∙ turns_walked a.phases g a.s m.phases_least m.repeats_least); rows = rw (← cycle-refusal.ensures, eq-eqb _ _ if1.false) (rw start.ensures at cycle-rows.ensures.rows ∙ rows_walked a.phases g a.s m.phases_least m.repeats_least _) }
+    let m = settings_fit a.phases g a.s (length a.out.now) (sym c.in_default.ensures) in
+    let u = c.run_turns.ensures in
+    let s = c.start-run.ensures in
+    record {
+      result = rw (← c.in_default.ensures) (c.finished.ensures ∙ ap finished_at u.state ∙ ap (all_turns_at a.phases g) s ∙ turns_walked a.phases g a.s m.phases_least m.repeats_least);
+      rows = rw (← c.in_default.ensures) (u.rows ∙ ap (λ (x : CycleState). all_rows_at a.phases g x a.out.now) s ∙ rows_walked a.phases g a.s m.phases_least m.repeats_least _);
+    }

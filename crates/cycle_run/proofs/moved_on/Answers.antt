@@ -1,7 +1,6 @@
 -- `cycle_run::moved_on` meets its contract: each way out has what the test found. Assumes nothing.
 use borrow.Author.Tests.{lt-ltb, le-ltb}
 use Rattle.cycle_run.specs.Counters.{moved_on}
-use borrow.Author.Rules.{rules}
 use Rattle.cycle_run.proofs.moved_on.Goals as goal
 
 pub returns-then-next-g : goal.returns-then-next-g

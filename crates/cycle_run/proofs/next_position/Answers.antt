@@ -4,7 +4,6 @@ use mathlib.Core.Bool.{true, false}
 use Rattle.binary64.specs.Operators.{◌⊕◌}
 use Rattle.cycle_run.specs.Phases.{phase_at, phase_over}
 use Rattle.cycle_run.specs.Counters.{next_position}
-use borrow.Author.Rules.{rules}
 use Rattle.cycle_run.proofs.next_position.Goals as goal
 
 pub returns-then-phase_over : goal.returns-then-phase_over

@@ -10,24 +10,24 @@ use Rattle.decimal_spelling.proofs.placed.Goals as goal
 
 pub nonzero_rem-a : goal.nonzero_rem-a
 nonzero_rem-a c =
-    rw c.two_to-over.ensures (one-le-pow (60 - c.args.at % 60) 2 (zero-lt-suc 1))
+    rw c.pow-over.ensures (one-le-pow (60 - c.args.at % 60) 2 (zero-lt-suc 1))
 
 pub overflow_mul-a : goal.overflow_mul-a
 overflow_mul-a c =
-    let two-to2 = c.two_to-over in
-    let two_to = c.two_to-up in
+    let two-to2 = c.pow-over in
+    let two_to = c.pow-up in
     let args = c.args in
     let b = product_below (args.m % 2 ^ (60 - args.at % 60)) (args.at % 60) (omega arith) (mod-lt args.m (one-le-pow (60 - args.at % 60) 2 (zero-lt-suc 1))) in
     rw (two_to.ensures, two-to2.ensures) (omega (arith, b))
 
 pub nonzero_div-a : goal.nonzero_div-a
 nonzero_div-a c =
-    rw c.two_to-over.ensures (one-le-pow (60 - c.args.at % 60) 2 (zero-lt-suc 1))
+    rw c.pow-over.ensures (one-le-pow (60 - c.args.at % 60) 2 (zero-lt-suc 1))
 
 pub returns-then-limb-lt19 : goal.returns-then-limb-lt19
 unfolding placed_at
 returns-then-limb-lt19 c =
-    rw (lt-ltb _ _ c.if-limb-lt19.true, c.two_to-up.ensures, c.two_to-over.ensures)
+    rw (lt-ltb _ _ c.if-limb-lt19.true, c.pow-up.ensures, c.pow-over.ensures)
 
 pub returns-else-limb-lt19 : goal.returns-else-limb-lt19
 unfolding placed_at

@@ -1,21 +1,12 @@
 -- `decimal_spelling::times_ten` meets its contract. Assumes nothing.
-use mathlib.Core.Path.{◌≡◌, refl, ap}
-use native.Mathlib.Omega.{arith}
-use native.Mathlib.Numerals.{add-one}
-use borrow.Author.Rules.{rules}
-use Rattle.decimal_spelling.specs.Limbs.{ten_by, Carried}
+use Rattle.std.proofs.Common.{refl, add-one, arith, rules}
+use Rattle.decimal_spelling.specs.Limbs.{ten_by}
 use Rattle.decimal_spelling.proofs.times_ten.Goals as goal
 
-pub loop-i-init : goal.loop-i-init
+pub loop-limb-init : goal.loop-limb-init
 unfolding ten_by
-loop-i-init c =
-    (search rules, search rules, refl, refl)
+loop-limb-init c = (search rules, search rules, refl)
 
-pub loop-i-preserved : goal.loop-i-preserved
+pub loop-limb-preserved : goal.loop-limb-preserved
 unfolding ten_by
-loop-i-preserved c =
-    (search rules, omega arith, search rules, rw (add-one c.loop-i.i, ← c.loop-i.invariant.3))
-
-pub returns : goal.returns
-returns c =
-    let e : c.loop-i.i ≡ 20 = omega arith in ap (λ (p : Carried). p.limbs) (rw e at c.loop-i.invariant.3)
+loop-limb-preserved c = (omega arith, search rules, rw (add-one c.loop-limb.limb-index, ← c.loop-limb.invariant.2))

@@ -1,31 +1,39 @@
 -- `decimal_text::read` meets its contract. Assumes nothing.
-use Rattle.std.proofs.Common.{◌∙◌}
-use borrow.Author.Tests.{not-false}
-use Rattle.decimal_text.proofs.Answers.{read_none, read_long, read_number, digits_most}
+use Rattle.std.proofs.Common.{◌≡◌, Err, sym, ◌∙◌}
+use Rattle.decimal_text.specs.DecimalText.{number_of}
+use Rattle.std.proofs.Common.{arith}
+use Rattle.std.proofs.lemmas.Grind.{common_steps}
+use Rattle.decimal_text.proofs.Answers.{split_none, size_none, size_some, read_long, read_number, digits_most}
 use Rattle.decimal_text.proofs.read.Goals as goal
 
-pub returns-then-not-p : goal.returns-then-not-p
-returns-then-not-p c =
-    read_none c.args.s.now c.split-p.result c.split-p.ensures c.if-not-p.true
+pub returns-in_err-p : goal.returns-in_err-p
+returns-in_err-p c =
+    let e = split_none c.args.s.now c.in_err-p.field-0.0 (sym c.split.ensures ∙ c.in_err-p.was) in
+    grind (arith, common_steps)
 
 pub returns-then-p-gt999 : goal.returns-then-p-gt999
 returns-then-p-gt999 c =
-    let if1 = c.if-not-p in
-    let split = c.split-p in
-    let args = c.args in
-    read_long args.s.now split.result split.ensures (not-false _ if1.false) c.if-p-gt999.true
+    read_long c.args.s.now c.in_ok-p.p (sym c.split.ensures ∙ c.in_ok-p.was) c.if-p-gt999.true
 
-pub scaled-requires : goal.scaled-requires
-scaled-requires c =
-    let split = c.split-p in
-    let args = c.args in
-    (digits_most args.s.now split.result split.ensures, c.if-p-gt999.false)
+pub scaled-size-requires : goal.scaled-size-requires
+scaled-size-requires c =
+    (digits_most c.args.s.now c.in_ok-p.p (sym c.split.ensures ∙ c.in_ok-p.was), c.if-p-gt999.false)
 
-pub returns : goal.returns
-returns c =
-    let scaled = c.scaled in
-    let if2 = c.if-p-gt999 in
-    let if1 = c.if-not-p in
-    let split = c.split-p in
-    let args = c.args in
-    c.with_sign.ensures ∙ rw scaled.ensures (read_number args.s.now split.result split.ensures (not-false _ if1.false) if2.false)
+pub returns-in_err-x : goal.returns-in_err-x
+returns-in_err-x c =
+    let p = c.in_ok-p.p in
+    let e : Err c.in_err-x.field-0.0 ≡ number_of c.args.s.now = size_none p.negative c.scaled-size.result c.in_err-x.field-0.0 (sym c.ok_or.ensures.value ∙ c.in_err-x.was)
+    ∙ rw c.scaled-size.ensures (read_number c.args.s.now p (sym c.split.ensures ∙ c.in_ok-p.was) c.if-p-gt999.false) in
+    grind (arith, common_steps)
+
+pub returns-then-p : goal.returns-then-p
+returns-then-p c =
+    let p = c.in_ok-p.p in
+    rw c.if-p.true at (size_some p.negative c.scaled-size.result c.in_ok-x.x (sym c.ok_or.ensures.value ∙ c.in_ok-x.was))
+    ∙ rw (c.scaled-size.ensures, ← c.if-p.true) (read_number c.args.s.now p (sym c.split.ensures ∙ c.in_ok-p.was) c.if-p-gt999.false)
+
+pub returns-else-p : goal.returns-else-p
+returns-else-p c =
+    let p = c.in_ok-p.p in
+    rw c.if-p.false at (size_some p.negative c.scaled-size.result c.in_ok-x.x (sym c.ok_or.ensures.value ∙ c.in_ok-x.was))
+    ∙ rw (c.scaled-size.ensures, ← c.if-p.false) (read_number c.args.s.now p (sym c.split.ensures ∙ c.in_ok-p.was) c.if-p-gt999.false)

@@ -6,24 +6,16 @@ use Rattle.decimal_text.proofs.scaled.Goals as goal
 
 pub returns-then-places-gt22 : goal.returns-then-places-gt22
 unfolding scaled_by
-returns-then-places-gt22 c =
-    rw c.if-down.true (nearest_long c.args.digits (c.args.places + c.args.exponent) (omega arith))
+returns-then-places-gt22 c = rw c.if-down.true (nearest_long c.args.digits (c.args.places + c.args.exponent) (omega arith))
 
 pub returns-then-down : goal.returns-then-down
 unfolding scaled_by
-returns-then-down c =
-    rw c.if-down.true c.nearest.ensures
+returns-then-down c = rw c.if-down.true c.nearest.ensures
 
 pub returns-then-exponent-places : goal.returns-then-exponent-places
 returns-then-exponent-places c =
-    let if1 = c.if-down in
-    let args = c.args in
-    rw if1.false (c.nearest-then-exponent-places.ensures ∙ scaled_places args.digits args.places args.exponent (omega arith))
+    rw c.if-down.false (c.nearest-then-exponent-places.ensures ∙ scaled_places c.args.digits c.args.places c.args.exponent (omega arith))
 
 pub returns : goal.returns
 returns c =
-    let raised = c.raised in
-    let if3 = c.if-exponent-places in
-    let if1 = c.if-down in
-    let args = c.args in
-    rw if1.false (c.nearest-2.ensures ∙ rw raised.ensures (scaled_raised args.digits args.places args.exponent if3.false))
+    rw c.if-down.false (c.nearest-2.ensures ∙ rw (c.saturating_mul.ensures, c.saturating_pow-power.ensures) (scaled_raised c.args.digits c.args.places c.args.exponent c.if-exponent-places.false))

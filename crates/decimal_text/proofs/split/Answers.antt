@@ -1,19 +1,26 @@
 -- `decimal_text::split` meets its contract. Assumes nothing.
-use Rattle.decimal_text.proofs.InParts.{split-is}
+use Rattle.std.proofs.Common.{refl, sym, ◌∙◌}
+use Rattle.decimal_text.specs.Digits.{is_at}
+use Rattle.decimal_text.specs.DecimalText.{split_of}
+use Rattle.decimal_text.proofs.InParts.{is_decimal_lem, split-is}
 use Rattle.decimal_text.proofs.split.Goals as goal
 
+pub returns-then-not-whole_text : goal.returns-then-not-whole_text
+unfolding split_of
+returns-then-not-whole_text c =
+    let s = c.args.s.now in
+    let test = is_decimal_lem s c.past-from.result c.past-after_point.result c.past-sign.result c.past-after_sign.result c.digit_run-whole.result c.digit_run-fraction.result c.digit_run-exponent.result (is_at s 0 45 45) (is_at s c.past-sign.result 45 45)
+    c.past-from.ensures c.digit_run-whole.ensures c.past-after_point.ensures c.digit_run-fraction.ensures c.past-sign.ensures c.past-after_sign.ensures c.digit_run-exponent.ensures refl refl in
+    rw (sym test ∙ c.if-not-whole_text.true)
+
 pub returns : goal.returns
+unfolding split_of
 returns c =
-    let is_at = c.is_at in
-    let digit-run3 = c.digit_run-exponent in
-    let past4 = c.past-after_sign in
-    let past3 = c.past-sign in
-    let digit-run2 = c.digit_run-fraction in
-    let past2 = c.past-after_point in
-    let digit-run = c.digit_run-whole in
-    let past = c.past-from in
-    let args = c.args in
-    split-is args.s.now past.result past2.result past3.result past4.result
-    digit-run.result digit-run2.result digit-run3.result is_at.result c.is_at-2.result
-    past.ensures digit-run.ensures past2.ensures digit-run2.ensures past3.ensures past4.ensures digit-run3.ensures
-    is_at.ensures c.is_at-2.ensures
+    let s = c.args.s.now in
+    let test = is_decimal_lem s c.past-from.result c.past-after_point.result c.past-sign.result c.past-after_sign.result c.digit_run-whole.result c.digit_run-fraction.result c.digit_run-exponent.result c.is_at.result c.is_at-2.result
+    c.past-from.ensures c.digit_run-whole.ensures c.past-after_point.ensures c.digit_run-fraction.ensures c.past-sign.ensures c.past-after_sign.ensures c.digit_run-exponent.ensures c.is_at.ensures c.is_at-2.ensures in
+    rw (
+      sym test ∙ c.if-not-whole_text.false,
+      ← split-is s c.past-from.result c.past-after_point.result c.past-sign.result c.past-after_sign.result c.digit_run-whole.result c.digit_run-fraction.result c.digit_run-exponent.result c.is_at.result c.is_at-2.result
+          c.past-from.ensures c.digit_run-whole.ensures c.past-after_point.ensures c.digit_run-fraction.ensures c.past-sign.ensures c.past-after_sign.ensures c.digit_run-exponent.ensures c.is_at.ensures c.is_at-2.ensures,
+    )

@@ -1,11 +1,9 @@
 -- `dense::load_matrix` meets its contract: before turn `row`, so many rows are copied and the copy is as long as it was. Assumes nothing.
-use Prim.Native.Nat.{◌≤◌, ◌-◌}
 use mathlib.Core.Path.{◌≡◌, refl, ◌∙◌}
 use native.Mathlib.Omega.{arith}
-use lib.ListN.{length}
 use borrow.Author.Rules.{rules}
-use Rattle.matrix_rows.specs.Loops.{for_range, range_none, range_next}
-use Rattle.dense.specs.Solve.{row_loaded, matrix_loaded}
+use Rattle.matrix_rows.specs.Loops.{range_none, range_next}
+use Rattle.dense.specs.Solve.{matrix_loaded}
 use Rattle.dense.proofs.Sizes.{row_fits}
 use Rattle.dense.proofs.load_matrix.Goals as goal
 

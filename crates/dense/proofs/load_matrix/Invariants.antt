@@ -1,12 +1,9 @@
 -- `dense::load_matrix` meets its contract: before turn `row`, so many rows are copied and the copy is as long as it was. Assumes nothing.
 use Prim.Native.Nat.{◌≤◌, ◌-◌}
-use mathlib.Core.Path.{◌≡◌, refl, ◌∙◌}
-use native.Mathlib.Omega.{arith}
+use mathlib.Core.Path.{◌≡◌}
 use lib.ListN.{length}
-use borrow.Author.Rules.{rules}
-use Rattle.matrix_rows.specs.Loops.{for_range, range_none, range_next}
-use Rattle.dense.specs.Solve.{row_loaded, matrix_loaded}
-use Rattle.dense.proofs.Sizes.{row_fits}
+use Rattle.matrix_rows.specs.Loops.{for_range}
+use Rattle.dense.specs.Solve.{row_loaded}
 use Rattle.dense.proofs.load_matrix.Given as goal
 
 abbrev pub invariant-loop-row : goal.invariant-loop-row

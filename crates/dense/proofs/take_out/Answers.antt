@@ -1,9 +1,8 @@
 -- `dense::take_out` meets its contract: before turn `row`, the unknown is out of the rows above. Assumes nothing.
-use Prim.Native.Nat.{◌≤◌, ◌-◌}
 use mathlib.Core.Path.{◌≡◌}
 use native.Mathlib.Omega.{arith}
 use borrow.Author.Rules.{rules}
-use Rattle.matrix_rows.specs.Loops.{for_range, range_none, range_next}
+use Rattle.matrix_rows.specs.Loops.{range_none, range_next}
 use Rattle.dense.specs.Substitution.{taken_out}
 use Rattle.dense.proofs.take_out.Goals as goal
 

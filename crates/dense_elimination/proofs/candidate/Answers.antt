@@ -1,6 +1,4 @@
 -- `dense_elimination::candidate` meets its contract. Assumes nothing.
-use borrow.Author.Rules.{rules}
-use native.Mathlib.Omega.{arith}
 use Rattle.dense_elimination.specs.Elimination.{candidate}
 use Rattle.dense_elimination.proofs.candidate.Goals as goal
 

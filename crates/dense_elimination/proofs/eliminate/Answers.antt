@@ -1,14 +1,13 @@
 -- `dense_elimination::eliminate` meets its contract. Before a turn of the columns, those before it are eliminated, none was refused and the matrix is as long as it was;
 -- before a turn of the search, p is the pivot of the rows before it, and once every row is looked at it is not below the limit. Assumes nothing.
-use Prim.Native.Nat.{◌≤◌, ◌+◌, ◌-◌}
+use Prim.Native.Nat.{◌+◌}
 use mathlib.Core.Path.{◌≡◌, refl, sym, ◌∙◌}
 use mathlib.Core.Bool.{false}
 use native.Mathlib.Omega.{arith}
-use lib.ListN.{length}
 use borrow.Author.Rules.{rules}
-use Rattle.matrix_rows.specs.Loops.{outcome, try_range, try_none, try_next, try_ends}
+use Rattle.matrix_rows.specs.Loops.{try_none, try_next, try_ends}
 use Rattle.matrix_columns.specs.Columns.{system}
-use Rattle.dense_elimination.specs.Elimination.{tiny, pivot_of, column_done, eliminated}
+use Rattle.dense_elimination.specs.Elimination.{tiny, pivot_of, eliminated}
 use Rattle.dense_elimination.proofs.Pivots.{pivot_first, pivot_next, pivot_row, column_none, column_some}
 use Rattle.dense_elimination.proofs.eliminate.Goals as goal
 use Rattle.dense_elimination.proofs.eliminate.Goals.{then-row-n+else-p, else-row-n}

@@ -1,7 +1,6 @@
 -- `dfn::particle_params` meets its contract. Assumes nothing.
-use Rattle.std.proofs.Common.{rules}
 use Rattle.dfn.proofs.particle_params.Goals as goal
 
 pub returns : goal.returns
 returns c =
-    rw (c.pore_flux.ensures, c.nearest_u64_to_f64.ensures)
+    rw (c.pore_flux.ensures, c.nearest_u64_to_f64.ensures, c.get-n.ensures.value)

@@ -1,5 +1,4 @@
 -- `dfn_electrolyte::d_eff_e` meets its contract. Assumes nothing.
-use Rattle.std.proofs.Common.{rules}
 use Rattle.dfn_electrolyte.proofs.d_eff_e.Goals as goal
 
 pub returns : goal.returns

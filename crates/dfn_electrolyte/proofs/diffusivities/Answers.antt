@@ -1,9 +1,7 @@
 -- `dfn_electrolyte::diffusivities` meets its contract: i nodes are done after i turns. Assumes nothing.
-use Rattle.std.proofs.Common.{◌≡◌, ◌-◌, ◌≤◌, replicate, refl, add-one, arith, rules}
+use Rattle.std.proofs.Common.{◌≡◌, refl, add-one, arith, rules}
 use Rattle.iterate.specs.Iterate.{first_by}
-use Rattle.arrays.specs.Places.{at}
-use Rattle.dfn_electrolyte.specs.Electrolyte.{d_eff_of, d_effs}
-use Rattle.binary64.specs.Literals.{«0·0»}
+use Rattle.dfn_electrolyte.specs.Electrolyte.{d_effs}
 use Rattle.dfn_electrolyte.proofs.diffusivities.Goals as goal
 
 pub loop-i-init : goal.loop-i-init

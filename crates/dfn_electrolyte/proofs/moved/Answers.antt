@@ -1,6 +1,5 @@
 -- `dfn_electrolyte::moved` meets its contract. Assumes nothing.
 use Rattle.dfn_electrolyte.specs.Electrolyte.{moved_with}
-use Rattle.std.proofs.Common.{arith, rules}
 use Rattle.dfn_electrolyte.proofs.moved.Goals as goal
 
 pub returns : goal.returns

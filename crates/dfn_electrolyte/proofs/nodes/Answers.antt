@@ -1,9 +1,7 @@
 -- `dfn_electrolyte::nodes` meets its contract: i nodes are new after i turns. Assumes nothing.
-use Rattle.std.proofs.Common.{◌≡◌, ◌+◌, ◌-◌, ◌≤◌, refl, add-one, arith, rules}
-use Rattle.min_max.specs.MinMax.{clamp_of}
+use Rattle.std.proofs.Common.{◌≡◌, ◌+◌, refl, add-one, arith, rules}
 use Rattle.iterate.specs.Iterate.{first_by}
-use Rattle.dfn_electrolyte.specs.Electrolyte.{node_with, nodes_with}
-use Rattle.binary64.specs.Literals.{«100·0», «3000·0»}
+use Rattle.dfn_electrolyte.specs.Electrolyte.{nodes_with}
 use Rattle.dfn_electrolyte.proofs.nodes.Goals as goal
 
 pub loop-i-init : goal.loop-i-init

@@ -1,8 +1,8 @@
 -- `dfn_electrolyte::nodes` meets its contract: i nodes are new after i turns. Assumes nothing.
-use Rattle.std.proofs.Common.{◌≡◌, ◌+◌, ◌-◌, ◌≤◌, refl, add-one, arith, rules}
+use Rattle.std.proofs.Common.{◌≡◌, ◌+◌, ◌-◌, ◌≤◌}
 use Rattle.min_max.specs.MinMax.{clamp_of}
 use Rattle.iterate.specs.Iterate.{first_by}
-use Rattle.dfn_electrolyte.specs.Electrolyte.{node_with, nodes_with}
+use Rattle.dfn_electrolyte.specs.Electrolyte.{node_with}
 use Rattle.binary64.specs.Literals.{«100·0», «3000·0»}
 use Rattle.dfn_electrolyte.proofs.nodes.Given as goal
 

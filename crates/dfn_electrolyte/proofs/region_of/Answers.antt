@@ -1,5 +1,4 @@
 -- `dfn_electrolyte::region_of` meets its contract. Assumes nothing.
-use Rattle.std.proofs.Common.{rules}
 use Rattle.dfn_electrolyte.proofs.region_of.Goals as goal
 
 pub returns : goal.returns

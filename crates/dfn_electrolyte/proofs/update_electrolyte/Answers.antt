@@ -1,6 +1,6 @@
 -- `dfn_electrolyte::update_electrolyte` meets its contract. Assumes nothing.
 use Rattle.dfn_electrolyte.specs.Electrolyte.{electrolyte_after}
-use Rattle.std.proofs.Common.{arith, rules}
+use Rattle.std.proofs.Common.{rules}
 use Rattle.dfn_electrolyte.proofs.update_electrolyte.Goals as goal
 
 pub nodes-requires : goal.nodes-requires

@@ -1,22 +1,18 @@
--- `dfn_parameters::ocv` meets its contract: i coefficients are taken after i turns. Assumes nothing.
-use mathlib.Core.Path.{◌≡◌, refl}
-use native.Mathlib.Omega.{arith}
-use native.Mathlib.Numerals.{add-one}
+-- `dfn_parameters::ocv` meets its contract: as many coefficients are taken as turns are made. Assumes nothing.
+use Rattle.std.proofs.Common.{◌<◌, refl, add-one, arith}
+use Rattle.std.proofs.lemmas.List.{get_or-take, length-take-le}
+use lib.Ieee.{nan}
 use Rattle.dfn_parameters.specs.Sides.{horner}
-use borrow.Author.Rules.{rules}
 use Rattle.dfn_parameters.proofs.ocv.Goals as goal
 
-pub loop-i-init : goal.loop-i-init
+pub loop-c-init : goal.loop-c-init
 unfolding horner
-loop-i-init c =
-    (search rules, refl)
+loop-c-init c = refl
 
-pub loop-i-preserved : goal.loop-i-preserved
+pub loop-c-preserved : goal.loop-c-preserved
 unfolding horner
-loop-i-preserved c =
-    (search rules, rw (add-one, c.loop-i.invariant.1))
-
-pub returns : goal.returns
-returns c =
-    let e : c.loop-i.i ≡ c.args.n = omega arith in
-    rw e at c.loop-i.invariant.1
+loop-c-preserved c =
+    let s = c.args in
+    let i = c.loop-c.c-index in
+    let l : i < s.n = omega (arith, length-take-le s.n s.coeffs.now (omega arith), c.loop-c-test.true) in
+    rw (add-one, get_or-take s.n s.coeffs.now i nan l, c.loop-c.invariant)

@@ -1,11 +1,7 @@
--- `dfn_parameters::ocv` meets its contract: i coefficients are taken after i turns. Assumes nothing.
-use Prim.Native.Nat.{◌≤◌, ◌-◌}
-use mathlib.Core.Path.{◌≡◌}
+-- `dfn_parameters::ocv` meets its contract: as many coefficients are taken as turns are made. Assumes nothing.
+use Rattle.std.proofs.Common.{◌≡◌}
 use Rattle.dfn_parameters.specs.Sides.{horner}
 use Rattle.dfn_parameters.proofs.ocv.Given as goal
 
-abbrev pub invariant-loop-i : goal.invariant-loop-i
-invariant-loop-i l = (l.i ≤ l.n) × (l.acc ≡ horner l.coeffs l.theta l.i)
-
-abbrev pub decreases-loop-i : goal.decreases-loop-i
-decreases-loop-i l = l.n - l.i
+abbrev pub invariant-loop-c : goal.invariant-loop-c
+invariant-loop-c l = l.acc ≡ horner l.coeffs l.theta l.c-index

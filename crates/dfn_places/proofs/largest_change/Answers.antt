@@ -1,23 +1,30 @@
--- `dfn_places::largest_change` meets its contract: i places are seen after i turns. Assumes nothing.
-use Prim.Native.Nat.{◌≤◌, ◌-◌}
-use mathlib.Core.Path.{◌≡◌, refl}
-use native.Mathlib.Omega.{arith}
-use native.Mathlib.Numerals.{add-one}
+-- `dfn_places::largest_change` meets its contract: as many places are seen as turns are made. Assumes nothing.
+use Rattle.std.proofs.Common.{◌<◌, length, take, refl, add-one, arith, rules}
+use Rattle.std.proofs.lemmas.List.{get_or-take, length-take-le, length_push}
+use Rattle.std.proofs.lemmas.Slice.Zip.{zip_turn}
+use lib.Ieee.{nan}
 use Rattle.dfn_places.specs.Places.{change_after}
-use borrow.Author.Rules.{rules}
 use Rattle.dfn_places.proofs.largest_change.Goals as goal
 
-pub loop-i-init : goal.loop-i-init
+pub loop-a-init : goal.loop-a-init
 unfolding change_after
-loop-i-init c =
-    (search rules, refl)
+loop-a-init c = refl
 
-pub loop-i-preserved : goal.loop-i-preserved
+pub loop-a-preserved : goal.loop-a-preserved
 unfolding change_after
-loop-i-preserved c =
-    (search rules, rw (add-one, c.max-most.ensures, c.abs.ensures, c.loop-i.invariant.1))
-
-pub returns : goal.returns
-returns c =
-    let e : c.loop-i.i ≡ c.args.n = omega arith in
-    rw e at c.loop-i.invariant.1
+loop-a-preserved c =
+    let s = c.args in
+    let i = length c.loop-a.yielded in
+    let t = zip_turn (take s.n s.new.now) (take s.n s.old.now) c.loop-a.yielded c.into_iter-a-iterator.result c.loop-a.a-iterator c.next.new.self c.next.result (search rules) (search rules) c.loop-a.yielded_by (c.in-Some.a, c.in-Some.b) c.in-Some.is c.next.ensures.steps in
+    let l : i < s.n = omega (arith, length-take-le s.n s.new.now (omega arith), t.0) in
+    rw (
+      length_push c.loop-a.yielded (c.in-Some.a, c.in-Some.b),
+      add-one,
+      c.max-most.ensures,
+      c.abs.ensures,
+      t.2 nan,
+      t.3 nan,
+      get_or-take s.n s.new.now i nan l,
+      get_or-take s.n s.old.now i nan l,
+      c.loop-a.invariant,
+    )

@@ -1,14 +1,7 @@
--- `dfn_places::largest_change` meets its contract: i places are seen after i turns. Assumes nothing.
-use Prim.Native.Nat.{◌≤◌, ◌-◌}
-use mathlib.Core.Path.{◌≡◌, refl}
-use native.Mathlib.Omega.{arith}
-use native.Mathlib.Numerals.{add-one}
+-- `dfn_places::largest_change` meets its contract: as many places are seen as turns are made. Assumes nothing.
+use Rattle.std.proofs.Common.{◌≡◌, length}
 use Rattle.dfn_places.specs.Places.{change_after}
-use borrow.Author.Rules.{rules}
 use Rattle.dfn_places.proofs.largest_change.Given as goal
 
-abbrev pub invariant-loop-i : goal.invariant-loop-i
-invariant-loop-i l = (l.i ≤ l.n) × (l.most ≡ change_after l.new l.old l.i)
-
-abbrev pub decreases-loop-i : goal.decreases-loop-i
-decreases-loop-i l = l.n - l.i
+abbrev pub invariant-loop-a : goal.invariant-loop-a
+invariant-loop-a l = l.most ≡ change_after l.new l.old (length l.yielded)

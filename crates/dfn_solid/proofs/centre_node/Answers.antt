@@ -1,5 +1,5 @@
 -- `dfn_solid::centre_node` meets its contract. Assumes nothing.
-use Rattle.std.proofs.Common.{arith, rules, eq-eqb, ne_eqb}
+use Rattle.std.proofs.Common.{eq-eqb, ne_eqb}
 use Rattle.dfn_solid.specs.Solid.{centre_with}
 use Rattle.dfn_solid.proofs.centre_node.Goals as goal
 

@@ -1,8 +1,8 @@
 -- `dfn_solid::diffusivities` meets its contract: k places are done after k turns. Assumes nothing.
-use Rattle.std.proofs.Common.{◌≡◌, ◌-◌, ◌≤◌, replicate, refl, add-one, arith, rules}
+use Rattle.std.proofs.Common.{◌≡◌, ◌-◌, ◌≤◌, replicate}
 use Rattle.iterate.specs.Iterate.{first_by}
 use Rattle.arrays.specs.Places.{at}
-use Rattle.dfn_solid.specs.Solid.{d_solid, d_solids}
+use Rattle.dfn_solid.specs.Solid.{d_solid}
 use Rattle.binary64.specs.Literals.{«0·0»}
 use Rattle.dfn_solid.proofs.diffusivities.Given as goal
 

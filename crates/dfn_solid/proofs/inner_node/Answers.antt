@@ -1,6 +1,5 @@
 -- `dfn_solid::inner_node` meets its contract. Assumes nothing.
 use Rattle.dfn_solid.specs.Solid.{inner_with}
-use Rattle.std.proofs.Common.{arith, rules}
 use Rattle.dfn_solid.proofs.inner_node.Goals as goal
 
 pub returns : goal.returns

@@ -1,9 +1,8 @@
 -- `dfn_solid::move_particle` meets its contract: i nodes are new after i - 1 turns, the centre being put before the first. Assumes nothing.
-use Rattle.std.proofs.Common.{◌≡◌, ◌-◌, ◌≤◌, List, add-one, arith, rules}
+use Rattle.std.proofs.Common.{◌≡◌, ◌-◌, ◌≤◌, List}
 use lib.Ieee.{Float}
 use Rattle.array_update.specs.ArrayUpdate.{places_by}
-use Rattle.dfn_solid.specs.Solid.{node_with, clamped_node}
-use Rattle.dfn_solid.proofs.NodeKinds.{one_place, inner_is, surface_is, last_place}
+use Rattle.dfn_solid.specs.Solid.{clamped_node}
 use Rattle.dfn_solid.proofs.move_particle.Given as goal
 
 abbrev pub invariant-loop-i : goal.invariant-loop-i

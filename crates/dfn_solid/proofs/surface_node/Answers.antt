@@ -1,6 +1,5 @@
 -- `dfn_solid::surface_node` meets its contract. Assumes nothing.
 use Rattle.dfn_solid.specs.Solid.{surface_with}
-use Rattle.std.proofs.Common.{arith, rules}
 use Rattle.dfn_solid.proofs.surface_node.Goals as goal
 
 pub returns : goal.returns

@@ -1,13 +1,32 @@
 -- `dfn_solid::update_solid` meets its contract: i particles are new after i turns. Assumes nothing.
-use Rattle.std.proofs.Common.{◌≡◌, ◌-◌, ◌≤◌, refl, add-one, arith, rules}
-use Rattle.dfn_solid.specs.Solid.{particles_with, surfaces_with, solid_after, solid_update}
+use Rattle.std.proofs.Common.{◌≡◌, ℕ, ◌*◌, Bool, ◌&&◌, List, length, refl, add-one, arith, rules}
+use Rattle.std.proofs.lemmas.Result.{err_from_is_err_and}
+use lib.Ieee.{Float}
+use Rattle.binary64.specs.Operators.{◌⊘◌, count}
+use Rattle.refusal.specs.Numbers.{refusal_unless, not_finite_of}
+use Rattle.refusal.specs.Ranges.{finite}
+use Rattle.arrays.specs.Places.{all_finite}
+use Rattle.dfn_solid.specs.Solid.{Solid, d_solids, at_least_one, particles_with, surfaces_with, solid_after, solid_update}
 use Rattle.dfn_solid.specs.Room.{room, room_at}
+use Rattle.dfn_solid.specs.declared.ParticleParams.{ParticleParams}
 use Rattle.dfn_solid.proofs.update_solid.Goals as goal
 
-pub overflow_mul-count : goal.overflow_mul-count
-overflow_mul-count c =
-    let r = room c.args.count c.args.v.n (omega arith) (omega arith) in
-    omega (arith, r)
+module _ (v : ParticleParams) (c : List Float) (m : ℕ) where
+  worked_out : (d out : List Float) (sum x : Float) (i j : ℕ) → i ≡ m → j ≡ at_least_one m → d ≡ d_solids v c (m * v.n)
+      → out ≡ particles_with v c d i → sum ≡ surfaces_with v c d i → x ≡ count j → record { c = out; theta = sum ⊘ x } ≡ solid_after v c m
+  unfolding solid_after
+  worked_out d out sum x i j ei ej ed eo es ex = rw (eo, es, ex, ej, ed, ei)
+
+  -- the answer by the number of the two tests, b of the places and f of the mean
+  module _ (s : Solid) (k : ℕ) (b f : Bool) (es : s ≡ solid_after v c m) (ek : k ≡ refusal_unless (b && f) not_finite_of)
+      (eb : b ≡ all_finite s.c (m * v.n)) (ef : f ≡ finite s.theta) where
+    made : record { refusal = k; c_s = s.c; theta = s.theta } ≡ solid_update v c m
+    unfolding solid_update
+    made = rw (ek, eb, ef, es)
+
+    refused : record { refusal = k; c_s = s.c; theta = (solid_after v c m).theta } ≡ solid_update v c m
+    unfolding solid_update
+    refused = rw (ek, eb, ef, es)
 
 pub diffusivities-d-requires : goal.diffusivities-d-requires
 diffusivities-d-requires c =
@@ -39,13 +58,13 @@ overflow_add-sum c =
     let r = room_at c.loop-i.i c.args.v.n (omega arith) (omega arith) in
     omega (arith, r)
 
-pub offset_bounds-c_s-i : goal.offset_bounds-c_s-i
-offset_bounds-c_s-i c =
+pub offset_bounds-new-i : goal.offset_bounds-new-i
+offset_bounds-new-i c =
     let r = room_at c.loop-i.i c.args.v.n (omega arith) (omega arith) in
     search rules
 
-pub bounds-c_s-i : goal.bounds-c_s-i
-bounds-c_s-i c =
+pub bounds-new-i : goal.bounds-new-i
+bounds-new-i c =
     let loop = c.loop-i in
     let args = c.args in
     let r = room_at loop.i args.v.n (omega arith) (omega arith) in
@@ -58,29 +77,29 @@ loop-i-preserved c =
     let old = c.loop-i.invariant.1 in
     (search rules, (rw (add-one, moved, old.0), rw (add-one, moved, old.0, old.1)))
 
-pub overflow_mul-count-2 : goal.overflow_mul-count-2
-overflow_mul-count-2 c =
-    let args = c.args in
-    let r = room args.count args.v.n (omega arith) (omega arith) in
+pub overflow_mul-used : goal.overflow_mul-used
+overflow_mul-used c =
+    let r = room c.args.count c.args.v.n (omega arith) (omega arith) in
     omega (arith, r)
 
-pub solid_finite-requires : goal.solid_finite-requires
-solid_finite-requires c =
-    let args = c.args in
-    room args.count args.v.n (omega arith) (omega arith)
+pub all_finite-requires : goal.all_finite-requires
+all_finite-requires c =
+    let e : length c.loop-i.new ≡ 512 = search rules in
+    rw e (room c.args.count c.args.v.n (omega arith) (omega arith))
+
+pub returns-in_err-refuse_unless : goal.returns-in_err-refuse_unless
+returns-in_err-refuse_unless c =
+    let p = err_from_is_err_and c.from_residual.result c.from_residual.ensures.1 in
+    let a = c.args in
+    let all = c.loop-i in
+    let s = worked_out a.v a.c.now a.count c.diffusivities-d.result all.new all.sum c.nearest_u64_to_f64.result all.i c.at_least_one.result
+    (omega arith) c.at_least_one.ensures c.diffusivities-d.ensures all.invariant.1.0 all.invariant.1.1 c.nearest_u64_to_f64.ensures in
+    rw (p.1, p.2) (refused a.v a.c.now a.count _ _ c.all_finite.result c.is_finite.result s c.in_err-refuse_unless.ensures c.all_finite.ensures c.is_finite.ensures)
 
 pub returns : goal.returns
-unfolding solid_update solid_after
 returns c =
+    let a = c.args in
     let all = c.loop-i in
-    let e : all.i ≡ c.args.count = omega arith in
-    rw (
-      c.refusal_unless.ensures,
-      c.is_finite.ensures,
-      c.solid_finite.ensures,
-      c.nearest_u64_to_f64.ensures,
-      c.at_least_one.ensures,
-      rw e at all.invariant.1.0,
-      rw e at all.invariant.1.1,
-      c.diffusivities-d.ensures,
-    )
+    let s = worked_out a.v a.c.now a.count c.diffusivities-d.result all.new all.sum c.nearest_u64_to_f64.result all.i c.at_least_one.result
+    (omega arith) c.at_least_one.ensures c.diffusivities-d.ensures all.invariant.1.0 all.invariant.1.1 c.nearest_u64_to_f64.ensures in
+    made a.v a.c.now a.count _ _ c.all_finite.result c.is_finite.result s c.in_ok-refuse_unless.ensures c.all_finite.ensures c.is_finite.ensures

@@ -1,6 +1,5 @@
 -- `dfn_voltage::compute_voltage` meets its contract. Assumes nothing.
 use Rattle.dfn_voltage.specs.Voltage.{voltage_of}
-use borrow.Author.Rules.{rules}
 use Rattle.dfn_voltage.proofs.compute_voltage.Goals as goal
 
 pub returns : goal.returns

@@ -1,5 +1,4 @@
 -- `dfn_voltage::exchange_current` meets its contract. Assumes nothing.
-use borrow.Author.Rules.{rules}
 use Rattle.dfn_voltage.proofs.exchange_current.Goals as goal
 
 pub returns : goal.returns

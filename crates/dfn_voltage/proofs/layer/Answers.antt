@@ -1,5 +1,4 @@
 -- `dfn_voltage::layer` meets its contract. Assumes nothing.
-use borrow.Author.Rules.{rules}
 use Rattle.dfn_voltage.proofs.layer.Goals as goal
 
 pub returns : goal.returns

@@ -1,6 +1,5 @@
 -- `dfn_voltage::open_voltage` meets its contract. Assumes nothing.
 use Rattle.dfn_voltage.specs.Voltage.{open_of}
-use borrow.Author.Rules.{rules}
 use Rattle.dfn_voltage.proofs.open_voltage.Goals as goal
 
 pub returns : goal.returns

@@ -1,6 +1,5 @@
 -- `dfn_voltage::overpotential` meets its contract. Assumes nothing.
 use Rattle.dfn_voltage.specs.Voltage.{over_of}
-use borrow.Author.Rules.{rules}
 use Rattle.dfn_voltage.proofs.overpotential.Goals as goal
 
 pub returns-then-i0 : goal.returns-then-i0

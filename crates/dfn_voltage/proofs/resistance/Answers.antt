@@ -1,6 +1,5 @@
 -- `dfn_voltage::resistance` meets its contract. Assumes nothing.
 use Rattle.dfn_voltage.specs.Voltage.{resistance_of}
-use borrow.Author.Rules.{rules}
 use Rattle.dfn_voltage.proofs.resistance.Goals as goal
 
 pub returns : goal.returns

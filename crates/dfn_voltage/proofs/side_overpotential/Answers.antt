@@ -1,6 +1,5 @@
 -- `dfn_voltage::side_overpotential` meets its contract. Assumes nothing.
 use Rattle.dfn_voltage.specs.Voltage.{side_of}
-use borrow.Author.Rules.{rules}
 use Rattle.dfn_voltage.proofs.side_overpotential.Goals as goal
 
 pub returns : goal.returns

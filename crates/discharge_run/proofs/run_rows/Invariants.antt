@@ -1,19 +1,11 @@
 -- `discharge_run::run_rows` meets its contract: the loop makes the turns of the definition, keeps the summary of the rows so far, and leaves as each ending does. Assumes nothing.
-use Prim.Native.Nat.{ℕ, ◌+◌, ◌-◌}
-use mathlib.Core.Path.{◌≡◌, refl, sym, ◌∙◌, ap}
-use native.Mathlib.Omega.{arith}
-use Rattle.runs.specs.Rows.{run_after, rows_after}
-use Rattle.runs.specs.Laws.{Going, going_on, over_at_once, ends_refused, ends_stopped, ends_full}
+use Rattle.std.proofs.Common.{◌≡◌}
+use Rattle.runs.specs.Laws.{Going}
 use Rattle.runs.specs.Lowest.{summary}
-use Rattle.runs.specs.LowestLaws.{summary_none, summary_length, summary_updated, summary_ends, group_within}
-use Rattle.discharge_run.specs.declared.RunState.{RunState}
-use Rattle.discharge_run.specs.Discharge.{over_of, last_row_of, turned, finished_run, all_turns, all_rows}
-use Rattle.discharge_run.specs.Laws.{turned_rows, turned_refused}
-use borrow.Author.Rules.{rules}
+use Rattle.discharge_run.specs.States.{state_of}
+use Rattle.discharge_run.specs.Discharge.{over_of, last_row_of, turned}
 use Rattle.discharge_run.proofs.run_rows.Given as goal
 
 abbrev pub invariant-loop-i : goal.invariant-loop-i
-invariant-loop-i l = Going over_of (turned l.w) last_row_of l.initial.run l.initial.out l.total l.out l.run l.i × ((l.run.rows ≡ l.i) × (l.lowest ≡ summary l.i l.out l.initial.lowest))
-
-abbrev pub decreases-loop-i : goal.decreases-loop-i
-decreases-loop-i l = l.total - l.i
+invariant-loop-i l =
+    Going over_of (turned l.w) last_row_of (state_of l.initial.run) l.initial.out l.total l.out (state_of l.run) l.i × ((l.run.rows ≡ l.i) × (l.lowest ≡ summary l.i l.out l.initial.lowest))

@@ -1,11 +1,10 @@
 -- `electrolyte_profile::advanced` meets its contract: the first `node` places are new, the others as they were. The measure is what is left of n. Assumes nothing.
-use Prim.Native.Nat.{◌≤◌, ◌-◌}
 use mathlib.Core.Path.{◌≡◌, refl}
 use native.Mathlib.Omega.{arith}
 use native.Mathlib.Numerals.{add-one}
 use borrow.Author.Rules.{rules}
 use Rattle.iterate.specs.Iterate.{first_by}
-use Rattle.electrolyte_profile.specs.Step.{node_new, profile_new}
+use Rattle.electrolyte_profile.specs.Step.{profile_new}
 use Rattle.electrolyte_profile.proofs.advanced.Goals as goal
 
 pub loop-node-init : goal.loop-node-init

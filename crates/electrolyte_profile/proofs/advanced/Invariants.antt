@@ -1,11 +1,8 @@
 -- `electrolyte_profile::advanced` meets its contract: the first `node` places are new, the others as they were. The measure is what is left of n. Assumes nothing.
 use Prim.Native.Nat.{◌≤◌, ◌-◌}
-use mathlib.Core.Path.{◌≡◌, refl}
-use native.Mathlib.Omega.{arith}
-use native.Mathlib.Numerals.{add-one}
-use borrow.Author.Rules.{rules}
+use mathlib.Core.Path.{◌≡◌}
 use Rattle.iterate.specs.Iterate.{first_by}
-use Rattle.electrolyte_profile.specs.Step.{node_new, profile_new}
+use Rattle.electrolyte_profile.specs.Step.{node_new}
 use Rattle.electrolyte_profile.proofs.advanced.Given as goal
 
 abbrev pub invariant-loop-node : goal.invariant-loop-node

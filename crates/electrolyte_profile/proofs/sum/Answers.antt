@@ -1,23 +1,16 @@
--- `electrolyte_profile::sum` meets its contract: the first i places are added up. The measure is what is left of n. Assumes nothing.
-use Prim.Native.Nat.{◌≤◌, ◌-◌}
-use mathlib.Core.Path.{◌≡◌, refl}
-use native.Mathlib.Omega.{arith}
-use native.Mathlib.Numerals.{add-one}
-use borrow.Author.Rules.{rules}
+-- `electrolyte_profile::sum` meets its contract: the places before a turn are added up. Assumes nothing.
+use Rattle.std.proofs.Common.{◌<◌, refl, add-one, arith}
+use Rattle.std.proofs.lemmas.List.{get_or-take, length-take-le}
+use Rattle.std.specs.Float.{nan}
 use Rattle.electrolyte_profile.specs.Places.{sum_of}
 use Rattle.electrolyte_profile.proofs.sum.Goals as goal
 
-pub loop-i-init : goal.loop-i-init
+pub loop-x-init : goal.loop-x-init
 unfolding sum_of
-loop-i-init c =
-    (search rules, refl)
+loop-x-init c = refl
 
-pub loop-i-preserved : goal.loop-i-preserved
+pub loop-x-preserved : goal.loop-x-preserved
 unfolding sum_of
-loop-i-preserved c =
-    (search rules, rw (add-one, c.loop-i.invariant.1))
-
-pub returns : goal.returns
-returns c =
-    let e : c.loop-i.i ≡ c.args.n = omega arith in
-    rw e at c.loop-i.invariant.1
+loop-x-preserved c =
+    let l : c.loop-x.x-index < c.args.n = omega (arith, length-take-le c.args.n c.args.c.now (omega arith)) in
+    rw (add-one, ← c.loop-x.invariant, get_or-take c.args.n c.args.c.now c.loop-x.x-index nan l)

@@ -1,9 +1,7 @@
 -- `exp` meets its contract. Assumes nothing.
 use mathlib.Core.Path.{sym, ap, subst, ◌∙◌}
-use native.Mathlib.Omega.{arith}
 use lib.Dec.{T}
 use lib.Ieee.{of_bits}
-use Rattle.square_root.proofs.Patterns.{no_nan_bits}
 use Rattle.elementary.specs.Exp.{squarings}
 use Rattle.elementary.proofs.ExpLaws.{exp_zero, exp_high, exp_low, exp_mid, powered_is}
 use Rattle.elementary.proofs.exp.Goals as goal
@@ -11,10 +9,6 @@ use Rattle.elementary.proofs.exp.Goals as goal
 pub returns-then-t : goal.returns-then-t
 returns-then-t c =
     sym (exp_zero c.args.t (subst T (sym c.well_formed.0.1) tt) c.if-t.true)
-
-pub float_from_bits-result : goal.float_from_bits-result
-float_from_bits-result c =
-    no_nan_bits 0x7ff0_0000_0000_0000 (omega arith)
 
 pub returns-then-t-2 : goal.returns-then-t-2
 unfolding of_bits

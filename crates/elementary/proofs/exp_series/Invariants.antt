@@ -5,6 +5,3 @@ use Rattle.elementary.proofs.exp_series.Given as goal
 
 abbrev pub invariant-loop-k : goal.invariant-loop-k
 invariant-loop-k l = series l.k l.y l.a ≡ series 18 l.y one
-
-abbrev pub decreases-loop-k : goal.decreases-loop-k
-decreases-loop-k l = l.k

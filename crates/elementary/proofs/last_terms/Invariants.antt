@@ -6,6 +6,3 @@ use Rattle.elementary.proofs.last_terms.Given as goal
 
 abbrev pub invariant-loop-k : goal.invariant-loop-k
 invariant-loop-k l = (series l.k l.y l.low ≡ series l.terms l.y start_low) × (series l.k l.y l.high ≡ series l.terms l.y start_high)
-
-abbrev pub decreases-loop-k : goal.decreases-loop-k
-decreases-loop-k l = l.k

@@ -1,9 +1,9 @@
 -- `galvanostatic_run::finished` meets its contract. Assumes nothing.
+use Rattle.runs.specs.Endings.{ending_is}
 use Rattle.galvanostatic_run.specs.Galvanostatic.{finished_run}
-use borrow.Author.Rules.{rules}
 use Rattle.galvanostatic_run.proofs.finished.Goals as goal
 
 pub returns : goal.returns
 unfolding finished_run
 returns c =
-    rw c.ending_of.ensures
+    rw (ending_is c.args.s.ending)

@@ -1,9 +1,18 @@
 -- `galvanostatic_run::row_of` meets its contract. Assumes nothing.
-use Rattle.galvanostatic_run.specs.Galvanostatic.{row_of}
-use borrow.Author.Rules.{rules}
+use Rattle.std.proofs.Common.{Bool, true, false, ◌≡◌, refl, pos}
+use Rattle.std.specs.Float.Ieee as Ieee
+use Rattle.std.specs.Float.{binary64}
+use Rattle.std.specs.Int.{from_bool}
+use Rattle.galvanostatic_run.specs.Galvanostatic.{row_of, flag_of}
 use Rattle.galvanostatic_run.proofs.row_of.Goals as goal
+
+-- the library's number of a flag
+flag_is : (b : Bool) → Ieee.of_int binary64 (pos (from_bool b)) ≡ flag_of b
+unfolding flag_of Ieee.of_bits Ieee.of_int
+flag_is true = refl
+flag_is false = refl
 
 pub returns : goal.returns
 unfolding row_of
 returns c =
-    rw c.flag.ensures
+    rw (c.from.ensures, flag_is c.args.r.cutoff)

@@ -1,6 +1,5 @@
 -- `image_builds::built_electrolyte` meets its contract. Assumes nothing.
 use Rattle.electrolyte_images.specs.Images.{electrolyte_at}
-use borrow.Author.Rules.{rules}
 use Rattle.image_builds.specs.Builds.{electrolyte_built}
 use Rattle.image_builds.proofs.built_electrolyte.Goals as goal
 

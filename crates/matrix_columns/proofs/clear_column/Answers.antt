@@ -1,11 +1,10 @@
 -- `matrix_columns::clear_column` meets its contract: before turn `row`, the rows above it are cleared and the matrix is as long as it was. Assumes nothing.
-use Prim.Native.Nat.{◌≤◌, ◌+◌, ◌-◌}
+use Prim.Native.Nat.{◌+◌}
 use mathlib.Core.Path.{◌≡◌, refl, ◌∙◌}
 use native.Mathlib.Omega.{arith}
-use lib.ListN.{length}
 use borrow.Author.Rules.{rules}
-use Rattle.matrix_rows.specs.Loops.{for_range, range_none, range_next}
-use Rattle.matrix_columns.specs.Columns.{system, row_less, row_cleared, column_cleared}
+use Rattle.matrix_rows.specs.Loops.{range_none, range_next}
+use Rattle.matrix_columns.specs.Columns.{row_less, row_cleared, column_cleared}
 use Rattle.matrix_columns.proofs.clear_column.Goals as goal
 
 pub loop-row-init : goal.loop-row-init

@@ -1,5 +1,4 @@
 -- `matrix_columns::exchange_rows` meets its contract. Assumes nothing.
-use borrow.Author.Rules.{rules}
 use Rattle.matrix_rows.specs.Rows.{swapped_itself, rows_itself}
 use Rattle.matrix_columns.proofs.exchange_rows.Goals as goal
 

@@ -1,6 +1,5 @@
 -- `matrix_columns::take_pivot` meets its contract. Assumes nothing.
 use mathlib.Core.Path.{◌∙◌}
-use borrow.Author.Rules.{rules}
 use Rattle.matrix_columns.specs.Columns.{pivot_taken}
 use Rattle.matrix_columns.proofs.take_pivot.Goals as goal
 

@@ -1,9 +1,7 @@
 -- `matrix_rows::swap_places` meets its contract. Assumes nothing.
-use mathlib.Core.Path.{refl}
-use Rattle.matrix_rows.specs.Rows.{swapped}
+use Rattle.std.proofs.Common.{◌∙◌, arith}
+use Rattle.matrix_rows.proofs.Swaps.{swap_made}
 use Rattle.matrix_rows.proofs.swap_places.Goals as goal
 
 pub returns : goal.returns
-unfolding swapped
-returns c =
-    refl
+returns c = c.swap.ensures.after ∙ swap_made _ _ _ (omega arith) (omega arith)

@@ -1,18 +1,15 @@
 -- `is_negative` meets its contract. Assumes nothing.
-use Rattle.std.proofs.Common.{false, T, sym, ap, subst}
+use Rattle.std.proofs.Common.{sym, ap, not, ◌∙◌}
 use Rattle.binary64.specs.Operators.{negative}
-use Rattle.square_root.proofs.Patterns.{not_nan}
-use Rattle.min_max.proofs.SignLaws.{is_nan_lem, nan_test, sign_bit}
+use Rattle.square_root.proofs.Patterns.{nan_is}
+use Rattle.min_max.proofs.SignLaws.{sign_is}
 use Rattle.min_max.proofs.is_negative.Goals as goal
 
-pub returns-then-x : goal.returns-then-x
-returns-then-x c =
-    sym (ap negative (is_nan_lem c.args.x c.if-x.true))
+pub returns-then-not-is_nan : goal.returns-then-not-is_nan
+returns-then-not-is_nan c =
+    c.is_sign_negative.ensures ∙ sign_is c.args.x
 
-pub float_to_bits-result : goal.float_to_bits-result
-float_to_bits-result c =
-    not_nan c.args.x c.if-x.false
-
-pub returns : goal.returns
-returns c =
-    let x = c.args.x in sign_bit x (subst T (sym c.well_formed.0.1) tt) (nan_test x false c.if-x.false)
+pub returns-else-not-is_nan : goal.returns-else-not-is_nan
+returns-else-not-is_nan c =
+    let n = nan_is c.args.x (sym c.is_nan.ensures.value ∙ c.if-not-is_nan.false) in
+    ap not c.if-not-is_nan.false ∙ sym (ap negative n)

@@ -1,30 +1,12 @@
 -- `plain_text::blanks_ahead` meets its contract. Assumes nothing.
-use mathlib.Core.Path.{sym, ◌∙◌}
-use native.Mathlib.Omega.{arith}
-use native.Mathlib.Nat.{zero-add}
-use Rattle.plain_text.proofs.Ahead.{blanks_turn, blanks_stop, blanks_over}
+use Rattle.std.proofs.Common.{not, rules, tests, ◌∙◌}
+use Rattle.std.proofs.lemmas.Iterator.{YieldsList-from_slice}
+use Rattle.std.proofs.lemmas.Iterator.Search.{position_from_yields_List}
+use Rattle.plain_text.specs.Text.{is_blank}
+use Rattle.plain_text.proofs.Ahead.{blanks_found}
 use Rattle.plain_text.proofs.blanks_ahead.Goals as goal
-
-pub loop-at-init : goal.loop-at-init
-loop-at-init c =
-    zero-add _
-
-pub returns-then-not-is_blank : goal.returns-then-not-is_blank
-returns-then-not-is_blank c =
-    let is-blank = c.is_blank in
-    let loop-test = c.loop-at-test in
-    let loop = c.loop-at in
-    let args = c.args in
-    omega (arith, blanks_stop args.s.now loop.at loop-test.true (sym is-blank.ensures ∙ c.if-not-is_blank.true))
-
-pub loop-at-preserved : goal.loop-at-preserved
-loop-at-preserved c =
-    let is-blank = c.is_blank in
-    let loop-test = c.loop-at-test in
-    let loop = c.loop-at in
-    let args = c.args in
-    blanks_turn args.s.now loop.at loop-test.true (sym is-blank.ensures ∙ c.if-not-is_blank.false) ∙ loop.invariant
 
 pub returns : goal.returns
 returns c =
-    omega (arith, blanks_over c.args.s.now c.loop-at.at c.loop-at-test.false)
+    let found = position_from_yields_List (λ b. not (is_blank b)) _ _ c.position.result c.position.ensures.ran (YieldsList-from_slice c.args.s.now cc) (λ x b q k. search (rules, tests)) in
+    c.unwrap_or.ensures ∙ blanks_found c.args.s.now c.position.result found

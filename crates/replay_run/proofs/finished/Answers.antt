@@ -1,9 +1,9 @@
 -- `replay_run::finished` meets its contract. Assumes nothing.
+use Rattle.runs.specs.Endings.{ending_is}
 use Rattle.replay_run.specs.Replay.{finished_replay}
-use borrow.Author.Rules.{rules}
 use Rattle.replay_run.proofs.finished.Goals as goal
 
 pub returns : goal.returns
 unfolding finished_replay
 returns c =
-    rw c.ending_of.ensures
+    rw (ending_is c.args.s.ending)

@@ -1,24 +1,25 @@
--- `replay_run::replay` meets its contract: a replay that is refused as a whole changes nothing, any other makes its turns. Assumes nothing.
-use native.Mathlib.Omega.{arith}
-use borrow.Author.Tests.{eq-eqb, ne_eqb}
-use Rattle.replay_run.specs.Replay.{started, replayed, replayed_rows}
-use borrow.Author.Rules.{rules}
+-- `replay_run::replay` meets its contract: a replay that is refused changes nothing, any other makes its turns. Assumes nothing.
+use Rattle.std.proofs.Common.{ap, ◌∙◌, arith}
+use Rattle.std.proofs.Math.Dec.{eqb-suc-zero}
+use Rattle.replay_run.specs.Answers.{ReplayState}
+use Rattle.replay_run.specs.Replay.{started, finished_replay, all_turns, all_rows, replayed, replayed_rows}
 use Rattle.replay_run.proofs.replay.Goals as goal
 
-pub returns-then-number-ne0 : goal.returns-then-number-ne0
+pub returns-in-Err : goal.returns-in-Err
 unfolding replayed replayed_rows
-returns-then-number-ne0 c =
-    record { result = rw (← c.replay_refusal-number.ensures, ne_eqb _ _ c.if-number-ne0.true); rows = rw (← c.replay_refusal-number.ensures, ne_eqb _ _ c.if-number-ne0.true) }
+returns-in-Err c =
+    record { result = rw (← c.in-Err.ensures, eqb-suc-zero); rows = rw (← c.in-Err.ensures, eqb-suc-zero) }
 
-pub replay_rows-requires : goal.replay_rows-requires
+pub run_turns-requires : goal.run_turns-requires
 unfolding started
-replay_rows-requires c =
-    (rw c.start.ensures, (omega arith, omega arith))
+run_turns-requires c =
+    record { ready = ap (λ (r : ReplayState). r.rows) c.start-run.ensures; room = (omega arith, omega arith) }
 
 pub returns : goal.returns
-unfolding replayed replayed_rows
+unfolding replayed replayed_rows all_turns all_rows finished_replay
 returns c =
-    let replay-rows = c.replay_rows in
-    let start = c.start in
-    let if1 = c.if-number-ne0 in
-    let replay-refusal = c.replay_refusal-number in record { result = rw (← replay-refusal.ensures, eq-eqb _ _ if1.false, ← start.ensures) replay-rows.ensures.result; rows = rw (← replay-refusal.ensures, eq-eqb _ _ if1.false, ← start.ensures) replay-rows.ensures.rows }
+    let u = c.run_turns.ensures in
+    record {
+      result = rw (← c.in_default.ensures, ← c.start-run.ensures) (c.finished.ensures ∙ ap finished_replay u.state);
+      rows = rw (← c.in_default.ensures, ← c.start-run.ensures) u.rows;
+    }

@@ -1,9 +1,6 @@
 -- `row_search::first_in` meets its contract: no row before j is under the voltage. Assumes nothing.
-use Prim.Native.Nat.{◌-◌}
 use native.Mathlib.Omega.{arith}
-use Rattle.row_search.specs.Search.{under}
-use Rattle.row_search.specs.FirstWhere.{Passed, passed_start, passed_more, passed_here, passed_all}
-use borrow.Author.Rules.{rules}
+use Rattle.row_search.specs.FirstWhere.{passed_start, passed_more, passed_here, passed_all}
 use Rattle.row_search.proofs.first_in.Goals as goal
 
 pub loop-j-init : goal.loop-j-init
@@ -16,11 +13,7 @@ bounds-rows-j c =
 
 pub returns-then-rows-j : goal.returns-then-rows-j
 returns-then-rows-j c =
-    passed_here _ _ _ _ c.loop-j.invariant c.loop-j-test.true c.if-rows-j.true
-
-pub loop-j-smaller : goal.loop-j-smaller
-loop-j-smaller c =
-    omega (arith, c.loop-j-test.true)
+    (passed_here _ _ _ _ c.loop-j.invariant c.loop-j-test.true c.if-rows-j.true, c.loop-j-test.true)
 
 pub loop-j-preserved : goal.loop-j-preserved
 loop-j-preserved c =

@@ -1,7 +1,6 @@
 -- `row_search::group_end` meets its contract. Assumes nothing.
 use borrow.Author.Tests.{lt-ltb, le-ltb}
 use Rattle.row_search.specs.GroupSearch.{group_end}
-use borrow.Author.Rules.{rules}
 use Rattle.row_search.proofs.group_end.Goals as goal
 
 pub returns-then-count-start-lt64 : goal.returns-then-count-start-lt64

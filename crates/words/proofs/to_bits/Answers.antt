@@ -1,25 +1,15 @@
--- `words::to_bits` meets its contract: only the NaN differs from itself. Assumes nothing.
-use mathlib.Core.Path.{◌≡◌, refl, sym, ap, ◌∙◌, subst}
-use mathlib.Core.Bool.{false, not}
-use lib.Dec.{T}
-use lib.Ieee.{Float, nan, inf, fin, binary64, is_nan, to_bits, ne}
-use lib.Ieee.Compare.{differs_from_itself, nan_differs}
+-- `words::to_bits` meets its contract: a NaN is the one NaN. Assumes nothing.
+use mathlib.Core.Path.{◌≡◌, refl, sym, ◌∙◌}
+use mathlib.Core.Bool.{true, true≢false}
+use lib.Ieee.{Float, nan, inf, fin, binary64, is_nan, to_bits}
 use Rattle.words.proofs.to_bits.Goals as goal
 
-nan_pattern : 0x7ff8_0000_0000_0000 ≡ to_bits binary64 nan
-unfolding to_bits
-nan_pattern = refl
+nan_pattern : (x : Float) → is_nan x ≡ true → 0x7ff8_0000_0000_0000 ≡ to_bits binary64 x
+unfolding is_nan to_bits
+nan_pattern nan h = refl
+nan_pattern (inf s) h = absurd (true≢false (sym h))
+nan_pattern (fin s m e) h = absurd (true≢false (sym h))
 
-no_nan : (x : Float) → ne x x ≡ false → T (not (is_nan x))
-unfolding is_nan
-no_nan nan h = absurd (subst T (sym nan_differs ∙ h) tt)
-no_nan (inf s) h = tt
-no_nan (fin s m e) h = tt
-
-pub returns-then-x : goal.returns-then-x
-returns-then-x c =
-    nan_pattern ∙ ap (to_bits binary64) (sym (differs_from_itself c.args.x (subst T (sym c.if-x.true) tt)))
-
-pub float_to_bits-result : goal.float_to_bits-result
-float_to_bits-result c =
-    no_nan c.args.x c.if-x.false
+pub returns-then-is_nan : goal.returns-then-is_nan
+returns-then-is_nan c =
+    nan_pattern c.args.x (sym c.is_nan.ensures.value ∙ c.if-is_nan.true)

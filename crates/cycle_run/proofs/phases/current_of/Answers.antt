@@ -1,7 +1,6 @@
 -- `cycle_run::phases::current_of` meets its contract. Assumes nothing.
 use mathlib.Core.Path.{sym, ap}
 use Rattle.cycle_run.specs.Phases.{current_of}
-use borrow.Author.Rules.{rules}
 use Rattle.cycle_run.proofs.phases.current_of.Goals as goal
 
 pub returns-in-Charge : goal.returns-in-Charge

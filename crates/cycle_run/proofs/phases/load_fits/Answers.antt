@@ -1,7 +1,6 @@
 -- `cycle_run::phases::load_fits` meets its contract. Assumes nothing.
 use mathlib.Core.Path.{sym, ap}
 use Rattle.cycle_run.specs.Phases.{phase_load_fits}
-use borrow.Author.Rules.{rules}
 use Rattle.cycle_run.proofs.phases.load_fits.Goals as goal
 
 pub returns-in-Charge : goal.returns-in-Charge

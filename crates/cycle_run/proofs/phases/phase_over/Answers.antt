@@ -2,7 +2,6 @@
 use mathlib.Core.Path.{sym, ap}
 use Rattle.cycle_run.specs.declared.phases.Phase.{Phase}
 use Rattle.cycle_run.specs.Phases.{phase_over}
-use borrow.Author.Rules.{rules}
 use Rattle.cycle_run.proofs.phases.phase_over.Goals as goal
 
 pub returns-in-Rest : goal.returns-in-Rest

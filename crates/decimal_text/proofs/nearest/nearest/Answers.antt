@@ -1,17 +1,20 @@
 -- `decimal_text::nearest::nearest` meets its contract: within both bounds digits and power of ten are exact. Assumes nothing.
+use Rattle.std.proofs.Common.{inl, inr, le-leb}
+use Rattle.std.proofs.Math.Bool.{and-false}
+use borrow.Author.Tests.{lt-leb}
 use Rattle.decimal_text.specs.Nearest.{nearest_to}
-use Rattle.decimal_text.proofs.Exact.{quotient_within}
+use Rattle.decimal_text.proofs.Exact.{quotient_is}
 use Rattle.decimal_text.proofs.nearest.nearest.Goals as goal
 
-pub returns-then-digits-places : goal.returns-then-digits-places
+pub returns-then-places-le22 : goal.returns-then-places-le22
 unfolding nearest_to
-returns-then-digits-places c =
-    let nearest-u64-to-f64 = c.nearest_u64_to_f64 in
-    let if1 = c.if-digits-places in
-    let args = c.args in
-    rw (if1.true, c.power_of_ten.ensures, nearest-u64-to-f64.ensures, quotient_within args.digits args.places if1.true)
+returns-then-places-le22 c =
+    rw (le-leb _ _ c.if-digits-le9007199254740992.true, le-leb _ _ c.if-places-le22.true, c.power_of_ten.ensures, c.nearest_u64_to_f64.ensures, quotient_is c.args.digits c.args.places c.if-digits-le9007199254740992.true c.if-places-le22.true)
 
 pub returns : goal.returns
 unfolding nearest_to
 returns c =
-    rw c.if-digits-places.false
+    elim c.else-digits-le9007199254740992.either [
+      | inl h ↦ rw (lt-leb _ _ h.1, and-false _)
+      | inr h ↦ rw (lt-leb _ _ h)
+    ]

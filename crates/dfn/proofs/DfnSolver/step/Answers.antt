@@ -1,18 +1,17 @@
 -- `dfn::DfnSolver::step` meets its contract. Assumes nothing.
+use Rattle.std.proofs.Common.{refl, arith}
+use Rattle.std.proofs.lemmas.Result.{err_from_is_err_and}
 use Rattle.dfn.specs.Parts.{answer_kept, answer_made}
-use Rattle.std.proofs.Common.{rules}
 use Rattle.dfn.proofs.DfnSolver.step.Goals as goal
 
-pub returns-then-out-ne0 : goal.returns-then-out-ne0
-returns-then-out-ne0 c =
-    let step-in-place = c.step_in_place-out in
-    let args = c.args in
-    answer_kept args.self args.current args.dt step-in-place.result _ _ _ (step-in-place.ensures args.self.voltage args.self.current
-    args.self.theta_neg_surf args.self.theta_pos_surf) c.if-out-ne0.true
+pub returns-in_err-report : goal.returns-in_err-report
+returns-in_err-report c =
+    let p = err_from_is_err_and c.from_residual.result c.from_residual.ensures.1 in
+    let d = c.args.self in
+    rw (p.1, p.2)
+    (answer_kept d c.args.current c.args.dt _ _ _ _ (c.in_err-report.ensures d.voltage d.current d.theta_neg_surf d.theta_pos_surf) (λ z. omega (arith, z)))
 
 pub returns : goal.returns
 returns c =
-    let step-in-place = c.step_in_place-out in
-    let args = c.args in
-    answer_made args.self args.current args.dt step-in-place.result _ _ _ (step-in-place.ensures args.self.voltage args.self.current
-    args.self.theta_neg_surf args.self.theta_pos_surf) c.if-out-ne0.false
+    let d = c.args.self in
+    answer_made d c.args.current c.args.dt _ _ _ _ (c.in_ok-report.ensures d.voltage d.current d.theta_neg_surf d.theta_pos_surf) refl

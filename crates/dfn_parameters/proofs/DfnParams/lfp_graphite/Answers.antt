@@ -1,9 +1,8 @@
 -- `dfn_parameters::DfnParams::lfp_graphite` meets its contract. Assumes nothing.
-use mathlib.Core.Path.{refl}
-use Rattle.dfn_parameters.specs.Ready.{lfp_graphite}
+use Rattle.dfn_parameters.specs.Ready.{nmc_graphite, lfp_graphite}
 use Rattle.dfn_parameters.proofs.DfnParams.lfp_graphite.Goals as goal
 
 pub returns : goal.returns
-unfolding lfp_graphite
+unfolding nmc_graphite lfp_graphite
 returns c =
-    refl
+    rw c.nmc_graphite.ensures

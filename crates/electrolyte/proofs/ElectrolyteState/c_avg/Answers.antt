@@ -1,21 +1,15 @@
--- `electrolyte::ElectrolyteState::c_avg` meets its contract: past the test nothing is refused, so the places of the sum are there. Assumes nothing.
-use Rattle.std.proofs.Common.{sym, ◌∙◌, rules, ne_eqb}
-use Rattle.refusal.specs.Numbers.{first_refusal}
-use Rattle.refusal.specs.Answers.{outcome}
+-- `electrolyte::ElectrolyteState::c_avg` meets its contract: n is how many nodes there are. Assumes nothing.
+use Rattle.electrolyte.specs.State.{average_of}
 use Rattle.electrolyte.specs.Calls.{c_avg_of}
-use Rattle.electrolyte.specs.Accepted.{state_total}
+use Rattle.electrolyte.specs.Accepted.{counted_total, state_total}
 use Rattle.electrolyte.proofs.ElectrolyteState.c_avg.Goals as goal
 
-pub returns-then-refusal-ne0 : goal.returns-then-refusal-ne0
-unfolding c_avg_of outcome first_refusal
-returns-then-refusal-ne0 c =
-    rw (← c.refusal-refusal.ensures, ne_eqb _ _ c.if-refusal-ne0.true, ne_eqb _ _ c.if-refusal-ne0.true)
-
-pub average-requires : goal.average-requires
-average-requires c =
-    state_total _ (sym c.refusal-refusal.ensures ∙ c.if-refusal-ne0.false)
+pub sum-requires : goal.sum-requires
+sum-requires c =
+    let n = counted_total _ _ c.in_ok-n.ensures in rw n.1 (state_total _ n.0)
 
 pub returns : goal.returns
-unfolding c_avg_of
+unfolding c_avg_of average_of
 returns c =
-    rw (c.answered.ensures, c.average.ensures, c.refusal-refusal.ensures)
+    let n = counted_total _ _ c.in_ok-n.ensures in
+    rw (c.finite_or_refused.ensures, c.per_node.ensures, c.sum.ensures, n.1, n.0)

@@ -1,23 +1,19 @@
 -- `pack::PackCell::step` meets its contract. Assumes nothing.
-use Rattle.solver.specs.Parts.{Agrees, cell_of, StepOf}
-use Rattle.solver.specs.Step.{stepped}
-use Rattle.pack.specs.Pack.{solver_of}
-use Rattle.pack.specs.Stepped.{stepped_made, stepped_kept}
-use borrow.Author.Rules.{rules}
+use Rattle.std.specs.Prelude.{◌≡◌}
+use Rattle.std.proofs.Common.{ap, ◌∙◌}
+use Rattle.std.proofs.lemmas.Result.{err_from_is_err_and}
+use Rattle.refusal.specs.Refusals.{number_of}
+use Rattle.pack.specs.Answers.{PackStepped}
+use Rattle.pack.specs.Pack.{cell_stepped}
+use Rattle.pack.specs.Stepped.{cell_kept}
 use Rattle.pack.proofs.PackCell.step.Goals as goal
 
-pub returns-then-reported-ne0 : goal.returns-then-reported-ne0
-returns-then-reported-ne0 c =
-    let step-in-place = c.step_in_place-reported in
-    let parts-with = c.parts_with-q in
+pub returns-in_err-report : goal.returns-in_err-report
+returns-in_err-report c =
     let a = c.args in
-    stepped_kept a.self a.config a.anode a.cathode a.current_a a.dt a.temp_k step-in-place.result _ _
-    (rw parts-with.ensures at step-in-place.ensures) c.if-reported-ne0.true
-
-pub returns : goal.returns
-returns c =
-    let step-in-place = c.step_in_place-reported in
-    let parts-with = c.parts_with-q in
-    let a = c.args in
-    rw parts-with.ensures (stepped_made a.self a.config a.anode a.cathode a.current_a a.dt a.temp_k step-in-place.result _ _
-    (rw parts-with.ensures at step-in-place.ensures) c.if-reported-ne0.false)
+    let s = a.sheets in
+    let x = err_from_is_err_and c.from_residual.result c.from_residual.ensures.1 in
+    let h = c.in_err-report.ensures in
+    let n : number_of c.in_err-report.field-0.0 ≡ (cell_stepped a.self s.config s.anode s.cathode a.current_a a.dt a.temp_k).reported.refusal = ap (λ (y : PackStepped). y.reported.refusal) h in
+    let k = ap (λ (y : PackStepped). y.cell) h ∙ cell_kept a.self s.config s.anode s.cathode a.current_a a.dt a.temp_k (λ z. cc) in
+    rw (x.1, x.2) (rw k at h)

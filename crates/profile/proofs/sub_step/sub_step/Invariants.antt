@@ -1,14 +1,10 @@
 -- `profile::sub_step::sub_step` meets its contract: after the turn i the first i places are new, and the old place before is kept. The centre comes before the
 -- loop, the surface after it. Assumes nothing.
 use Prim.Native.Nat.{◌≤◌, ◌-◌}
-use mathlib.Core.Path.{◌≡◌, ap, ◌∙◌}
-use native.Mathlib.Omega.{arith}
+use mathlib.Core.Path.{◌≡◌}
 use lib.ListN.{get_or, set}
 use lib.Ieee.{nan}
-use Rattle.iterate.specs.Iterate.{first_by}
-use Rattle.profile.specs.SubSteps.{node_by, sub_step_by}
-use Rattle.profile.proofs.InPlace.{New, restored, shell_turn, kept, surface_turn}
-use borrow.Author.Rules.{rules}
+use Rattle.profile.proofs.InPlace.{New}
 use Rattle.profile.proofs.sub_step.sub_step.Given as goal
 
 -- the loop starts with the centre new and its old value kept: the old profile is the one with the centre put back

@@ -1,15 +1,7 @@
--- `replay_run::lines::hex_word` meets its contract: k digits are read after k turns. Assumes nothing.
-use Prim.Native.Nat.{◌≤◌, ◌-◌}
-use mathlib.Core.Path.{◌≡◌, refl}
-use native.Mathlib.Omega.{arith}
-use native.Mathlib.Numerals.{add-one}
-use Rattle.iterate.specs.Iterate.{all_below}
-use Rattle.replay_run.specs.Lines.{digits_at, number_at, number_fits}
-use borrow.Author.Rules.{rules}
+-- `replay_run::lines::hex_word` meets its contract: after k turns, k digits are read. Assumes nothing.
+use Rattle.std.proofs.Common.{◌≡◌, true}
+use Rattle.replay_run.specs.Lines.{digits_at, number_at}
 use Rattle.replay_run.proofs.lines.hex_word.Given as goal
 
-abbrev pub invariant-loop-k : goal.invariant-loop-k
-invariant-loop-k l = (l.k ≤ 16) × ((l.digits ≡ digits_at l.text l.a l.k) × (l.bits ≡ number_at l.text l.a l.k))
-
-abbrev pub decreases-loop-k : goal.decreases-loop-k
-decreases-loop-k l = 16 - l.k
+abbrev pub invariant-loop-b : goal.invariant-loop-b
+invariant-loop-b l = (digits_at l.text l.a l.b-index ≡ true) × (l.bits ≡ number_at l.text l.a l.b-index)

@@ -1,0 +1,2 @@
+-- Signs: a text without an '='.
+pub mod Signs
