@@ -1,9 +1,10 @@
-// Arrays of numbers of which the first n places are used and the others are +0: the tests of their places, and making them. A cell's arrays differ in length and
-// are lent as slices.
+// Arrays of numbers of which the first n places are used and the others are +0: the tests of their places, filling them and making them. A cell's arrays
+// differ in length and are lent as slices.
 #![tactic(auto)]
 
 ghost use Rattle.std.specs.Prelude.{◌≡◌, ◌≤◌, length, Bool, Float};
 ghost use Rattle.refusal.specs.Ranges.{in_range};
+ghost use Rattle.iterate.specs.Iterate.{first_by};
 ghost use Rattle.arrays.specs.Places.{all_finite, all_pass, places_fit, filled};
 
 // Whether each place of a slice passes a test. A place that fails does not end the loop, so that it is done in vectors.
@@ -42,12 +43,20 @@ pub fn places_fit(c: &[f64], n: usize, low: f64, high: f64) -> bool
     places_pass(c, n, |x| refusal::within(x, low, high))
 }
 
+// Puts x in each of the first n places.
+pub fn fill(c: &mut [f64], n: usize, x: f64)
+    requires { n ≤ length c.old }
+    ensures { c.new ≡ first_by n (λ i. x) c.old }
+{
+    c[..n].fill(x);
+}
+
 // An array of N places with x in the first n, the others +0.
 pub fn uniform<const N: usize>(x: f64, n: usize) -> [f64; N]
     requires { n ≤ N }
     ensures { result ≡ filled N x n }
 {
     let mut c = [0.0; N];
-    c[..n].fill(x);
+    fill(&mut c, n, x);
     c
 }

@@ -12,14 +12,12 @@ ghost use Rattle.boundary.specs.Search.{search_return, search_after};
 ghost use Rattle.boundary.specs.Runs.{discharge_return, discharge_rows, discharge_lowest, discharge_after, replay_return, replay_rows, replay_after, cycle_lengths, cycle_return, cycle_rows, cycle_after, galvanostatic_return, galvanostatic_rows, galvanostatic_lowest, galvanostatic_after};
 
 use image_builds::calls::BuildCall;
-use image_builds::{build_length, built_length, put_new, put_ready};
 use image_layout::{
     CELL_BYTES, CELL_RUN_BYTES, CELL_STEP_BYTES, DFN_BYTES, DFN_RUN_BYTES, DFN_STEP_BYTES,
     ELECTROLYTE_BYTES, FOUND_BYTES, FOUND_HOW, FOUND_ROW, NUMBER_BYTES, PARTICLE_BYTES,
     PHASES_BYTES, SOLUTION_BYTES,
 };
 use image_numbers::calls::NumberCall;
-use image_numbers::{number_length, number_of};
 use refusal::{Refusal, number_or_0};
 
 // Whether the image and the answer have the lengths m and n.
@@ -39,10 +37,10 @@ pub fn pj_number(call: u64, image: &[u8], x: f64, y: f64, answer: &mut [u8]) -> 
         Ok(call) => call,
         Err(e) => return e.number(),
     };
-    if !lengths_fit(image.len(), number_length(call), answer.len(), NUMBER_BYTES) {
+    if !lengths_fit(image.len(), call.image_length(), answer.len(), NUMBER_BYTES) {
         return Refusal::Length.number();
     }
-    match number_of(call, image, x, y) {
+    match call.answer(image, x, y) {
         Ok(v) => {
             codec::write_f64(answer, 0, v);
             0
@@ -63,18 +61,18 @@ pub fn pj_build(call: u64, image: &[u8], answer: &mut [u8]) -> u64
     };
     if !lengths_fit(
         image.len(),
-        build_length(call),
+        call.image_length(),
         answer.len(),
-        built_length(call),
+        call.built_length(),
     ) {
         return Refusal::Length.number();
     }
     match call {
         BuildCall::OfReady(of) => {
-            put_ready(of, answer);
+            of.put(answer);
             0
         }
-        BuildCall::OfNew(of) => number_or_0(put_new(of, image, answer)),
+        BuildCall::OfNew(of) => number_or_0(of.put(image, answer)),
     }
 }
 

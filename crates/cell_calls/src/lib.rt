@@ -170,6 +170,5 @@ pub fn cycle(
         dt,
         temp_k,
     };
-    cycle_run::check_counts(g, s, rows.len())?;
-    Err(Refusal::Sheet)
+    cycle_run::check_counts(g, s, rows.len()).and(Err(Refusal::Sheet))
 }

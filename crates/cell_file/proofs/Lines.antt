@@ -31,7 +31,7 @@ unfolding before
 before_some b s t e = e
 
 -- ---- after a fault nothing is taken
-fault_stays : (ls : List (List ℕ)) (st : Settings) (n : ℕ) → eqb st.fault 0 ≡ false → st ≡ lines_taken st n ls
+pub fault_stays : (ls : List (List ℕ)) (st : Settings) (n : ℕ) → eqb st.fault 0 ≡ false → st ≡ lines_taken st n ls
 unfolding lines_taken taken_line
 fault_stays [] st n h = refl
 fault_stays (l ∷ ls) st n h = rw h (fault_stays ls st (suc n) h)

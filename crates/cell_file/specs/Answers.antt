@@ -69,6 +69,17 @@ setting_answered (Err e) = fault_on e
 abbrev pub settings_of : Taken → Settings
 settings_of st = record { values = st.values; given = st.given; fault = 0; place = none; line = 0 }
 
+-- of what a line left in place, with its fault if it has one
+abbrev pub line_taken : {A : Type 0} → Settings → ℕ → Result A LineFault → Settings
+line_taken st line (Ok x) = st
+line_taken st line (Err e) = record {
+  values = st.values;
+  given = st.given;
+  fault = number_of e.fault;
+  place = unwrap_or e.place none;
+  line = line;
+}
+
 abbrev pub settings_answered : Result Taken SettingsFault → Settings
 settings_answered (Ok st) = settings_of st
 settings_answered (Err e) = record {

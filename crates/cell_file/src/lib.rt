@@ -7,7 +7,7 @@ ghost use Rattle.std.specs.Prelude.{◌≡◌, ◌<◌, ◌≤◌, length, unwra
 ghost use Rattle.plain_text.specs.Text.{lines_of};
 ghost use Rattle.setting_table.specs.Names.{none};
 ghost use Rattle.cell_file.specs.Settings.{number_fault, valued, assigned, solid_setting, line_setting, fresh_settings, faulted, stored, taken_line, lines_taken, in_sheets, missing_by, cell_taken};
-ghost use Rattle.cell_file.specs.Answers.{fault_from, number_of, fault_of, setting_given, setting_answered, settings_of, settings_answered};
+ghost use Rattle.cell_file.specs.Answers.{fault_from, number_of, fault_of, set_to, setting_given, setting_answered, line_taken, settings_of, settings_answered};
 
 use decimal_text::DecimalError;
 use setting_table::names::{ANODE, NONE, Place, place_of};
@@ -91,47 +91,58 @@ impl Settings {
         }
     }
 
-    fn store(mut self, line: u64, a: Setting) -> Result<Settings, SettingsFault>
-        ensures { settings_answered result ≡ stored (settings_of self) line (setting_answered (Ok (Some a))) }
+    fn store(&mut self, line: u64, a: Setting) -> Result<(), LineFault>
+        ensures { line_taken (settings_of self.new) line result ≡ stored (settings_of self.old) line (set_to a) }
     {
         let k = a.place.index();
         if self.given[k] != 0 {
-            return Err(self.at_fault(line, Fault::GivenTwice, Some(a.place)));
+            return Err(LineFault {
+                fault: Fault::GivenTwice,
+                place: Some(a.place),
+                value: a.value,
+            });
         }
         self.values[k] = a.value;
         self.given[k] = line;
-        Ok(self)
+        Ok(())
+    }
+
+    // Takes a line in place: a file has many, and most of the numbers stay.
+    fn take_in(&mut self, line: u64, s: &[u8]) -> Result<(), LineFault>
+        ensures { line_taken (settings_of self.new) line result ≡ taken_line (settings_of self.old) line s.now }
+    {
+        match setting_on(s) {
+            Ok(None) => Ok(()),
+            Ok(Some(a)) => self.store(line, a),
+            Err(fault) => Err(fault),
+        }
     }
 
     // Takes a line.
-    pub fn take_line(self, line: u64, s: &[u8]) -> Result<Settings, SettingsFault>
+    pub fn take_line(mut self, line: u64, s: &[u8]) -> Result<Settings, SettingsFault>
         ensures { settings_answered result ≡ taken_line (settings_of self) line s.now }
     {
-        match setting_on(s) {
-            Ok(None) => Ok(self),
-            Ok(Some(a)) => self.store(line, a),
+        match self.take_in(line, s) {
+            Ok(()) => Ok(self),
             Err(e) => Err(self.at_fault(line, e.fault, e.place)),
         }
     }
 
     // Line by line: `lines_of` cuts a text as `split_once` does.
-    fn take_lines(self, s: &[u8]) -> Result<Settings, SettingsFault>
+    fn take_lines(mut self, s: &[u8]) -> Result<Settings, SettingsFault>
         requires { length s.now ≤ 4095 }
         ensures { settings_answered result ≡ lines_taken (settings_of self) 1 (lines_of s.now) }
     {
-        let mut st = self;
         let mut rest = s;
         let mut line = 1;
         while let Some((first, others)) = plain_text::split_once(rest, b'\n') {
-            // `?` in this loop meets a bug of the check
-            match st.take_line(line, first) {
-                Ok(next) => st = next,
-                Err(e) => return Err(e),
+            if let Err(e) = self.take_in(line, first) {
+                return Err(self.at_fault(line, e.fault, e.place));
             }
             rest = others;
             line += 1;
         }
-        st.take_line(line, rest)
+        self.take_line(line, rest)
     }
 
     // Takes a cell file, which gives both sheets; t_ref may be left out.
@@ -145,6 +156,44 @@ impl Settings {
         match missing(&taken.given) {
             Some(place) => Err(taken.at_fault(0, Fault::NotGiven, Some(place))),
             None => Ok(taken),
+        }
+    }
+}
+
+impl SettingsFault {
+    // The numbers to start from, of which none is given yet, where a fault was met before.
+    pub fn fresh(values: [f64; NONE], fault: Fault) -> SettingsFault
+        ensures { settings_answered (Err result) ≡ fresh_settings values (number_of fault) }
+    {
+        Settings::fresh(values).at_fault(0, fault, None)
+    }
+}
+
+// Takes a line, unless a fault was met before.
+pub fn take_line(
+    st: Result<Settings, SettingsFault>,
+    line: u64,
+    s: &[u8],
+) -> Result<Settings, SettingsFault>
+    ensures { settings_answered result ≡ taken_line (settings_answered st) line s.now }
+{
+    match st {
+        Ok(st) => st.take_line(line, s),
+        Err(e) => Err(e),
+    }
+}
+
+// Takes a cell file; where a fault was met before, that stays, unless the file is too long.
+pub fn take_cell(st: Result<Settings, SettingsFault>, s: &[u8]) -> Result<Settings, SettingsFault>
+    ensures { settings_answered result ≡ cell_taken (settings_answered st) s.now }
+{
+    match st {
+        Ok(st) => st.take_cell(s),
+        Err(e) => {
+            if s.len() > 4095 {
+                return Err(e.settings.at_fault(0, Fault::LongFile, None));
+            }
+            Err(e)
         }
     }
 }

@@ -1,12 +1,14 @@
 // The arguments: the first may name the cell, each other one is NAME=VALUE.
-ghost use Rattle.std.specs.Prelude.{◌≡◌};
-ghost use Rattle.command_line.specs.Arguments.{names_cell, asks_help, first_place};
+ghost use Rattle.std.specs.Prelude.{◌≡◌, ◌≤◌, length};
+ghost use Rattle.cell_file.specs.Settings.{fresh_settings};
+ghost use Rattle.command_line.specs.Arguments.{names_cell, asks_help, first_place, fresh_answered};
 
 use crate::reading;
 use cell_file::Settings;
 use cell_file::records::ready;
 use electrode::ElectrodeParams;
 use setting_messages::{ERR, say};
+use setting_table::names::NONE;
 use std::env::{Env, FillError};
 use std::rt::Files;
 
@@ -28,8 +30,28 @@ pub fn asks_help(word: &[u8]) -> bool
     plain_text::is(word, b"help") | plain_text::is(word, b"--help") | plain_text::is(word, b"-h")
 }
 
+// Numbers to start from, and the number of a fault that was met before, which may be none of `cell_file::Fault`.
+#[derive(Clone, Copy)]
+pub struct NumberedFault {
+    pub fault: u64,
+    pub settings: Settings,
+}
+
+// The numbers to start from, of which none is given yet, where a fault with a number was met before, 0 for none.
+pub fn fresh(values: [f64; NONE], fault: u64) -> Result<Settings, NumberedFault>
+    ensures { fresh_answered result ≡ fresh_settings values fault }
+{
+    let settings = Settings::fresh(values);
+    if fault == 0 {
+        return Ok(settings);
+    }
+    Err(NumberedFault { fault, settings })
+}
+
 // Argument i, put at the start of a text; empty also where there is no such argument, and where it is longer than the text.
-pub fn argument<'a>(rt: &impl Env, i: usize, text: &'a mut [u8]) -> &'a [u8] {
+pub fn argument<'a>(rt: &impl Env, i: usize, text: &'a mut [u8]) -> &'a [u8]
+    ensures { length result.now ≤ length text.old }
+{
     let size = rt.arg(i, text).unwrap_or(0);
     &text[..size]
 }
@@ -69,7 +91,7 @@ fn from_file(
     match start.take_cell(file) {
         Ok(st) => Ok(st),
         Err(e) => {
-            setting_messages::in_file(e, path, program);
+            setting_messages::in_file(Err(e), path, program);
             Err(Said)
         }
     }
@@ -111,13 +133,14 @@ pub fn refused(word: &[u8], fault: &[u8]) -> Said {
     Said
 }
 
-// Takes argument i; an empty one, or one that is too long, is a fault too.
+// Takes argument i, unless a fault was met before; an empty one, or one that is too long, is a fault too.
 pub fn take_argument(
-    st: Settings,
+    st: Result<Settings, Said>,
     i: usize,
     word: &[u8],
     program: &[u8],
 ) -> Result<Settings, Said> {
+    let st = st?;
     if word.is_empty() {
         say(ERR, b"an argument is empty or longer than 4,096 bytes\n");
         return Err(Said);
@@ -125,7 +148,7 @@ pub fn take_argument(
     match st.take_line(i as u64, word) {
         Ok(taken) => Ok(taken),
         Err(e) => {
-            setting_messages::in_argument(e.fault, e.place, word, program);
+            setting_messages::in_argument(Some(e.fault), e.place, word, program);
             Err(Said)
         }
     }

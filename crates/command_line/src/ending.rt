@@ -26,17 +26,19 @@ fn word_of(e: Refusal) -> &'static [u8] {
     }
 }
 
-// A refusal by its number and its word.
-fn say_refusal(fd: i32, e: Refusal) {
+// A refusal by its number and its word; a number that is not in the table has no word.
+fn say_refusal(fd: i32, number: u64) {
     say(fd, b"refusal ");
-    io::print_decimal(fd, e.number());
-    say(fd, word_of(e));
+    io::print_decimal(fd, number);
+    if let Some(e) = Refusal::from_number(number) {
+        say(fd, word_of(e));
+    }
 }
 
-// A cell that was not built.
-pub fn not_built(e: Refusal) {
+// A cell that was not built, by the number that refused it.
+pub fn not_built(number: u64) {
     say(ERR, b"the cell is not built: ");
-    say_refusal(ERR, e);
+    say_refusal(ERR, number);
     say(ERR, b"\n");
 }
 
@@ -46,19 +48,25 @@ pub fn write_cell(named: &[u8]) {
     say(OUT, if names_cell(named) { named } else { b"nmc" });
 }
 
-pub fn write_setting(k: Place, x: f64) {
+// A number with its name and its unit; the number alone where there is no place.
+pub fn write_setting(place: Option<Place>, x: f64) {
+    let Some(k) = place else {
+        say(OUT, b" =");
+        number(OUT, x);
+        return;
+    };
     say(OUT, b" ");
-    name(OUT, k);
+    name(OUT, Some(k));
     say(OUT, b"=");
     number(OUT, x);
-    unit(OUT, k);
+    unit(OUT, Some(k));
 }
 
 // The temperature and the limits, which end that line.
 pub fn write_limits(v: &[f64; NONE]) {
-    write_setting(Place::at(TEMPERATURE), v[TEMPERATURE]);
-    write_setting(Place::at(V_MIN), v[V_MIN]);
-    write_setting(Place::at(V_MAX), v[V_MAX]);
+    write_setting(Some(Place::at(TEMPERATURE)), v[TEMPERATURE]);
+    write_setting(Some(Place::at(V_MIN)), v[V_MIN]);
+    write_setting(Some(Place::at(V_MAX)), v[V_MAX]);
     say(OUT, b"\n");
 }
 
@@ -69,10 +77,16 @@ pub fn write_ending(ending: Ending) {
         Ending::Voltage => say(OUT, b"voltage"),
         Ending::Time => say(OUT, b"time"),
         Ending::Full => say(OUT, b"a full table"),
-        Ending::Refused(e) => say_refusal(OUT, e),
+        Ending::Refused(e) => say_refusal(OUT, e.number()),
         Ending::Done => say(OUT, b"done"),
         Ending::Spent => say(OUT, b"a spent budget"),
     }
+}
+
+// The same for a run that a number refused, of the table or not.
+pub fn write_refused(number: u64) {
+    say(OUT, b"# ended by ");
+    say_refusal(OUT, number);
 }
 
 // How many rows it had, which ends that line.

@@ -26,7 +26,7 @@ pub fn build(v: &[f64; NONE]) -> Result<SpmSolver, Refusal>
     let cathode = sheet_at(v, CATHODE);
     let answer = SpmSolver::new(config, anode, cathode);
     if let Err(e) = answer {
-        ending::not_built(e);
+        ending::not_built(e.number());
     }
     answer
 }

@@ -26,14 +26,15 @@ fn field(k: usize) -> usize
     }
 }
 
-fn number_at(row: &[f64], k: usize) -> f64
+// The number of a row in column k; a row past the last whole one has zeros.
+fn number_at(rows: &[f64], row: usize, k: usize) -> f64
     requires { k < 8 }
-    ensures { result ≡ number_at row.now 0 k }
+    ensures { result ≡ number_at rows.now row k }
 {
-    if row.len() < FIELDS {
+    if row >= rows.len() / FIELDS {
         return 0.0;
     }
-    row[field(k)]
+    rows[row * FIELDS + field(k)]
 }
 
 fn separator(k: usize, last: u8) -> u8
@@ -42,24 +43,27 @@ fn separator(k: usize, last: u8) -> u8
     if k == 7 { last } else { b',' }
 }
 
-// Puts a row, with the byte behind its last column.
+// Puts a row of a run's rows, with the byte behind its last column.
 // By number: the columns are in another order than the fields.
-pub fn put_row(line: &mut Line, row: &[f64], last: u8)
-    ensures { line.new ≡ put_all line.old (columns_by 8 row.now 0 last) }
+pub fn put_row(line: &mut Line, rows: &[f64], row: usize, last: u8)
+    ensures { line.new ≡ put_all line.old (columns_by 8 rows.now row last) }
 {
     for k in 0..FIELDS {
-        line.put_number(number_at(row, k));
+        line.put_number(number_at(rows, row, k));
         line.put(separator(k, last));
     }
 }
 
+// Writes a line; nothing where it says that it has more bytes than there is room for.
 pub fn write_line(fd: i32, line: &Line) {
-    io::write_all(fd, line.bytes());
+    if line.used() <= 4096 {
+        io::write_all(fd, line.bytes());
+    }
 }
 
-fn write_row(row: &[f64]) {
+fn write_row(rows: &[f64], row: usize) {
     let mut line = Line::new();
-    put_row(&mut line, row, b'\n');
+    put_row(&mut line, rows, row, b'\n');
     write_line(OUT, &line);
 }
 
@@ -74,9 +78,10 @@ pub fn write_header(end: &[u8]) {
 
 // Writes the names of the columns, and a line for each of the first rows.
 // The slice may have room for more rows than there are: docs/CLAIMS.md names this function.
+// By number: a row past the last whole one has a line too, of zeros.
 pub fn write_rows(rows: &[f64], count: usize) {
     write_header(b"\n");
-    for row in rows.chunks_exact(FIELDS).take(count) {
-        write_row(row);
+    for row in 0..count {
+        write_row(rows, row);
     }
 }

@@ -50,7 +50,7 @@ fn own_name(name: &[u8]) -> Option<Own> {
 
 // Says what is wrong with an argument.
 fn faulted(word: &[u8], fault: Fault) -> Said {
-    setting_messages::in_argument(fault, None, word, b"cycle");
+    setting_messages::in_argument(Some(fault), None, word, b"cycle");
     Said
 }
 
@@ -133,7 +133,7 @@ fn take_setting(g: Arguments, i: usize, word: &[u8]) -> Result<Arguments, Said> 
             return Err(refused(word, b"a cycle has current and time from its phases"));
         }
     }
-    let taken = arguments::take_argument(g.settings, i, word, b"cycle")?;
+    let taken = arguments::take_argument(Ok(g.settings), i, word, b"cycle")?;
     let mut h = g;
     h.settings = taken;
     Ok(h)

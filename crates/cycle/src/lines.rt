@@ -24,9 +24,9 @@ pub(crate) fn phase_number(q: Position) -> u64 {
 }
 
 // Writes a row, which a step at a position made.
-fn write_row(phases: &[Phase; 8], g: CycleSettings, q: Position, row: &[f64]) {
+fn write_row(phases: &[Phase; 8], g: CycleSettings, q: Position, rows: &[f64], row: usize) {
     let mut line = Line::new();
-    csv_rows::put_row(&mut line, row, b',');
+    csv_rows::put_row(&mut line, rows, row, b',');
     line.put_whole(repeat_number(g, q));
     line.put(b',');
     line.put_whole(phase_number(q));
@@ -39,11 +39,11 @@ fn write_row(phases: &[Phase; 8], g: CycleSettings, q: Position, row: &[f64]) {
 }
 
 // Whether a row has cutoff.
-fn has_cutoff(row: &[f64]) -> bool {
-    if row.len() < FIELDS {
+fn has_cutoff(rows: &[f64], row: usize) -> bool {
+    if row >= rows.len() / FIELDS {
         return false;
     }
-    row[7] != 0.0
+    rows[row * FIELDS + 7] != 0.0
 }
 
 // The position after a step at another, by the cutoff of its row; after the last phase it stays.
@@ -63,9 +63,9 @@ pub(crate) fn write_rows(
 ) -> Position {
     csv_rows::write_header(b",repeat [1],phase [1],kind\n");
     let mut q = cycle_run::first_position(g);
-    for row in rows.chunks_exact(FIELDS).take(count) {
-        write_row(phases, g, q, row);
-        q = position_after(phases, g, q, has_cutoff(row));
+    for row in 0..count {
+        write_row(phases, g, q, rows, row);
+        q = position_after(phases, g, q, has_cutoff(rows, row));
     }
     q
 }

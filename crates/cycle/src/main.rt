@@ -33,7 +33,7 @@ fn write_settings(phases: &[Phase; 8], g: CycleSettings) {
     }
     say(OUT, b" repeat=");
     io::print_decimal(OUT, g.repeats as u64);
-    ending::write_setting(Place::at(DT), g.dt);
+    ending::write_setting(Some(Place::at(DT)), g.dt);
     say(OUT, b" budget=");
     io::print_decimal(OUT, g.budget as u64);
 }

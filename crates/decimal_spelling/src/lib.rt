@@ -42,6 +42,7 @@ pub struct Left {
 }
 
 // A line that is written, of at most 4,096 bytes: those that are there, and room behind them. No heap holds it, since the library has none.
+// A line may say that more bytes are there than it has room for: nothing is put behind them.
 #[derive(Drop)]
 pub struct Line {
     bytes: [u8; 4096],
@@ -52,8 +53,6 @@ impl Model for Line {
     ghost Value = { Written };
 
     ghost view = { λ l. written l.bytes l.used };
-
-    ghost invariant = { λ l. l.used ≤ 4096 };
 }
 
 fn glyph_of(digit: u64) -> u8
@@ -72,10 +71,28 @@ impl Line {
         }
     }
 
+    // A line with so many of these bytes there.
+    pub fn of(bytes: [u8; 4096], used: usize) -> Line
+        ensures { result ≡ written bytes used }
+    {
+        Line { bytes, used }
+    }
+
+    // How many bytes are there.
+    pub fn used(&self) -> usize
+        ensures { result ≡ self.now.used }
+    {
+        let Line { used, .. } = self;
+        *used
+    }
+
     // The bytes that are there.
     pub fn bytes(&self) -> &[u8]
         ensures { result.now ≡ take self.now.used self.now.line }
     {
+        if self.used >= 4096 {
+            return &self.bytes;
+        }
         &self.bytes[..self.used]
     }
 

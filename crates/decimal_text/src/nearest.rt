@@ -3,6 +3,9 @@
 ghost use Rattle.std.specs.Prelude.{◌≡◌};
 ghost use Rattle.decimal_text.specs.Nearest.{tens, nearest_to};
 
+// The most places that are read.
+const PLACES: usize = 22;
+
 // 10^k, multiplied up from 1.
 fn power_of_ten(k: usize) -> f64
     ensures { result ≡ tens k }
@@ -18,7 +21,7 @@ fn power_of_ten(k: usize) -> f64
 pub fn nearest(digits: u64, places: usize) -> Option<f64>
     ensures { result ≡ nearest_to digits places }
 {
-    if digits <= 9007199254740992 && places <= 22 {
+    if digits <= 9007199254740992 && places <= PLACES {
         return Some(std::num::nearest_u64_to_f64(digits) / power_of_ten(places));
     }
     None

@@ -1,5 +1,5 @@
 -- What a step answers, by the number that it meets and its parts; first for a cell, then for its parts. Assumes nothing.
-use Rattle.std.proofs.Common.{◌≡◌, ℕ, suc, Bool, true, false, ◌&&◌, List, refl, ◌∙◌, arith, Ok, Err}
+use Rattle.std.proofs.Common.{◌≡◌, ℕ, zero, suc, Bool, true, false, ◌&&◌, List, refl, sym, ◌∙◌, arith, Ok, Err}
 use Rattle.std.proofs.Math.Dec.{eqb-suc-zero}
 use lib.Ieee as F
 use lib.Ieee.{Float}
@@ -167,3 +167,11 @@ module _ (p : DfnParams) (g : DfnConfig) (t : Float) (neg pos c_e_of : List Floa
           made_step h v i x y =
               rw (er, es)
               (agrees_by _ _ (made (cell v i x y) current dt (none v i x y) (rw (anode_finite v i x y, cathode_finite v i x y, ← rest_is v i x y, finite_if_none _ h))))
+
+      by_anode : (e : Refusal) (k : ℕ) → anode_update.refusal ≡ k → number_of e ≡ first_refusal k cathode_update.refusal → Refused e
+      unfolding first_refusal
+      by_anode e zero q h = cathode_refused (sym q) e h
+      by_anode e (suc k) q h = anode_refused e ((rw eqb-suc-zero at h) ∙ sym q)
+
+      pub solids_refused : (e : Refusal) → number_of e ≡ first_refusal anode_update.refusal cathode_update.refusal → Refused e
+      solids_refused e h = by_anode e anode_update.refusal refl h

@@ -3,8 +3,9 @@
 #![tactic(auto)]
 
 ghost use Rattle.std.specs.Prelude.{◌≡◌, IfOk};
-ghost use Rattle.refusal.specs.Numbers.{refusal_unless, not_finite_of};
+ghost use Rattle.refusal.specs.Numbers.{refusal_unless, first_refusal, not_finite_of};
 ghost use Rattle.refusal.specs.Refusals.{refusal_of};
+ghost use Rattle.dfn_solid.specs.Answers.{solid_number, solid_mean};
 ghost use Rattle.dfn.specs.Checks.{parts_refusal, load_refusal, step_refusal};
 ghost use Rattle.dfn.specs.Step.{particle_params, report_by, rest_finite, no_report, stepped};
 ghost use Rattle.dfn.specs.Answers.{build_answered, reported_by, step_answered};
@@ -14,7 +15,7 @@ ghost use Rattle.dfn.specs.Build.{no_cell, made};
 use dfn_electrolyte::update_electrolyte;
 use dfn_parameters::{DfnConfig, DfnParams, FitParams, Side};
 use dfn_places::{Count, FitConfig, electrolyte_fits, largest_change, solid_fits};
-use dfn_solid::{ParticleParams, update_solid};
+use dfn_solid::{ParticleParams, SolidFault, update_solid};
 use dfn_voltage::compute_voltage;
 use refusal::{Refusal, refuse_unless};
 
@@ -117,6 +118,20 @@ fn check_load(current: f64, dt: f64) -> Result<(), Refusal>
     refuse_unless(refusal::interval_fits(dt), Refusal::Interval)
 }
 
+// The mean stoichiometries that the particles of anode and cathode answer, or the first refusal of the two.
+#[tactic(auto, unfolding(refusal::specs::Numbers::first_refusal))]
+fn both_means(
+    neg: Result<f64, SolidFault>,
+    pos: Result<f64, SolidFault>,
+) -> Result<(f64, f64), Refusal>
+    ensures refused { refusal_of result ≡ first_refusal (solid_number neg) (solid_number pos) }
+    ensures same { IfOk result (λ m. (m.0 ≡ solid_mean neg) × (m.1 ≡ solid_mean pos)) }
+{
+    let theta_neg = neg?;
+    let theta_pos = pos?;
+    Ok((theta_neg, theta_pos))
+}
+
 // The report of a step, by the electrolyte before and after it, the new stoichiometries of the surfaces, the new clock and the current.
 fn report_of(
     f: Fit,
@@ -179,18 +194,11 @@ pub fn step_in_place(
     let n_pos = fit_g.n_x_pos().get();
     let mut new_neg = [0.0; 512];
     let mut new_pos = [0.0; 512];
-    let theta_neg = update_solid(anode, neg, n_neg, &mut new_neg)?;
-    let theta_pos = update_solid(cathode, pos, n_pos, &mut new_pos)?;
+    let neg_moved = update_solid(anode, neg, n_neg, &mut new_neg);
+    let pos_moved = update_solid(cathode, pos, n_pos, &mut new_pos);
+    let theta = both_means(neg_moved, pos_moved)?;
     let new_c_e = update_electrolyte(p, n_neg, n_pos, c_e, current, dt);
-    let report = report_of(
-        fit,
-        c_e,
-        &new_c_e,
-        theta_neg,
-        theta_pos,
-        time_s + dt,
-        current,
-    );
+    let report = report_of(fit, c_e, &new_c_e, theta.0, theta.1, time_s + dt, current);
     check_outcome(fit_g, &new_c_e, report)?;
     *neg = new_neg;
     *pos = new_pos;

@@ -3,10 +3,10 @@
 #![tactic(auto)]
 
 ghost use Rattle.std.specs.Prelude.{◌≡◌, ◌+◌, ◌<◌, ◌≤◌};
-ghost use Rattle.dfn_solid.specs.Solid.{d_solid, d_solids, inner_with, surface_with, centre_with, particle_with, at_least_one, solid_after, solid_update};
+ghost use Rattle.dfn_solid.specs.Solid.{d_solid, d_solids, inner_with, surface_with, centre_with, particle_with, at_least_one, solid_update};
 ghost use Rattle.dfn_solid.specs.Answers.{solid_answered};
 
-use refusal::{Refusal, refuse_unless};
+use refusal::Refusal;
 
 // What the particles of one electrode work with: nodes of each, their distance, diffusivity, largest concentration, flux, interval.
 #[derive(Clone, Copy)]
@@ -18,6 +18,21 @@ pub struct ParticleParams {
     pub c_max: f64,
     pub flux: f64,
     pub dt: f64,
+}
+
+// Why the particles of an electrode are refused, and the mean of their surface stoichiometries all the same.
+#[derive(Clone, Copy)]
+pub struct SolidFault {
+    pub refusal: Refusal,
+    pub theta: f64,
+}
+
+impl From<SolidFault> for Refusal {
+    ghost from_gives = { λ e r. r ≡ e.refusal };
+
+    fn from(e: SolidFault) -> Refusal {
+        e.refusal
+    }
 }
 
 // The diffusivity at a concentration.
@@ -102,16 +117,17 @@ fn at_least_one(n: usize) -> u64
 }
 
 // Puts the first `count` particles after a step into `new`, each node from the old ones, the other places as they were, and gives the mean of their surface
-// stoichiometries. Refused where one of these numbers is not finite. Lent and inlined for the stack of the calls from C (docs/DECISIONS.md, 68).
+// stoichiometries, beside a refusal too. Refused where one of these numbers is not finite. Lent and inlined for the stack of the calls from C
+// (docs/DECISIONS.md, 68).
 #[inline(always)]
 pub fn update_solid(
     v: ParticleParams,
     c: &[f64; 512],
     count: usize,
     new: &mut [f64; 512],
-) -> Result<f64, Refusal>
+) -> Result<f64, SolidFault>
     requires { (2 ≤ v.n) × ((v.n ≤ 32) × (count ≤ 16)) }
-    ensures { solid_answered new.new (solid_after v c.now count).theta result ≡ solid_update v c.now count }
+    ensures { solid_answered new.new result ≡ solid_update v c.now count }
 {
     let n = v.n;
     let used = count * n;
@@ -125,6 +141,12 @@ pub fn update_solid(
     }
     let theta = sum / std::num::nearest_u64_to_f64(at_least_one(count));
     let finite = arrays::all_finite(new, used) & refusal::is_finite(theta);
-    refuse_unless(finite, Refusal::NotFinite)?;
-    Ok(theta)
+    if finite {
+        Ok(theta)
+    } else {
+        Err(SolidFault {
+            refusal: Refusal::NotFinite,
+            theta,
+        })
+    }
 }

@@ -15,7 +15,7 @@ use std::rt::Files;
 
 fn take(rt: &impl Env, st: Settings, i: usize, program: &[u8]) -> Result<Settings, Said> {
     let mut text = io::buffer();
-    arguments::take_argument(st, i, arguments::argument(rt, i, &mut text), program)
+    arguments::take_argument(Ok(st), i, arguments::argument(rt, i, &mut text), program)
 }
 
 // The numbers after all arguments, of which the first is at hand.
@@ -41,7 +41,7 @@ fn run(v: &[f64; NONE], cell: SpmSolver, named: &[u8]) {
     );
     csv_rows::write_rows(&rows, r.rows);
     ending::write_cell(named);
-    ending::write_setting(Place::at(CURRENT), v[CURRENT]);
+    ending::write_setting(Some(Place::at(CURRENT)), v[CURRENT]);
     ending::write_limits(v);
     ending::write_ending(r.ending);
     ending::write_count(r.rows);

@@ -37,18 +37,32 @@ use refusal::Refusal;
 use sheet_images::{config_at, put_particle, put_sheet, sheet_at};
 use solver::SpmSolver;
 
-// Writes a ready record.
+impl Ready {
+    // Writes the record.
+    #[tactic(auto, unfolding(crate::specs::Builds::ready_put, crate::specs::Builds::ready_sheet, crate::specs::Builds::ready_params))]
+    pub fn put(self, answer: &mut [u8])
+        ensures { answer.new ≡ ready_put (ready_call self) answer.old }
+    {
+        match self {
+            Ready::GraphiteAnode => put_sheet(answer, 0, ElectrodeParams::graphite_anode()),
+            Ready::LfpCathode => put_sheet(answer, 0, ElectrodeParams::lfp_cathode()),
+            Ready::NmcCathode => put_sheet(answer, 0, ElectrodeParams::nmc_cathode()),
+            Ready::Lipf6EcDmc => put_electrolyte_params(answer, ElectrolyteParams::lipf6_ec_dmc()),
+            Ready::NmcGraphite => put_params(answer, DfnParams::nmc_graphite()),
+            Ready::LfpGraphite => put_params(answer, DfnParams::lfp_graphite()),
+        }
+    }
+}
+
+// Writes the ready record of number `call`: 0 is taken for 3, and what is above 6 for 6.
 #[tactic(auto, unfolding(crate::specs::Builds::ready_put, crate::specs::Builds::ready_sheet, crate::specs::Builds::ready_params))]
-pub fn put_ready(call: Ready, answer: &mut [u8])
-    ensures { answer.new ≡ ready_put (ready_call call) answer.old }
+pub fn put_ready(call: u64, answer: &mut [u8])
+    ensures { answer.new ≡ ready_put call answer.old }
 {
-    match call {
-        Ready::GraphiteAnode => put_sheet(answer, 0, ElectrodeParams::graphite_anode()),
-        Ready::LfpCathode => put_sheet(answer, 0, ElectrodeParams::lfp_cathode()),
-        Ready::NmcCathode => put_sheet(answer, 0, ElectrodeParams::nmc_cathode()),
-        Ready::Lipf6EcDmc => put_electrolyte_params(answer, ElectrolyteParams::lipf6_ec_dmc()),
-        Ready::NmcGraphite => put_params(answer, DfnParams::nmc_graphite()),
-        Ready::LfpGraphite => put_params(answer, DfnParams::lfp_graphite()),
+    match BuildCall::try_from(call) {
+        Ok(BuildCall::OfReady(of)) => of.put(answer),
+        _ if call == 0 => put_sheet(answer, 0, ElectrodeParams::nmc_cathode()),
+        _ => put_params(answer, DfnParams::lfp_graphite()),
     }
 }
 
@@ -127,49 +141,92 @@ fn new_dfn(image: &[u8], answer: &mut [u8]) -> Result<(), Refusal>
     }
 }
 
-// A new particle, cell, electrolyte or Doyle-Fuller-Newman cell from its image, written to the answer; refused, nothing is written.
-#[tactic(auto, unfolding(crate::specs::Builds::new_return, crate::specs::Builds::new_after))]
-pub fn put_new(call: New, image: &[u8], answer: &mut [u8]) -> Result<(), Refusal>
-    ensures number { refusal_of result ≡ new_return (new_call call) image.now }
-    ensures written { answer.new ≡ new_after (new_call call) image.now answer.old }
-{
-    match call {
-        New::Particle => new_particle(image, answer),
-        New::Cell(of) => new_cell(of, image, answer),
-        New::Electrolyte => new_electrolyte(image, answer),
-        New::Dfn => new_dfn(image, answer),
-    }
-}
-
-// The length in bytes of the image that a record is built from.
-#[tactic(auto, unfolding(crate::specs::Builds::build_length))]
-pub fn build_length(call: BuildCall) -> usize
-    ensures { result ≡ build_length (call_number call) }
-{
-    match call {
-        BuildCall::OfReady(_) => 0,
-        BuildCall::OfNew(New::Particle) => NEW_PARTICLE_BYTES,
-        BuildCall::OfNew(New::Cell(NewCell::GraphiteLfp | NewCell::GraphiteNmc)) => CONFIG_BYTES,
-        BuildCall::OfNew(New::Cell(NewCell::FromSheets)) => NEW_CELL_BYTES,
-        BuildCall::OfNew(New::Electrolyte) => REGIONS_BYTES,
-        BuildCall::OfNew(New::Dfn) => NEW_DFN_BYTES,
-    }
-}
-
-// The length in bytes of the record that is built.
-#[tactic(auto, unfolding(crate::specs::Builds::built_length))]
-pub fn built_length(call: BuildCall) -> usize
-    ensures { result ≡ built_length (call_number call) }
-{
-    match call {
-        BuildCall::OfReady(Ready::GraphiteAnode | Ready::LfpCathode | Ready::NmcCathode) => {
-            SHEET_BYTES
+impl New {
+    // A new particle, cell, electrolyte or Doyle-Fuller-Newman cell from its image, written to the answer; refused, nothing is written.
+    #[tactic(auto, unfolding(crate::specs::Builds::new_return, crate::specs::Builds::new_after))]
+    pub fn put(self, image: &[u8], answer: &mut [u8]) -> Result<(), Refusal>
+        ensures number { refusal_of result ≡ new_return (new_call self) image.now }
+        ensures written { answer.new ≡ new_after (new_call self) image.now answer.old }
+    {
+        match self {
+            New::Particle => new_particle(image, answer),
+            New::Cell(of) => new_cell(of, image, answer),
+            New::Electrolyte => new_electrolyte(image, answer),
+            New::Dfn => new_dfn(image, answer),
         }
-        BuildCall::OfReady(Ready::Lipf6EcDmc) => ELECTROLYTE_PARAMS_BYTES,
-        BuildCall::OfReady(Ready::NmcGraphite | Ready::LfpGraphite) => DFN_PARAMS_BYTES,
-        BuildCall::OfNew(New::Particle) => PARTICLE_BYTES,
-        BuildCall::OfNew(New::Cell(_)) => CELL_BYTES,
-        BuildCall::OfNew(New::Electrolyte) => ELECTROLYTE_BYTES,
-        BuildCall::OfNew(New::Dfn) => DFN_BYTES,
+    }
+}
+
+// A new record of number `call` from its image, written to the answer: 0 to 6 are taken for 10, and what is above 12 for 12.
+#[tactic(auto, unfolding(crate::specs::Builds::new_return, crate::specs::Builds::new_after, crate::specs::Builds::cell_built))]
+pub fn put_new(call: u64, image: &[u8], answer: &mut [u8]) -> Result<(), Refusal>
+    ensures number { refusal_of result ≡ new_return call image.now }
+    ensures written { answer.new ≡ new_after call image.now answer.old }
+{
+    match BuildCall::try_from(call) {
+        Ok(BuildCall::OfNew(of)) => of.put(image, answer),
+        _ if call <= 6 => new_cell(NewCell::FromSheets, image, answer),
+        _ => new_dfn(image, answer),
+    }
+}
+
+impl BuildCall {
+    // The length in bytes of the image that the record is built from.
+    #[tactic(auto, unfolding(crate::specs::Builds::build_length))]
+    pub fn image_length(self) -> usize
+        ensures { result ≡ build_length (call_number self) }
+    {
+        match self {
+            BuildCall::OfReady(_) => 0,
+            BuildCall::OfNew(New::Particle) => NEW_PARTICLE_BYTES,
+            BuildCall::OfNew(New::Cell(NewCell::GraphiteLfp | NewCell::GraphiteNmc)) => {
+                CONFIG_BYTES
+            }
+            BuildCall::OfNew(New::Cell(NewCell::FromSheets)) => NEW_CELL_BYTES,
+            BuildCall::OfNew(New::Electrolyte) => REGIONS_BYTES,
+            BuildCall::OfNew(New::Dfn) => NEW_DFN_BYTES,
+        }
+    }
+
+    // The length in bytes of the record that is built.
+    #[tactic(auto, unfolding(crate::specs::Builds::built_length))]
+    pub fn built_length(self) -> usize
+        ensures { result ≡ built_length (call_number self) }
+    {
+        match self {
+            BuildCall::OfReady(Ready::GraphiteAnode | Ready::LfpCathode | Ready::NmcCathode) => {
+                SHEET_BYTES
+            }
+            BuildCall::OfReady(Ready::Lipf6EcDmc) => ELECTROLYTE_PARAMS_BYTES,
+            BuildCall::OfReady(Ready::NmcGraphite | Ready::LfpGraphite) => DFN_PARAMS_BYTES,
+            BuildCall::OfNew(New::Particle) => PARTICLE_BYTES,
+            BuildCall::OfNew(New::Cell(_)) => CELL_BYTES,
+            BuildCall::OfNew(New::Electrolyte) => ELECTROLYTE_BYTES,
+            BuildCall::OfNew(New::Dfn) => DFN_BYTES,
+        }
+    }
+}
+
+// The length in bytes of the image that a record is built from, by the number of its call: 0 is taken for 1, and what is above 12 for 12.
+#[tactic(auto, unfolding(crate::specs::Builds::build_length))]
+pub fn build_length(call: u64) -> usize
+    ensures { result ≡ build_length call }
+{
+    match BuildCall::try_from(call) {
+        Ok(of) => of.image_length(),
+        Err(_) if call == 0 => 0,
+        Err(_) => NEW_DFN_BYTES,
+    }
+}
+
+// The length in bytes of the record that is built, by the number of its call: 0 is taken for 1, and what is above 12 for 12.
+#[tactic(auto, unfolding(crate::specs::Builds::built_length))]
+pub fn built_length(call: u64) -> usize
+    ensures { result ≡ built_length call }
+{
+    match BuildCall::try_from(call) {
+        Ok(of) => of.built_length(),
+        Err(_) if call == 0 => SHEET_BYTES,
+        Err(_) => DFN_BYTES,
     }
 }

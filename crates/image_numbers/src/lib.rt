@@ -94,32 +94,58 @@ fn electrolyte_number(call: ElectrolyteCall, e: ElectrolyteState, x: f64) -> Res
     }
 }
 
-// What a call answers to an image and its arguments.
-#[tactic(auto, unfolding(crate::specs::Numbers::number_outcome, crate::specs::Numbers::sheet_number))]
-pub fn number_of(call: NumberCall, image: &[u8], x: f64, y: f64) -> Result<f64, Refusal>
-    ensures { outcome_of result ≡ number_outcome (call_number call) image.now x y }
-{
-    match call {
-        NumberCall::OfSheet(of) => sheet_number(of, sheet_at(image, 0), x),
-        NumberCall::SphereVolume => electrode::sphere_volume(x),
-        NumberCall::OfParticle(of) => particle_number(of, particle_at(image, 0), x),
-        NumberCall::OfCell(of) => cell_number(of, cell_at(image)),
-        NumberCall::OfRates(of) => rate_number(of, electrolyte_params_at(image), x, y),
-        NumberCall::OfElectrolyte(of) => electrolyte_number(of, electrolyte_at(image), x),
+impl NumberCall {
+    // What the call answers to an image and its arguments.
+    #[tactic(auto, unfolding(crate::specs::Numbers::number_outcome, crate::specs::Numbers::sheet_number))]
+    pub fn answer(self, image: &[u8], x: f64, y: f64) -> Result<f64, Refusal>
+        ensures { outcome_of result ≡ number_outcome (call_number self) image.now x y }
+    {
+        match self {
+            NumberCall::OfSheet(of) => sheet_number(of, sheet_at(image, 0), x),
+            NumberCall::SphereVolume => electrode::sphere_volume(x),
+            NumberCall::OfParticle(of) => particle_number(of, particle_at(image, 0), x),
+            NumberCall::OfCell(of) => cell_number(of, cell_at(image)),
+            NumberCall::OfRates(of) => rate_number(of, electrolyte_params_at(image), x, y),
+            NumberCall::OfElectrolyte(of) => electrolyte_number(of, electrolyte_at(image), x),
+        }
+    }
+
+    // The length in bytes of the image that the number is worked out from.
+    #[tactic(auto, unfolding(crate::specs::Numbers::number_length))]
+    pub fn image_length(self) -> usize
+        ensures { result ≡ number_length (call_number self) }
+    {
+        match self {
+            NumberCall::OfSheet(_) => SHEET_BYTES,
+            NumberCall::SphereVolume => 0,
+            NumberCall::OfParticle(_) => PARTICLE_BYTES,
+            NumberCall::OfCell(_) => CELL_BYTES,
+            NumberCall::OfRates(_) => ELECTROLYTE_PARAMS_BYTES,
+            NumberCall::OfElectrolyte(_) => ELECTROLYTE_BYTES,
+        }
     }
 }
 
-// The length in bytes of the image that a number is worked out from.
-#[tactic(auto, unfolding(crate::specs::Numbers::number_length))]
-pub fn number_length(call: NumberCall) -> usize
-    ensures { result ≡ number_length (call_number call) }
+// What the call of number `call` answers to an image and its arguments: 0 is taken for 5, and what is above 19 for 19.
+#[tactic(auto, unfolding(crate::specs::Numbers::number_outcome, crate::specs::Numbers::sheet_number, crate::specs::Numbers::electrolyte_number))]
+pub fn number_of(call: u64, image: &[u8], x: f64, y: f64) -> Result<f64, Refusal>
+    ensures { outcome_of result ≡ number_outcome call image.now x y }
 {
-    match call {
-        NumberCall::OfSheet(_) => SHEET_BYTES,
-        NumberCall::SphereVolume => 0,
-        NumberCall::OfParticle(_) => PARTICLE_BYTES,
-        NumberCall::OfCell(_) => CELL_BYTES,
-        NumberCall::OfRates(_) => ELECTROLYTE_PARAMS_BYTES,
-        NumberCall::OfElectrolyte(_) => ELECTROLYTE_BYTES,
+    match NumberCall::try_from(call) {
+        Ok(of) => of.answer(image, x, y),
+        Err(_) if call == 0 => electrode::sphere_volume(x),
+        Err(_) => electrolyte_at(image).dt_stable(x),
+    }
+}
+
+// The length in bytes of the image that a number is worked out from: 0 is taken for 1, and what is above 19 for 19.
+#[tactic(auto, unfolding(crate::specs::Numbers::number_length))]
+pub fn number_length(call: u64) -> usize
+    ensures { result ≡ number_length call }
+{
+    match NumberCall::try_from(call) {
+        Ok(of) => of.image_length(),
+        Err(_) if call == 0 => SHEET_BYTES,
+        Err(_) => ELECTROLYTE_BYTES,
     }
 }

@@ -16,6 +16,11 @@ abbrev pub outcome_of : Result Float Refusal → Outcome
 outcome_of (Ok x) = record { refusal = 0; values = x ∷ [] }
 outcome_of (Err e) = record { refusal = number_of e; values = [] }
 
+-- the same where a number refuses it
+abbrev pub outcome_by : Result Float ℕ → Outcome
+outcome_by (Ok x) = record { refusal = 0; values = x ∷ [] }
+outcome_by (Err k) = record { refusal = k; values = [] }
+
 -- a call that meets the number n, 0 for none, and whose value is x
 unfoldable pub outcome : ℕ → Float → Outcome
 outcome n x = cond (eqb n 0) (record { refusal = 0; values = x ∷ [] }) (record { refusal = n; values = [] })

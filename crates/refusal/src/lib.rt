@@ -2,10 +2,10 @@
 // order, and `?` ends it at the first that fails.
 #![tactic(auto, unfolding(crate::specs::Numbers::refusal_unless, crate::specs::Numbers::first_refusal, crate::specs::Answers::outcome))]
 
-ghost use Rattle.std.specs.Prelude.{◌≡◌};
-ghost use Rattle.refusal.specs.Numbers.{refusal_unless};
-ghost use Rattle.refusal.specs.Refusals.{number_of, refusal_of};
-ghost use Rattle.refusal.specs.Answers.{outcome_of, finite_outcome};
+ghost use Rattle.std.specs.Prelude.{◌≡◌, cond};
+ghost use Rattle.refusal.specs.Numbers.{refusal_unless, first_refusal};
+ghost use Rattle.refusal.specs.Refusals.{number_of, row_number, refusal_of};
+ghost use Rattle.refusal.specs.Answers.{outcome_of, outcome_by, finite_outcome};
 ghost use Rattle.refusal.specs.Ranges.{in_range, count_in_range, finite, plus_zero, load_fits_of, interval_fits, temperature_fits, clock_fits};
 
 // A row of the table: why a call is refused.
@@ -60,6 +60,28 @@ impl Refusal {
             Refusal::Index => 13,
         }
     }
+
+    // The row with a number, where the table has one.
+    pub fn from_number(number: u64) -> Option<Refusal>
+        ensures { row_number result ≡ cond (count_in_range number 1 13) number 0 }
+    {
+        match number {
+            1 => Some(Refusal::Grid),
+            2 => Some(Refusal::Sheet),
+            3 => Some(Refusal::Load),
+            4 => Some(Refusal::Interval),
+            5 => Some(Refusal::Temperature),
+            6 => Some(Refusal::Diffusivity),
+            7 => Some(Refusal::SubSteps),
+            8 => Some(Refusal::NotFinite),
+            9 => Some(Refusal::Singular),
+            10 => Some(Refusal::Length),
+            11 => Some(Refusal::Line),
+            12 => Some(Refusal::File),
+            13 => Some(Refusal::Index),
+            _ => None,
+        }
+    }
 }
 
 // The number that a call in C returns: 0 where nothing is refused.
@@ -70,6 +92,20 @@ pub fn number_or_0(tested: Result<(), Refusal>) -> u64
         Ok(()) => 0,
         Err(e) => e.number(),
     }
+}
+
+// 0 where the test passed, else the number.
+pub fn refusal_unless(ok: bool, number: u64) -> u64
+    ensures { result ≡ refusal_unless ok number }
+{
+    if ok { 0 } else { number }
+}
+
+// The first of two that is met: a, and where a is none, b.
+pub fn first_refusal(a: u64, b: u64) -> u64
+    ensures { result ≡ first_refusal a b }
+{
+    if a == 0 { b } else { a }
 }
 
 // Refuses where a test has not passed.
@@ -135,18 +171,29 @@ pub fn clock_fits(time_s: f64) -> bool
     is_finite(time_s) & (0.0 <= time_s)
 }
 
-// A number that a call gives, refused where it is not finite.
-pub fn finite_or_refused(x: f64) -> Result<f64, Refusal>
-    ensures { outcome_of result ≡ finite_outcome 0 x }
-{
-    refuse_unless(is_finite(x), Refusal::NotFinite)?;
-    Ok(x)
-}
-
-// The same of a call with tests, which come first.
+// The number that a call gives, whose tests come first: refused too where it is not finite.
 pub fn answered(tested: Result<(), Refusal>, x: f64) -> Result<f64, Refusal>
     ensures { outcome_of result ≡ finite_outcome (refusal_of tested) x }
 {
     tested?;
-    finite_or_refused(x)
+    refuse_unless(is_finite(x), Refusal::NotFinite)?;
+    Ok(x)
+}
+
+// The same of a call whose tests have passed.
+pub fn finite_or_refused(x: f64) -> Result<f64, Refusal>
+    ensures { outcome_of result ≡ finite_outcome 0 x }
+{
+    answered(Ok(()), x)
+}
+
+// The same of tests that met a number, of the table or not, 0 for none.
+pub fn answered_by_number(refusal: u64, x: f64) -> Result<f64, u64>
+    ensures { outcome_by result ≡ finite_outcome refusal x }
+{
+    let number = first_refusal(
+        refusal,
+        refusal_unless(is_finite(x), Refusal::NotFinite.number()),
+    );
+    if number == 0 { Ok(x) } else { Err(number) }
 }

@@ -22,7 +22,7 @@ fn take_setting(st: Settings, i: usize, word: &[u8]) -> Result<Settings, Said> {
             ));
         }
     }
-    arguments::take_argument(st, i, word, b"replay")
+    arguments::take_argument(Ok(st), i, word, b"replay")
 }
 
 // Takes load=FILE.

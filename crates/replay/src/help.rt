@@ -12,9 +12,9 @@ pub(crate) fn write_help() {
         OUT,
         b"Replays a recorded load on a cell, a step for each line of the load file, and writes its rows as CSV. A line has the interval (",
     );
-    range(OUT, Place::at(DT));
+    range(OUT, Some(Place::at(DT)));
     say(OUT, b") and the current\n(");
-    range(OUT, Place::at(CURRENT));
+    range(OUT, Some(Place::at(CURRENT)));
     say(
         OUT,
         b"; a charge is negative), each as the 16 hexadecimal digits, in upper case, of its binary64, with one tab between them and a line feed at the end;\n",

@@ -1,44 +1,27 @@
--- What a read of digits gives, and the bytes of a part of a text. Assumes nothing.
-use Rattle.std.proofs.Common.{ℕ, ◌+◌, ◌-◌, ◌<◌, ◌≤◌, ◌≡◌, refl, sym, ap, subst, ◌∙◌, arith, Bool, true, false, cond, T, List, length, get_or, take, drop, Some, None}
+-- What a read of a digit gives, and the bytes of a part of a text. Assumes nothing.
+use Rattle.std.proofs.Common.{ℕ, ◌+◌, ◌-◌, ◌<◌, ◌≤◌, ◌≡◌, refl, ◌∙◌, arith, Bool, true, false, cond, ◌||◌, List, length, get_or, take, drop, Some, None}
 use Rattle.std.specs.Prelude.{is_some, unwrap_or}
-use Rattle.std.proofs.lemmas.Bool.{false≢true}
 use Rattle.std.proofs.lemmas.List.{get_or-take, get_or-drop}
 use Rattle.std.proofs.lemmas.Grind.{common_steps}
-use Rattle.iterate.specs.Iterate.{all_below, all_at}
-use Rattle.replay_run.specs.Lines.{is_digit, digit_of, digits_at, number_at}
-use Rattle.replay_run.specs.Reads.{digit_read, word_read}
+use Rattle.replay_run.specs.Lines.{is_decimal, is_letter, is_digit, digit_of}
+use Rattle.replay_run.specs.Reads.{digit_read}
 
-read_none : {A : Type 0} (p : Bool) (x : A) → None ≡ cond p (Some x) None → p ≡ false
-read_none true x e = absurd (false≢true (ap is_some e))
-read_none false x e = refl
-
-read_some : (p : Bool) (n w : ℕ) → Some w ≡ cond p (Some n) None → (p ≡ true) × (w ≡ n)
-read_some true n w e = (refl, ap (λ o. unwrap_or o 0) e)
-read_some false n w e = absurd (false≢true (sym (ap is_some e)))
-
-pub digit_none : (b : ℕ) → None ≡ digit_read b → is_digit b ≡ false
+pub read_digit : (b : ℕ) → is_some (digit_read b) ≡ is_digit b
 unfolding digit_read
-digit_none b e = read_none (is_digit b) (digit_of b) e
-
-pub digit_some : (b w : ℕ) → Some w ≡ digit_read b → (is_digit b ≡ true) × (w ≡ digit_of b)
-unfolding digit_read
-digit_some b w e = read_some (is_digit b) (digit_of b) w e
-
-pub word_none : (s : List ℕ) (a : ℕ) → None ≡ word_read s a → digits_at s a 16 ≡ false
-unfolding word_read
-word_none s a e = read_none (digits_at s a 16) (number_at s a 16) e
-
-pub word_some : (s : List ℕ) (a w : ℕ) → Some w ≡ word_read s a → (digits_at s a 16 ≡ true) × (w ≡ number_at s a 16)
-unfolding word_read
-word_some s a w e = read_some (digits_at s a 16) (number_at s a 16) w e
-
--- a place that is no digit
-pub not_all : (f : ℕ → Bool) (n i : ℕ) → i < n → f i ≡ false → all_below n f ≡ false
-not_all f n i l e = go (all_below n f) refl
+read_digit b = go (is_digit b)
   where
-    go : (b : Bool) → all_below n f ≡ b → all_below n f ≡ false
-    go true h = absurd (subst T e (all_at f n i l (subst T (sym h) tt)))
-    go false h = h
+    go : (p : Bool) → is_some (cond p (Some (digit_of b)) None) ≡ p
+    go true = refl
+    go false = refl
+
+pub read_value : (b : ℕ) → unwrap_or (digit_read b) 0 ≡ digit_of b
+unfolding digit_read digit_of
+read_value b = go (is_decimal b) (is_letter b)
+  where
+    go : (p q : Bool) → unwrap_or (cond (p || q) (Some (cond p (b - 48) (cond q (b - 55) 0))) None) 0 ≡ cond p (b - 48) (cond q (b - 55) 0)
+    go true q = refl
+    go false true = refl
+    go false false = refl
 
 -- the sixteen bytes from place a on
 pub part_length : (s : List ℕ) (a : ℕ) → a + 16 ≤ length s → length (take (a + 16 - a) (drop a s)) ≡ 16

@@ -91,7 +91,7 @@ impl Turns for Recorded<'_> {
 
     // The line of a turn is that of the count of rows.
     fn turn(&self, s: ReplayState) -> ReplayState {
-        let Some(line) = line_at(self.text, s.rows) else {
+        let Ok(line) = line_at(self.text, s.rows) else {
             return refused_line(s, Refusal::Line);
         };
         match s.solver.step(line.current_a, line.dt, self.temp_k) {

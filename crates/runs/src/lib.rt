@@ -1,5 +1,5 @@
 // Runs into a lent slice, eight places a step: how a run ends, a row in its place, the lowest voltage of each group of rows
-// (`lowest`), and the loop of every run (`turns`).
+// (`lowest`), and the loop of replay and cycle (`turns`).
 #![tactic(auto)]
 
 pub mod lowest;

@@ -1,4 +1,4 @@
-// A run in turns, for every kind of cell: its state, and the loop that makes its turns and writes their rows.
+// A run in turns, as a replay and a cycle are: its state, and the loop that makes its turns and writes their rows.
 ghost use Rattle.std.specs.Prelude.{◌≡◌, ℕ, ◌+◌, ◌*◌, ◌^◌, ◌<◌, ◌≤◌, List, Float, length};
 ghost use Rattle.runs.specs.Endings.{over_number};
 ghost use Rattle.runs.specs.Rows.{run_after, rows_after};

@@ -3,7 +3,7 @@
 #![tactic(auto)]
 
 use cell_file::records::ready;
-use cell_file::{Fault, SettingsFault};
+use cell_file::{Fault, Settings, SettingsFault};
 use csv_rows::OUT;
 use decimal_spelling::Line;
 use electrode::ElectrodeParams;
@@ -23,8 +23,11 @@ pub fn number(fd: i32, x: f64) {
     csv_rows::write_line(fd, &line);
 }
 
-// Writes the name at a place.
-pub fn name(fd: i32, k: Place) {
+// Writes the name at a place; nothing where there is no place.
+pub fn name(fd: i32, place: Option<Place>) {
+    let Some(k) = place else {
+        return;
+    };
     match k.part() {
         Part::Run => {}
         Part::Anode => say(fd, b"anode."),
@@ -54,13 +57,18 @@ fn unit_of(row: usize) -> &'static [u8] {
     }
 }
 
-// Writes the unit at a place.
-pub fn unit(fd: i32, k: Place) {
-    say(fd, unit_of(k.row()));
+// Writes the unit at a place; nothing where there is no place.
+pub fn unit(fd: i32, place: Option<Place>) {
+    if let Some(k) = place {
+        say(fd, unit_of(k.row()));
+    }
 }
 
-// Writes the range at a place, with its unit.
-pub fn range(fd: i32, k: Place) {
+// Writes the range at a place, with its unit; nothing where there is no place.
+pub fn range(fd: i32, place: Option<Place>) {
+    let Some(k) = place else {
+        return;
+    };
     if k.index() == TIME {
         say(fd, b"any number of s");
         return;
@@ -72,7 +80,7 @@ pub fn range(fd: i32, k: Place) {
     }
     say(fd, b" to ");
     number(fd, k.high());
-    unit(fd, k);
+    unit(fd, place);
 }
 
 // The fault, after the place where it was found; the program lists its names.
@@ -88,9 +96,7 @@ fn say_what(fault: Fault, place: Option<Place>, program: &[u8]) {
         Fault::TooLong => say(ERR, b"expected at most 15 digits, and at most 22 places"),
         Fault::OutOfRange => {
             say(ERR, b"out of range, expected ");
-            if let Some(k) = place {
-                range(ERR, k);
-            }
+            range(ERR, place);
         }
         Fault::NotWhole => say(ERR, b"expected a whole number"),
         Fault::GivenTwice => say(ERR, b"given twice"),
@@ -102,25 +108,26 @@ fn say_what(fault: Fault, place: Option<Place>, program: &[u8]) {
     }
 }
 
-// Of an argument.
-pub fn in_argument(fault: Fault, place: Option<Place>, text: &[u8], program: &[u8]) {
+// Of an argument; the signs around the fault alone where there is none.
+pub fn in_argument(fault: Option<Fault>, place: Option<Place>, text: &[u8], program: &[u8]) {
     say(ERR, b"'");
     say(ERR, text);
     say(ERR, b"': ");
-    say_what(fault, place, program);
+    if let Some(fault) = fault {
+        say_what(fault, place, program);
+    }
     say(ERR, b"\n");
 }
 
-// Of a cell file, with its line.
-pub fn in_file(e: SettingsFault, path: &[u8], program: &[u8]) {
-    say(ERR, path);
+// The fault of a cell file, with its line.
+fn say_fault(e: SettingsFault, program: &[u8]) {
     if e.line != 0 {
         say(ERR, b": line ");
         io::print_decimal(ERR, e.line);
     }
     say(ERR, b": ");
-    if let Some(k) = e.place {
-        name(ERR, k);
+    if e.place.is_some() {
+        name(ERR, e.place);
         say(ERR, b": ");
     }
     say_what(e.fault, e.place, program);
@@ -128,18 +135,31 @@ pub fn in_file(e: SettingsFault, path: &[u8], program: &[u8]) {
         say(ERR, b", first in line ");
         io::print_decimal(ERR, e.settings.given[k.index()]);
     }
+}
+
+// Of a cell file; the signs around the fault alone where there is none.
+pub fn in_file(answer: Result<Settings, SettingsFault>, path: &[u8], program: &[u8]) {
+    say(ERR, path);
+    match answer {
+        Ok(_) => say(ERR, b": "),
+        Err(e) => say_fault(e, program),
+    }
     say(ERR, b"\n");
 }
 
-// A row of the list of names: the name, a value, its unit and its range.
-pub fn write_name(v: &[f64; NONE], k: Place) {
+// A row of the list of names: the name, a value, its unit and its range; the signs around them alone where there is no place.
+pub fn write_name(v: &[f64; NONE], place: Option<Place>) {
+    let Some(k) = place else {
+        say(OUT, b"     =   ()\n");
+        return;
+    };
     say(OUT, b"    ");
-    name(OUT, k);
+    name(OUT, Some(k));
     say(OUT, b" = ");
     number(OUT, v[k.index()]);
-    unit(OUT, k);
+    unit(OUT, Some(k));
     say(OUT, b"  (");
-    range(OUT, k);
+    range(OUT, Some(k));
     if k.is_count() {
         say(OUT, b", whole");
     }
@@ -152,6 +172,7 @@ pub enum Instead {
     Nothing,
     Load,
     Phases,
+    LoadAndPhases,
 }
 
 fn stands_for(instead: Instead, k: Place) -> bool {
@@ -159,6 +180,7 @@ fn stands_for(instead: Instead, k: Place) -> bool {
         Instead::Nothing => false,
         Instead::Load => k.in_load(),
         Instead::Phases => k.in_phases(),
+        Instead::LoadAndPhases => k.in_load() | k.in_phases(),
     }
 }
 
@@ -168,7 +190,7 @@ pub fn write_names(instead: Instead) {
     for index in 0..NONE {
         let k = Place::at(index);
         if !stands_for(instead, k) {
-            write_name(&v, k);
+            write_name(&v, Some(k));
         }
     }
     say(

@@ -92,13 +92,7 @@ impl Place {
     pub fn part(self) -> Part
         ensures { part_number result ≡ part_of self }
     {
-        if self.index < ANODE {
-            Part::Run
-        } else if self.index < CATHODE {
-            Part::Anode
-        } else {
-            Part::Cathode
-        }
+        part_of(self.index)
     }
 
     // Its name, without the electrode before it, filled up with spaces.
@@ -108,19 +102,46 @@ impl Place {
         ROWS[self.row()].name
     }
 
-    // Whether the phases of a cycle stand for the number: they have the currents, and the last of them ends a cycle.
+    // Whether the phases of a cycle stand for the number.
     pub fn in_phases(self) -> bool
         ensures { result ≡ in_phases self }
     {
-        matches!(self.index, CURRENT | TIME)
+        in_phases(self.index)
     }
 
-    // Whether a load file stands for the number: it has a current and an interval in each line, and its last line ends a replay.
+    // Whether a load file stands for the number.
     pub fn in_load(self) -> bool
         ensures { result ≡ in_load self }
     {
-        matches!(self.index, CURRENT | DT | TIME)
+        in_load(self.index)
     }
+}
+
+// The part that a place belongs to, by its index.
+pub fn part_of(k: usize) -> Part
+    ensures { part_number result ≡ part_of k }
+{
+    if k < ANODE {
+        Part::Run
+    } else if k < CATHODE {
+        Part::Anode
+    } else {
+        Part::Cathode
+    }
+}
+
+// Whether the phases of a cycle stand for the number at index k: they have the currents, and the last of them ends a cycle.
+pub fn in_phases(k: usize) -> bool
+    ensures { result ≡ in_phases k }
+{
+    matches!(k, CURRENT | TIME)
+}
+
+// Whether a load file stands for the number at index k: it has a current and an interval in each line, and its last line ends a replay.
+pub fn in_load(k: usize) -> bool
+    ensures { result ≡ in_load k }
+{
+    matches!(k, CURRENT | DT | TIME)
 }
 
 // The byte at i of a text that is filled up with spaces.

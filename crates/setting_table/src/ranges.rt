@@ -31,8 +31,15 @@ impl Place {
     pub fn is_count(self) -> bool
         ensures { result ≡ is_count self }
     {
-        matches!(self.index(), N_NODES | ANODE | CATHODE)
+        is_count(self.index())
     }
+}
+
+// Whether the number at an index is a whole one.
+pub fn is_count(k: usize) -> bool
+    ensures { result ≡ is_count k }
+{
+    matches!(k, N_NODES | ANODE | CATHODE)
 }
 
 pub fn is_whole(x: f64) -> bool

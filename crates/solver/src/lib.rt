@@ -5,7 +5,8 @@
 ghost use Rattle.std.specs.Prelude.{◌≡◌, IfOk};
 ghost use Rattle.refusal.specs.Answers.{outcome_of};
 ghost use Rattle.refusal.specs.Refusals.{refusal_of};
-ghost use Rattle.particle.specs.Calls.{fresh};
+ghost use Rattle.arrays.specs.Places.{filled};
+ghost use Rattle.particle.specs.Particle.{particle_of};
 ghost use Rattle.solver_step.specs.Answers.{reported_by};
 ghost use Rattle.solver.specs.Answers.{build_answered, step_answered};
 ghost use Rattle.solver.specs.Cell.{grid_fits, cell_refusal, no_solver, built, ready, ocv_call, soc_call};
@@ -85,13 +86,12 @@ pub fn step_in_place(
     follow(q, &n, p, c_neg, c_pos, current_a, dt, temp_k)
 }
 
-// A particle with the same stoichiometry at all nodes.
-#[tactic(auto, unfolding(particle::specs::Calls::fresh))]
-fn fresh(params: ElectrodeParams, n: Nodes) -> ParticleDiffusion
-    ensures { result ≡ fresh params n }
+// A particle with the same concentration at all nodes.
+fn uniform(params: ElectrodeParams, x: f64, n: Nodes) -> ParticleDiffusion
+    ensures { result ≡ particle_of params n (filled 64 x n) }
 {
     let n_nodes = n.count();
-    let c_s = arrays::uniform(params.theta_init * params.c_s_max, n_nodes);
+    let c_s = arrays::uniform(x, n_nodes);
     ParticleDiffusion {
         params,
         n_nodes,
@@ -103,7 +103,7 @@ impl SpmSolver {
     // ---- builds
 
     // A cell from two sheets, with the config's count of nodes in both.
-    #[tactic(auto, unfolding(crate::specs::Cell::built, crate::specs::Cell::build_refusal, crate::specs::Cell::fresh_solver, refusal::specs::Numbers::refusal_unless, refusal::specs::Numbers::first_refusal))]
+    #[tactic(auto, unfolding(crate::specs::Cell::built, crate::specs::Cell::build_refusal, crate::specs::Cell::fresh_solver, particle::specs::Calls::fresh, refusal::specs::Numbers::refusal_unless, refusal::specs::Numbers::first_refusal))]
     pub fn new(
         config: SpmConfig,
         anode: ElectrodeParams,
@@ -118,8 +118,8 @@ impl SpmSolver {
         )?;
         Ok(SpmSolver {
             config,
-            anode: fresh(anode, n),
-            cathode: fresh(cathode, n),
+            anode: uniform(anode, anode.theta_init * anode.c_s_max, n),
+            cathode: uniform(cathode, cathode.theta_init * cathode.c_s_max, n),
             time_s: 0.0,
         })
     }

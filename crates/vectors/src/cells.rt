@@ -1,11 +1,10 @@
 // The lists of the single-particle cell's calls.
-use crate::line::{Line, same, same_arrays};
+use crate::line::{Line, are_listed, is_array, same, same_answer, same_arrays};
 use crate::particles::{next_particle, same_make, same_particle};
 use crate::sheets::next_sheet;
 use kinetics::SpmConfig;
 use refusal::Refusal;
-use solver::SpmSolver;
-use solver_step::report::SpmState;
+use solver::{SpmSolver, SpmStepped};
 
 fn next_config(line: &mut Line<'_>) -> SpmConfig {
     let n_nodes = line.next_usize();
@@ -48,44 +47,90 @@ pub(crate) fn same_solver(a: SpmSolver, b: SpmSolver) -> bool {
         && same(a.time_s, b.time_s)
 }
 
-// Whether the next words are both profiles and the clock of s.
-fn is_changed(line: &mut Line<'_>, s: SpmSolver) -> bool {
-    line.is_places(&s.anode.c_s) && line.is_places(&s.cathode.c_s) && line.is_f64(s.time_s)
+// What an answer lists of a cell: the words of both profiles and of the clock.
+#[derive(Clone, Copy)]
+struct Changed {
+    anode: Option<[u64; 64]>,
+    cathode: Option<[u64; 64]>,
+    time_s: u64,
+}
+
+fn next_changed(line: &mut Line<'_>) -> Changed {
+    let anode = line.next_array();
+    let cathode = line.next_array();
+    let time_s = line.next_u64();
+    Changed {
+        anode,
+        cathode,
+        time_s,
+    }
+}
+
+fn is_changed(s: SpmSolver, listed: Changed) -> bool {
+    is_array(&s.anode.c_s, listed.anode)
+        && is_array(&s.cathode.c_s, listed.cathode)
+        && words::to_bits(s.time_s) == listed.time_s
+}
+
+// Whether config, sheets and counts of nodes are those of the cell before.
+fn kept(before: SpmSolver, after: SpmSolver) -> bool {
+    same_config(before.config, after.config)
+        && same_make(before.anode, after.anode)
+        && same_make(before.cathode, after.cathode)
 }
 
 // Whether the cell before has become `after`: config, sheets and counts of nodes are as they were, the rest is the next words.
 pub(crate) fn is_moved(line: &mut Line<'_>, before: SpmSolver, after: SpmSolver) -> bool {
-    same_config(before.config, after.config)
-        && same_make(before.anode, after.anode)
-        && same_make(before.cathode, after.cathode)
-        && is_changed(line, after)
+    let listed = next_changed(line);
+    kept(before, after) && is_changed(after, listed)
 }
 
 // A built cell: its number, then all of it.
 fn is_built(line: &mut Line<'_>, a: Result<SpmSolver, Refusal>) -> bool {
-    match a {
-        Ok(s) => line.is_u64(0) && same_solver(s, next_solver(line)),
-        Err(e) => line.is_u64(e.number()),
-    }
+    same_answer(a, line.next_answer(next_solver), same_solver)
 }
 
 pub(crate) fn ready_line(line: &mut Line<'_>) -> bool {
     let config = next_config(line);
     is_built(line, SpmSolver::graphite_lfp(config))
-        && is_built(line, SpmSolver::graphite_nmc(config))
+        & is_built(line, SpmSolver::graphite_nmc(config))
 }
 
 pub(crate) fn new_line(line: &mut Line<'_>) -> bool {
     let config = next_config(line);
     let anode = next_sheet(line);
     let cathode = next_sheet(line);
-    match SpmSolver::new(config, anode, cathode) {
-        Ok(s) => line.is_u64(0) && same_config(s.config, config) && is_changed(line, s),
-        Err(e) => line.is_u64(e.number()),
+    let listed = line.next_answer(next_changed);
+    let a = SpmSolver::new(config, anode, cathode);
+    same_answer(a, listed, |s, changed| {
+        same_config(s.config, config) && is_changed(s, changed)
+    })
+}
+
+// What an answer lists of a step: the words of the report, then what of the cell has changed.
+#[derive(Clone, Copy)]
+struct Stepped {
+    numbers: [u64; 7],
+    cutoff: u64,
+    sub_steps: u64,
+    changed: Changed,
+}
+
+fn next_stepped(line: &mut Line<'_>) -> Stepped {
+    let numbers = line.next_u64s();
+    let cutoff = line.next_u64();
+    let sub_steps = line.next_u64();
+    let changed = next_changed(line);
+    Stepped {
+        numbers,
+        cutoff,
+        sub_steps,
+        changed,
     }
 }
 
-fn is_state(line: &mut Line<'_>, s: SpmState) -> bool {
+fn is_stepped(r: SpmStepped, listed: Stepped) -> bool {
+    let s = r.state;
     let numbers = [
         s.voltage,
         s.current,
@@ -95,24 +140,22 @@ fn is_state(line: &mut Line<'_>, s: SpmState) -> bool {
         s.theta_pos_avg,
         s.time_s,
     ];
-    line.is_f64s(&numbers) && line.is_u64(u64::from(s.cutoff))
+    are_listed(&numbers, &listed.numbers)
+        && u64::from(s.cutoff) == listed.cutoff
+        && r.sub_steps == listed.sub_steps
+        && is_changed(r.solver, listed.changed)
 }
 
 pub(crate) fn step_line(line: &mut Line<'_>) -> bool {
     let s = next_solver(line);
     let [current_a, dt, temp_k] = line.next_f64s::<3>();
-    match s.step(current_a, dt, temp_k) {
-        Ok(r) => {
-            line.is_u64(0)
-                && is_state(line, r.state)
-                && line.is_u64(r.sub_steps)
-                && is_moved(line, s, r.solver)
-        }
-        Err(e) => line.is_u64(e.number()),
-    }
+    let listed = line.next_answer(next_stepped);
+    same_answer(s.step(current_a, dt, temp_k), listed, |r, stepped| {
+        kept(s, r.solver) && is_stepped(r, stepped)
+    })
 }
 
 pub(crate) fn number_line(line: &mut Line<'_>) -> bool {
     let s = next_solver(line);
-    line.is_answer(s.ocv()) && line.is_answer(s.soc_estimate())
+    line.is_answer(s.ocv()) & line.is_answer(s.soc_estimate())
 }

@@ -1,6 +1,6 @@
 // The lists of the Doyle-Fuller-Newman cell's calls.
 use crate::electrolytes;
-use crate::line::{Line, same, same_arrays};
+use crate::line::{Line, are_listed, is_array, same, same_answer, same_arrays};
 use crate::rows::{is_ending, is_rows, is_summary, mark_all};
 use dfn::{DfnSolver, DfnStep};
 use dfn_parameters::{DfnConfig, DfnParams};
@@ -170,12 +170,33 @@ fn cell_numbers(cell: DfnSolver) -> [f64; 5] {
     ]
 }
 
-// Whether the next state is the cell's.
-fn is_state(line: &mut Line<'_>, cell: DfnSolver) -> bool {
-    line.is_places(&cell.c_s_neg)
-        && line.is_places(&cell.c_s_pos)
-        && line.is_places(&cell.c_e)
-        && line.is_f64s(&cell_numbers(cell))
+// What an answer lists of a cell: the words of its profiles and of its numbers.
+#[derive(Clone, Copy)]
+struct State {
+    c_s_neg: Option<[u64; 512]>,
+    c_s_pos: Option<[u64; 512]>,
+    c_e: Option<[u64; 33]>,
+    numbers: [u64; 5],
+}
+
+fn next_state(line: &mut Line<'_>) -> State {
+    let c_s_neg = line.next_array();
+    let c_s_pos = line.next_array();
+    let c_e = line.next_array();
+    let numbers = line.next_u64s();
+    State {
+        c_s_neg,
+        c_s_pos,
+        c_e,
+        numbers,
+    }
+}
+
+fn is_state(cell: DfnSolver, listed: State) -> bool {
+    is_array(&cell.c_s_neg, listed.c_s_neg)
+        && is_array(&cell.c_s_pos, listed.c_s_pos)
+        && is_array(&cell.c_e, listed.c_e)
+        && are_listed(&cell_numbers(cell), &listed.numbers)
 }
 
 // Whether two cells have the same parameters and grid.
@@ -191,8 +212,29 @@ fn same_cell(a: DfnSolver, b: DfnSolver) -> bool {
         && same_arrays(&cell_numbers(a), &cell_numbers(b))
 }
 
-// Whether the next report is r.
-fn is_report(line: &mut Line<'_>, r: DfnStep) -> bool {
+// What an answer lists of a step: the words of the report, then the cell's.
+#[derive(Clone, Copy)]
+struct Stepped {
+    numbers: [u64; 6],
+    cutoff: u64,
+    newton_iter: usize,
+    state: State,
+}
+
+fn next_stepped(line: &mut Line<'_>) -> Stepped {
+    let numbers = line.next_u64s();
+    let cutoff = line.next_u64();
+    let newton_iter = line.next_usize();
+    let state = next_state(line);
+    Stepped {
+        numbers,
+        cutoff,
+        newton_iter,
+        state,
+    }
+}
+
+fn is_report(r: DfnStep, listed: Stepped) -> bool {
     let numbers = [
         r.voltage,
         r.current,
@@ -201,7 +243,9 @@ fn is_report(line: &mut Line<'_>, r: DfnStep) -> bool {
         r.theta_pos,
         r.delta_c_e_max,
     ];
-    line.is_f64s(&numbers) && line.is_u64(u64::from(r.cutoff)) && line.is_u64(r.newton_iter as u64)
+    are_listed(&numbers, &listed.numbers)
+        && u64::from(r.cutoff) == listed.cutoff
+        && r.newton_iter == listed.newton_iter
 }
 
 // ---- lines
@@ -209,36 +253,28 @@ fn is_report(line: &mut Line<'_>, r: DfnStep) -> bool {
 // lipf6_ec_dmc, nmc_graphite and lfp_graphite.
 pub(crate) fn ready_line(line: &mut Line<'_>) -> bool {
     electrolytes::is_ready(line)
-        && same_parameters(next_parameters(line), DfnParams::nmc_graphite())
-        && same_parameters(next_parameters(line), DfnParams::lfp_graphite())
+        & same_parameters(next_parameters(line), DfnParams::nmc_graphite())
+        & same_parameters(next_parameters(line), DfnParams::lfp_graphite())
 }
 
 pub(crate) fn new_line(line: &mut Line<'_>) -> bool {
     let params = next_parameters(line);
     let config = next_config(line);
-    match DfnSolver::new(params, config) {
-        Ok(cell) => {
-            line.is_u64(0)
-                && same_parameters(cell.params, params)
-                && same_config(cell.config, config)
-                && is_state(line, cell)
-        }
-        Err(e) => line.is_u64(e.number()),
-    }
+    let listed = line.next_answer(next_state);
+    same_answer(DfnSolver::new(params, config), listed, |cell, state| {
+        same_parameters(cell.params, params)
+            && same_config(cell.config, config)
+            && is_state(cell, state)
+    })
 }
 
 pub(crate) fn step_line(line: &mut Line<'_>) -> bool {
     let cell = next_cell(line);
     let [current, dt] = line.next_f64s::<2>();
-    match cell.step(current, dt) {
-        Ok(r) => {
-            line.is_u64(0)
-                && same_make(cell, r.cell)
-                && is_report(line, r.report)
-                && is_state(line, r.cell)
-        }
-        Err(e) => line.is_u64(e.number()),
-    }
+    let listed = line.next_answer(next_stepped);
+    same_answer(cell.step(current, dt), listed, |r, stepped| {
+        same_make(cell, r.cell) && is_report(r.report, stepped) && is_state(r.cell, stepped.state)
+    })
 }
 
 // ---- runs
@@ -275,11 +311,12 @@ impl Galvanostatic {
 
 // Whether the next answer is r: the ending, the refusal, the rows, and the new state where there is a row.
 fn is_run(line: &mut Line<'_>, before: DfnSolver, r: DfnRun, rows: &[f64]) -> bool {
-    let written = is_ending(line, r.ending) && is_rows(line, rows, r.rows);
+    let written = is_ending(line, r.ending) & is_rows(line, rows, r.rows);
     if r.rows == 0 {
         return written && same_cell(before, r.cell);
     }
-    written && same_make(before, r.cell) && is_state(line, r.cell)
+    let listed = next_state(line);
+    written && same_make(before, r.cell) && is_state(r.cell, listed)
 }
 
 // No run of the list has more than 160 places, which are 20 rows and one group.

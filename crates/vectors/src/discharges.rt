@@ -47,11 +47,11 @@ impl Discharge {
 
 // Whether the next answer is r: the ending, the refusal, the rows; then, where there is a row, both profiles and the clock.
 pub(crate) fn is_run(line: &mut Line<'_>, before: SpmSolver, r: CellRun, rows: &[f64]) -> bool {
-    let written = is_ending(line, r.ending) && is_rows(line, rows, r.rows);
+    let written = is_ending(line, r.ending) & is_rows(line, rows, r.rows);
     if r.rows == 0 {
         return written && same_solver(before, r.solver);
     }
-    written && is_moved(line, before, r.solver)
+    written & is_moved(line, before, r.solver)
 }
 
 // No run of the list has more than 256 places, which are 32 rows and one group.

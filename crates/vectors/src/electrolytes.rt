@@ -1,5 +1,5 @@
 // The lists of the electrolyte's calls.
-use crate::line::{Line, same_arrays};
+use crate::line::{Line, is_array, same_answer, same_arrays};
 use electrolyte::ElectrolyteState;
 use electrolyte_parameters::ElectrolyteParams;
 use refusal::Refusal;
@@ -87,19 +87,19 @@ fn is_state(
     a: Result<ElectrolyteState, Refusal>,
     given: ElectrolyteState,
 ) -> bool {
-    match a {
-        Ok(e) => line.is_u64(0) && line.is_places(&e.c_e) && same_regions(e, given),
-        Err(e) => line.is_u64(e.number()),
-    }
+    let listed = line.next_answer(|line| line.next_array());
+    same_answer(a, listed, |e, c| {
+        is_array(&e.c_e, c) && same_regions(e, given)
+    })
 }
 
 pub(crate) fn rates_line(line: &mut Line<'_>) -> bool {
     let p = next_params(line);
     let [porosity, temp_k] = line.next_f64s::<2>();
     line.is_answer(p.d_e(temp_k))
-        && line.is_answer(p.kappa(temp_k))
-        && line.is_answer(p.d_e_eff(porosity, temp_k))
-        && line.is_answer(p.kappa_eff(porosity, temp_k))
+        & line.is_answer(p.kappa(temp_k))
+        & line.is_answer(p.d_e_eff(porosity, temp_k))
+        & line.is_answer(p.kappa_eff(porosity, temp_k))
 }
 
 pub(crate) fn new_line(line: &mut Line<'_>) -> bool {
@@ -113,11 +113,8 @@ pub(crate) fn new_line(line: &mut Line<'_>) -> bool {
 
 pub(crate) fn numbers_line(line: &mut Line<'_>) -> bool {
     let e = next_state(line);
-    let counted = match e.n_total() {
-        Ok(n) => line.is_u64(0) && line.is_u64(n as u64),
-        Err(e) => line.is_u64(e.number()),
-    };
-    counted && line.is_answer(e.c_avg())
+    let listed = line.next_answer(|line| line.next_usize());
+    same_answer(e.n_total(), listed, |n, count| n == count) & line.is_answer(e.c_avg())
 }
 
 pub(crate) fn step_line(line: &mut Line<'_>) -> bool {

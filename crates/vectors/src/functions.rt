@@ -5,9 +5,9 @@ use crate::line::Line;
 pub(crate) fn elementary_line(line: &mut Line<'_>) -> bool {
     let x = line.next_f64();
     line.is_f64(elementary::exp(x))
-        && line.is_f64(elementary::ln(x))
-        && line.is_f64(square_root::sqrt(x))
-        && line.is_f64(elementary::asinh(x))
+        & line.is_f64(elementary::ln(x))
+        & line.is_f64(square_root::sqrt(x))
+        & line.is_f64(elementary::asinh(x))
 }
 
 pub(crate) fn exp_line(line: &mut Line<'_>) -> bool {
@@ -24,12 +24,12 @@ pub(crate) fn powf_line(line: &mut Line<'_>) -> bool {
 pub(crate) fn small_line(line: &mut Line<'_>) -> bool {
     let [x, low, high, y] = line.next_f64s::<4>();
     line.is_f64(elementary::square(x))
-        && line.is_f64(elementary::cube(x))
-        && line.is_f64(elementary::fourth(x))
-        && line.is_f64(min_max::clamp(x, low, high))
-        && line.is_f64(min_max::max(x, y))
-        && line.is_f64(min_max::min(x, y))
-        && line.is_f64(min_max::abs(x))
+        & line.is_f64(elementary::cube(x))
+        & line.is_f64(elementary::fourth(x))
+        & line.is_f64(min_max::clamp(x, low, high))
+        & line.is_f64(min_max::max(x, y))
+        & line.is_f64(min_max::min(x, y))
+        & line.is_f64(min_max::abs(x))
 }
 
 pub(crate) fn count_line(line: &mut Line<'_>) -> bool {

@@ -2,14 +2,14 @@
 // places, and no summary more than 8.
 use crate::dfn_cells::next_galvanostatic;
 use crate::discharges::next_discharge;
-use crate::line::Line;
+use crate::line::{Line, same_answer};
 use crate::rows::is_ending;
 use row_search::first_below;
 use runs::Ending;
 
 // Whether the next answer is this: the ending, the refusal, the count of rows, and the summary as it is left.
 fn is_left(line: &mut Line<'_>, ending: Ending, count: usize, summary: &[f64]) -> bool {
-    is_ending(line, ending) && line.is_u64(count as u64) && line.is_places(summary)
+    is_ending(line, ending) & line.is_u64(count as u64) & line.is_places(summary)
 }
 
 pub(crate) fn discharge_line(line: &mut Line<'_>) -> bool {
@@ -58,11 +58,12 @@ fn search_agrees(line: &mut Line<'_>, which: u64, rows: &mut [f64]) -> bool {
     let summary = line.read_slice(&mut room);
     let count = line.next_usize();
     let voltage = line.next_f64();
-    match first_below(which, rows, summary, count, voltage) {
-        Ok(Some(j)) => line.is_u64(0) && line.is_u64(1) && line.is_u64(j as u64),
-        Ok(None) => line.is_u64(0) && line.is_u64(2) && line.is_u64(0),
-        Err(e) => line.is_u64(e.number()),
-    }
+    let listed = line.next_answer(|line| line.next_u64s::<2>());
+    let found = first_below(which, rows, summary, count, voltage);
+    same_answer(found, listed, |row, [how, place]| match row {
+        Some(j) => how == 1 && place == j as u64,
+        None => how == 2 && place == 0,
+    })
 }
 
 pub(crate) fn search_line(line: &mut Line<'_>) -> bool {

@@ -38,17 +38,23 @@ impl<R: Env + Files + Print + AllocGlobal> Replay<'_, R> {
         requires { F.IsAlwaysCallable agrees }
     {
         let rt = self.rt;
-        let (calls, name) = text.rsplit_once('|').unwrap_or(("", text));
+        let mut calls = text.split('|');
+        let name = calls.next_back().unwrap_or(text);
         let bytes = std::fs::read(rt, name)?;
+        let mut line = Line { rest: &bytes };
         let mut lines = 0usize;
         let mut agreed = 0usize;
-        for rest in bytes.split_inclusive(|b| *b == b'\n') {
+        // no list has more lines than this
+        for _turn in 0..1_000_000 {
+            if line.is_over() {
+                break;
+            }
             lines = lines.saturating_add(1);
-            agreed = agreed.saturating_add(usize::from(agrees(&mut Line { rest })));
+            agreed = agreed.saturating_add(usize::from(agrees(&mut line)));
         }
-        println!(rt; "{name}: {agreed} of {lines} agree")?;
-        for call in calls.split_terminator('|') {
-            println!(rt; "{call}: {lines} answers")?;
+        let _ = println!(rt; "{name}: {agreed} of {lines} agree");
+        for call in calls {
+            let _ = println!(rt; "{call}: {lines} answers");
             self.answers = self.answers.saturating_add(lines);
         }
         Ok(())
@@ -119,7 +125,8 @@ fn main(rt: HostRuntime) -> io::Result<()> {
     };
     replay.small()?;
     replay.large()?;
-    run_only::particles(&rt)?;
-    run_only::salty_steps(&rt)?;
-    println!(rt; "total: {} answers", replay.answers)
+    run_only::particles(&rt);
+    run_only::salty_steps(&rt);
+    let _ = println!(rt; "total: {} answers", replay.answers);
+    Ok(())
 }

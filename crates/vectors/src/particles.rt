@@ -1,5 +1,5 @@
 // The lists of the particle's calls.
-use crate::line::{Line, same_arrays};
+use crate::line::{Line, is_array, same_answer, same_arrays};
 use crate::sheets::{next_sheet, same_sheet};
 use particle::ParticleDiffusion;
 
@@ -26,24 +26,19 @@ pub(crate) fn same_particle(a: ParticleDiffusion, b: ParticleDiffusion) -> bool 
 pub(crate) fn new_line(line: &mut Line<'_>) -> bool {
     let params = next_sheet(line);
     let n = line.next_usize();
-    match ParticleDiffusion::new(params, n) {
-        Ok(p) => {
-            line.is_u64(0)
-                && same_sheet(p.params, params)
-                && p.n_nodes == n
-                && line.is_places(&p.c_s)
-        }
-        Err(e) => line.is_u64(e.number()),
-    }
+    let listed = line.next_answer(|line| line.next_array());
+    same_answer(ParticleDiffusion::new(params, n), listed, |p, c| {
+        same_sheet(p.params, params) && p.n_nodes == n && is_array(&p.c_s, c)
+    })
 }
 
 pub(crate) fn step_line(line: &mut Line<'_>) -> bool {
     let p = next_particle(line);
     let [j_n, dt, temp_k] = line.next_f64s::<3>();
-    match p.step(j_n, dt, temp_k) {
-        Ok(q) => line.is_u64(0) && same_make(p, q) && line.is_places(&q.c_s),
-        Err(e) => line.is_u64(e.number()),
-    }
+    let listed = line.next_answer(|line| line.next_array());
+    same_answer(p.step(j_n, dt, temp_k), listed, |q, c| {
+        same_make(p, q) && is_array(&q.c_s, c)
+    })
 }
 
 pub(crate) fn dt_stable_line(line: &mut Line<'_>) -> bool {
@@ -55,7 +50,7 @@ pub(crate) fn dt_stable_line(line: &mut Line<'_>) -> bool {
 pub(crate) fn number_line(line: &mut Line<'_>) -> bool {
     let p = next_particle(line);
     line.is_answer(p.theta_surface())
-        && line.is_answer(p.theta_avg())
-        && line.is_answer(p.c_avg())
-        && line.is_answer(p.ocp_surface())
+        & line.is_answer(p.theta_avg())
+        & line.is_answer(p.c_avg())
+        & line.is_answer(p.ocp_surface())
 }

@@ -12,7 +12,11 @@ fn tests_agree(line: &mut Line<'_>, x: f64, low: f64, high: f64) -> bool {
         refusal::temperature_fits(x),
         refusal::clock_fits(x),
     ];
-    tests.iter().all(|passes| line.is_u64(u64::from(*passes)))
+    let listed = line.next_u64s::<7>();
+    tests
+        .iter()
+        .zip(listed)
+        .all(|(passes, word)| u64::from(*passes) == word)
 }
 
 // Refuses in this order a `first` and a `second` that are not 0.
@@ -33,8 +37,8 @@ fn numbers_agree(line: &mut Line<'_>, inside: bool, x: u64, low: u64, high: u64)
         Err(_) => high,
     };
     line.is_u64(u64::from(refusal::count_within(x, low, high)))
-        && line.is_u64(number)
-        && line.is_last(first)
+        & line.is_u64(number)
+        & line.is_last(first)
 }
 
 pub(crate) fn line(line: &mut Line<'_>) -> bool {
@@ -44,8 +48,8 @@ pub(crate) fn line(line: &mut Line<'_>) -> bool {
     let fx = words::from_bits(x);
     let flow = words::from_bits(low);
     let fhigh = words::from_bits(high.value);
-    high.end == b'\t'
-        && words::to_bits(fx) == x
-        && tests_agree(line, fx, flow, fhigh)
-        && numbers_agree(line, refusal::within(fx, flow, fhigh), x, low, high.value)
+    (high.end == b'\t')
+        & (words::to_bits(fx) == x)
+        & tests_agree(line, fx, flow, fhigh)
+        & numbers_agree(line, refusal::within(fx, flow, fhigh), x, low, high.value)
 }

@@ -21,10 +21,8 @@ fn are_marked(places: &[f64], start: usize) -> bool {
 // Whether the next slice is the rows that were written, `count` of them, and the places after them are as they were.
 pub(crate) fn is_rows(line: &mut Line<'_>, rows: &[f64], count: usize) -> bool {
     let written = line.next_usize();
-    written <= rows.len()
-        && count == written / 8
-        && line.is_f64s(&rows[..written])
-        && are_marked(&rows[written..], written)
+    let listed = written.min(rows.len());
+    (count == written / 8) & line.is_f64s(&rows[..listed]) & are_marked(&rows[listed..], listed)
 }
 
 // The lowest voltage of the rows 64·g to 64·g + 63, of equals the first, as far as `count` rows are written; the mark where none of them is.
@@ -49,5 +47,5 @@ pub(crate) fn is_summary(summary: &[f64], rows: &[f64], count: usize) -> bool {
 
 // Whether the next words are the numbers of an ending and of its refusal.
 pub(crate) fn is_ending(line: &mut Line<'_>, ending: Ending) -> bool {
-    line.is_u64(runs::ending_number(ending)) && line.is_u64(runs::ending_refusal(ending))
+    line.is_u64(runs::ending_number(ending)) & line.is_u64(runs::ending_refusal(ending))
 }

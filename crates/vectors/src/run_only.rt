@@ -4,17 +4,15 @@ use dfn_parameters::{DfnConfig, DfnParams};
 use electrode::ElectrodeParams;
 use particle::ParticleDiffusion;
 use refusal::{Refusal, number_or_0};
-use std::io;
 
-pub(crate) fn particles<R: Print>(rt: &R) -> io::Result<()> {
+pub(crate) fn particles<R: Print>(rt: &R) {
     for n in [2, 3, 64, 65] {
         let made = ParticleDiffusion::new(ElectrodeParams::graphite_anode(), n);
-        println!(rt;
+        let _ = println!(rt;
             "particle of {n} nodes gives {}",
             number_or_0(made.map(|_p| ()))
-        )?;
+        );
     }
-    Ok(())
 }
 
 // The ready NMC cell with an electrolyte of high concentration whose diffusivity falls off steeply, three nodes in the anode.
@@ -32,14 +30,13 @@ fn salty_cell() -> Result<DfnSolver, Refusal> {
     DfnSolver::new(params, config)
 }
 
-pub(crate) fn salty_steps<R: Print>(rt: &R) -> io::Result<()> {
+pub(crate) fn salty_steps<R: Print>(rt: &R) {
     let mut cell = salty_cell();
     for which in ["first", "second"] {
         cell = cell.and_then(|c| Ok(c.step(0.0, 1.0)?.cell));
-        println!(rt;
+        let _ = println!(rt;
             "DFN with c_e0 = 1e5, gamma_e = 1000, no current: {which} step gives {}",
             number_or_0(cell.map(|_c| ()))
-        )?;
+        );
     }
-    Ok(())
 }

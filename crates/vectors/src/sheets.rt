@@ -13,13 +13,13 @@ pub(crate) fn same_sheet(a: ElectrodeParams, b: ElectrodeParams) -> bool {
 
 // Whether the next sheet is p.
 fn is_sheet(line: &mut Line<'_>, p: ElectrodeParams) -> bool {
-    line.is_u64(p.electrode_type) && line.is_f64s(&p.numbers())
+    line.is_u64(p.electrode_type) & line.is_f64s(&p.numbers())
 }
 
 pub(crate) fn ready_line(line: &mut Line<'_>) -> bool {
     is_sheet(line, ElectrodeParams::graphite_anode())
-        && is_sheet(line, ElectrodeParams::lfp_cathode())
-        && is_sheet(line, ElectrodeParams::nmc_cathode())
+        & is_sheet(line, ElectrodeParams::lfp_cathode())
+        & is_sheet(line, ElectrodeParams::nmc_cathode())
 }
 
 pub(crate) fn d_s_line(line: &mut Line<'_>) -> bool {
@@ -36,7 +36,7 @@ pub(crate) fn area_line(line: &mut Line<'_>) -> bool {
 pub(crate) fn ocp_line(line: &mut Line<'_>) -> bool {
     let p = next_sheet(line);
     let theta = line.next_f64();
-    line.is_answer(p.ocp(theta)) && line.is_answer(p.docp_dtheta(theta))
+    line.is_answer(p.ocp(theta)) & line.is_answer(p.docp_dtheta(theta))
 }
 
 pub(crate) fn volume_line(line: &mut Line<'_>) -> bool {

@@ -1,5 +1,5 @@
 // The list of `solve_dense`: the order, the matrix and the right side; the number, and where it is 0 the solution.
-use crate::line::Line;
+use crate::line::{Line, is_array, same_answer};
 
 // With room for a place more than any order asks for, a slice that is cut is still too long.
 pub(crate) fn line(line: &mut Line<'_>) -> bool {
@@ -8,8 +8,7 @@ pub(crate) fn line(line: &mut Line<'_>) -> bool {
     let mut b = [0.0; 33];
     let rows = line.read_slice(&mut a);
     let side = line.read_slice(&mut b);
-    match dense::solve_dense(rows, side, n) {
-        Ok(x) => line.is_u64(0) && line.is_places(&x),
-        Err(e) => line.is_u64(e.number()),
-    }
+    let listed = line.next_answer(|line| line.next_array());
+    let solved = dense::solve_dense(rows, side, n);
+    same_answer(solved, listed, |x, c| is_array(&x, c))
 }

@@ -1,5 +1,9 @@
 -- `cell_calls::cycle` meets its contract: where a kind is not listed the answer is as it was. Assumes nothing.
-use Rattle.std.proofs.Common.{ℕ, zero, suc, ◌≡◌, refl, sym, ap, ◌∙◌, false, List, rules}
+use Rattle.std.proofs.Common.{ℕ, zero, suc, ◌≡◌, refl, sym, ap, ◌∙◌, false, List, Ok, Err}
+use Rattle.std.specs.Prelude.{Result}
+use Rattle.std.specs.Result.{result_and}
+use Rattle.refusal.specs.declared.Refusal.{Refusal}
+use Rattle.refusal.specs.Refusals.{refusal_of}
 use Rattle.std.proofs.Math.Dec.{eqb-suc-zero}
 use Rattle.refusal.specs.Numbers as N
 use Rattle.solver.specs.declared.SpmSolver.{SpmSolver}
@@ -16,6 +20,16 @@ unfolding run_written N.first_refusal
 refused zero c a = refl
 refused (suc k) c a = rw (eqb-suc-zero k, eqb-suc-zero k)
 
+-- 2 after what the test before it has met
+first_met : (k : ℕ) → suc k ≡ N.first_refusal (suc k) N.sheet
+unfolding N.first_refusal
+first_met k = rw (eqb-suc-zero k)
+
+kind_last : {A : Type 0} (r q : Result A Refusal) → refusal_of q ≡ N.sheet → refusal_of (result_and r q) ≡ N.first_refusal (refusal_of r) N.sheet
+unfolding N.first_refusal
+kind_last (Ok x) q e = e
+kind_last (Err x) q e = first_met _
+
 -- where the test of the kinds fails
 module _ (phases : List ℕ) (g : CycleSettings) (c : SpmSolver) (places k : ℕ) (kind : kinds_fit phases g.count ≡ false) (before : k ≡ Y.counts_refusal g c places) where
   run_is : refused_run (N.first_refusal k N.sheet) c ≡ cycled_from phases g c places
@@ -28,19 +42,11 @@ module _ (phases : List ℕ) (g : CycleSettings) (c : SpmSolver) (places k : ℕ
   unwritten : (a : List ℕ) → a ≡ run_written (cycled_from phases g c places) a
   unwritten a = refused k c a ∙ ap (λ (r : RunOutcome). run_written r a) run_is
 
-pub returns-in_err-check_counts : goal.returns-in_err-check_counts
-unfolding cycle_return cycle_rows cycle_after N.first_refusal
-returns-in_err-check_counts c =
-    let a = c.args in
-    let kind = sym c.kinds_fit.ensures ∙ c.if-kinds_fit.false in
-    let before = rw c.cell_at-s.ensures at c.in_err-check_counts.ensures in
-    let number = number_is a.phases.now _ _ _ _ kind before in
-    record { number = rw (← number) (search rules); rows = rw kind; written = unwritten a.phases.now _ _ _ _ kind before a.answer.now }
-
 pub returns : goal.returns
-unfolding cycle_return cycle_rows cycle_after N.first_refusal
+unfolding cycle_return cycle_rows cycle_after
 returns c =
     let a = c.args in
     let kind = sym c.kinds_fit.ensures ∙ c.if-kinds_fit.false in
-    let before = rw c.cell_at-s.ensures at c.in_ok-check_counts.ensures in
-    record { number = number_is a.phases.now _ _ _ _ kind before; rows = rw kind; written = unwritten a.phases.now _ _ _ _ kind before a.answer.now }
+    let before = rw c.cell_at-s.ensures at c.check_counts.ensures in
+    let last = ap refusal_of c.and.ensures ∙ kind_last _ _ refl in
+    record { number = last ∙ number_is a.phases.now _ _ _ _ kind before; rows = rw kind; written = unwritten a.phases.now _ _ _ _ kind before a.answer.now }

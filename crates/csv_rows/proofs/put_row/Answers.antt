@@ -11,7 +11,7 @@ loop-k-init c = refl
 
 pub loop-k-preserved : goal.loop-k-preserved
 loop-k-preserved c =
-    rw (add-one c.loop-k.k) (column-turn c.args.line.now c.loop-k.line c.put_number.new.self c.put.new.self c.args.row.now 0 c.args.last c.loop-k.k c.loop-k.invariant (c.put_number.ensures ∙ rw
+    rw (add-one c.loop-k.k) (column-turn c.args.line.now c.loop-k.line c.put_number.new.self c.put.new.self c.args.rows.now c.args.row c.args.last c.loop-k.k c.loop-k.invariant (c.put_number.ensures ∙ rw
     c.number_at.ensures) (c.put.ensures ∙ rw c.separator.ensures))
 
 pub returns : goal.returns

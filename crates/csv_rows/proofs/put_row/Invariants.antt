@@ -5,4 +5,4 @@ use Rattle.csv_rows.specs.Row.{columns_by}
 use Rattle.csv_rows.proofs.put_row.Given as goal
 
 abbrev pub invariant-loop-k : goal.invariant-loop-k
-invariant-loop-k l = l.line ≡ put_all l.initial.line (columns_by l.k l.row 0 l.last)
+invariant-loop-k l = l.line ≡ put_all l.initial.line (columns_by l.k l.rows l.row l.last)

@@ -1,6 +1,5 @@
 -- `dfn_solid::update_solid` meets its contract: i particles are new after i turns. Assumes nothing.
-use Rattle.std.proofs.Common.{◌≡◌, ℕ, ◌*◌, Bool, ◌&&◌, List, length, refl, add-one, arith, rules}
-use Rattle.std.proofs.lemmas.Result.{err_from_is_err_and}
+use Rattle.std.proofs.Common.{◌≡◌, ℕ, ◌*◌, Bool, true, false, ◌&&◌, List, length, refl, add-one, arith, rules}
 use lib.Ieee.{Float}
 use Rattle.binary64.specs.Operators.{◌⊘◌, count}
 use Rattle.refusal.specs.Numbers.{refusal_unless, not_finite_of}
@@ -24,9 +23,13 @@ module _ (v : ParticleParams) (c : List Float) (m : ℕ) where
     unfolding solid_update
     made = rw (ek, eb, ef, es)
 
-    refused : record { refusal = k; c_s = s.c; theta = (solid_after v c m).theta } ≡ solid_update v c m
-    unfolding solid_update
-    refused = rw (ek, eb, ef, es)
+none_if : (b : Bool) → b ≡ true → 0 ≡ refusal_unless b not_finite_of
+unfolding refusal_unless
+none_if b h = rw h
+
+eight_if : (b : Bool) → b ≡ false → not_finite_of ≡ refusal_unless b not_finite_of
+unfolding refusal_unless
+eight_if b h = rw h
 
 pub diffusivities-d-requires : goal.diffusivities-d-requires
 diffusivities-d-requires c =
@@ -87,19 +90,18 @@ all_finite-requires c =
     let e : length c.loop-i.new ≡ 512 = search rules in
     rw e (room c.args.count c.args.v.n (omega arith) (omega arith))
 
-pub returns-in_err-refuse_unless : goal.returns-in_err-refuse_unless
-returns-in_err-refuse_unless c =
-    let p = err_from_is_err_and c.from_residual.result c.from_residual.ensures.1 in
+pub returns-then-finite : goal.returns-then-finite
+returns-then-finite c =
     let a = c.args in
     let all = c.loop-i in
     let s = worked_out a.v a.c.now a.count c.diffusivities-d.result all.new all.sum c.nearest_u64_to_f64.result all.i c.at_least_one.result
     (omega arith) c.at_least_one.ensures c.diffusivities-d.ensures all.invariant.1.0 all.invariant.1.1 c.nearest_u64_to_f64.ensures in
-    rw (p.1, p.2) (refused a.v a.c.now a.count _ _ c.all_finite.result c.is_finite.result s c.in_err-refuse_unless.ensures c.all_finite.ensures c.is_finite.ensures)
+    made a.v a.c.now a.count _ _ c.all_finite.result c.is_finite.result s (none_if _ c.if-finite.true) c.all_finite.ensures c.is_finite.ensures
 
-pub returns : goal.returns
-returns c =
+pub returns-else-finite : goal.returns-else-finite
+returns-else-finite c =
     let a = c.args in
     let all = c.loop-i in
     let s = worked_out a.v a.c.now a.count c.diffusivities-d.result all.new all.sum c.nearest_u64_to_f64.result all.i c.at_least_one.result
     (omega arith) c.at_least_one.ensures c.diffusivities-d.ensures all.invariant.1.0 all.invariant.1.1 c.nearest_u64_to_f64.ensures in
-    made a.v a.c.now a.count _ _ c.all_finite.result c.is_finite.result s c.in_ok-refuse_unless.ensures c.all_finite.ensures c.is_finite.ensures
+    made a.v a.c.now a.count _ _ c.all_finite.result c.is_finite.result s (eight_if _ c.if-finite.false) c.all_finite.ensures c.is_finite.ensures

@@ -6,10 +6,10 @@ use Rattle.decimal_text.specs.Nearest.{nearest_to}
 use Rattle.decimal_text.proofs.Exact.{quotient_is}
 use Rattle.decimal_text.proofs.nearest.nearest.Goals as goal
 
-pub returns-then-places-le22 : goal.returns-then-places-le22
+pub returns-then-places-le-PLACES : goal.returns-then-places-le-PLACES
 unfolding nearest_to
-returns-then-places-le22 c =
-    rw (le-leb _ _ c.if-digits-le9007199254740992.true, le-leb _ _ c.if-places-le22.true, c.power_of_ten.ensures, c.nearest_u64_to_f64.ensures, quotient_is c.args.digits c.args.places c.if-digits-le9007199254740992.true c.if-places-le22.true)
+returns-then-places-le-PLACES c =
+    rw (le-leb _ _ c.if-digits-le9007199254740992.true, le-leb _ _ c.if-places-le-PLACES.true, c.power_of_ten.ensures, c.nearest_u64_to_f64.ensures, quotient_is c.args.digits c.args.places c.if-digits-le9007199254740992.true c.if-places-le-PLACES.true)
 
 pub returns : goal.returns
 unfolding nearest_to
