@@ -2,7 +2,7 @@
 --
 -- Limbs: arithmetic on limbs.
 -- Spelling: the digits one by one, and the text.
--- Capacity: a line keeps within its room.
+-- Capacity: what is put keeps a line within its room.
 pub mod Limbs
 pub mod Spelling
 pub mod Capacity
